@@ -1,0 +1,4 @@
+pub mod Lead
+pub mod Table
+pub mod Head
+pub mod Laws

@@ -1,0 +1,152 @@
+// Big-endian numbers in bytes, of 16 and 32 bits, unsigned and signed in two's complement: read from a slice and written into a buffer.
+// Every call is total: a place where the bytes are not all inside reads as 0, and a write there changes nothing.
+ghost use mathlib.Core.Path.{_≡_};
+ghost use Prim.Native.Nat.{_-_, _%_, _<_};
+ghost use mir.Syntax.{w16, w32};
+ghost use mir.Val.{toZ, ofZ};
+ghost use Rattle.numbers.specs.BigEndian.{unsignedAt, signedAt, writtenAt};
+
+// The unsigned number in the 2 bytes that start at `at`; 0 where they are not all inside.
+pub fn read_u16(bytes: &[u8], at: usize) -> u16
+    ensures { λ r. ⌜ r ≡ unsignedAt 2 (now (bytes .entry)) at ⌝ }
+{
+    if 2 <= room(bytes.len(), at) {
+        let a = wide(bytes[at]);
+        let b = wide(bytes[at + 1]);
+        (a * 256 + b) as u16
+    } else {
+        0
+    }
+}
+
+// The unsigned number in the 4 bytes that start at `at`; 0 where they are not all inside.
+pub fn read_u32(bytes: &[u8], at: usize) -> u32
+    ensures { λ r. ⌜ r ≡ unsignedAt 4 (now (bytes .entry)) at ⌝ }
+{
+    if 4 <= room(bytes.len(), at) {
+        let a = wide(bytes[at]);
+        let b = wide(bytes[at + 1]);
+        let c = wide(bytes[at + 2]);
+        let d = wide(bytes[at + 3]);
+        ((a * 256 + b) * 256 + c) * 256 + d
+    } else {
+        0
+    }
+}
+
+// The signed number in the 2 bytes that start at `at`; 0 where they are not all inside.
+pub fn read_i16(bytes: &[u8], at: usize) -> i16
+    ensures { λ r. ⌜ r ≡ signedAt w16 (now (bytes .entry)) at ⌝ }
+{
+    to_i16(read_u16(bytes, at))
+}
+
+// The signed number in the 4 bytes that start at `at`; 0 where they are not all inside.
+pub fn read_i32(bytes: &[u8], at: usize) -> i32
+    ensures { λ r. ⌜ r ≡ signedAt w32 (now (bytes .entry)) at ⌝ }
+{
+    to_i32(read_u32(bytes, at))
+}
+
+// Puts an unsigned number into the 2 bytes that start at `at`; changes nothing where they are not all inside.
+pub fn write_u16(buffer: &mut [u8], at: usize, value: u16)
+    ensures { λ r. ⌜ now (buffer .exit) ≡ writtenAt 2 (now (buffer .entry)) at value ⌝ }
+{
+    let n = value as u32;
+    if 2 <= room(buffer.len(), at) {
+        buffer[at] = low_byte(n / 256);
+        buffer[at + 1] = low_byte(n);
+    }
+}
+
+// Puts an unsigned number into the 4 bytes that start at `at`; changes nothing where they are not all inside.
+pub fn write_u32(buffer: &mut [u8], at: usize, value: u32)
+    ensures { λ r. ⌜ now (buffer .exit) ≡ writtenAt 4 (now (buffer .entry)) at value ⌝ }
+{
+    if 4 <= room(buffer.len(), at) {
+        buffer[at] = low_byte(value / 256 / 256 / 256);
+        buffer[at + 1] = low_byte(value / 256 / 256);
+        buffer[at + 2] = low_byte(value / 256);
+        buffer[at + 3] = low_byte(value);
+    }
+}
+
+// Puts a signed number into the 2 bytes that start at `at`; changes nothing where they are not all inside.
+pub fn write_i16(buffer: &mut [u8], at: usize, value: i16)
+    ensures { λ r. ⌜ now (buffer .exit) ≡ writtenAt 2 (now (buffer .entry)) at (ofZ w16 value) ⌝ }
+{
+    write_u16(buffer, at, to_u16(value));
+}
+
+// Puts a signed number into the 4 bytes that start at `at`; changes nothing where they are not all inside.
+pub fn write_i32(buffer: &mut [u8], at: usize, value: i32)
+    ensures { λ r. ⌜ now (buffer .exit) ≡ writtenAt 4 (now (buffer .entry)) at (ofZ w32 value) ⌝ }
+{
+    write_u32(buffer, at, to_u32(value));
+}
+
+// The number that 16 bits hold in two's complement.
+pub fn to_i16(bits: u16) -> i16
+    ensures { λ r. ⌜ r ≡ toZ w16 bits ⌝ }
+{
+    if bits < 0x8000 {
+        bits as i16
+    } else {
+        !((u16::MAX - bits) as i16)
+    }
+}
+
+// The number that 32 bits hold in two's complement.
+pub fn to_i32(bits: u32) -> i32
+    ensures { λ r. ⌜ r ≡ toZ w32 bits ⌝ }
+{
+    if bits < 0x8000_0000 {
+        bits as i32
+    } else {
+        !((u32::MAX - bits) as i32)
+    }
+}
+
+// The 16 bits of a number in two's complement.
+pub fn to_u16(number: i16) -> u16
+    ensures { λ r. ⌜ r ≡ ofZ w16 number ⌝ }
+{
+    if number < 0 {
+        u16::MAX - (!number as u16)
+    } else {
+        number as u16
+    }
+}
+
+// The 32 bits of a number in two's complement.
+pub fn to_u32(number: i32) -> u32
+    ensures { λ r. ⌜ r ≡ ofZ w32 number ⌝ }
+{
+    if number < 0 {
+        u32::MAX - (!number as u32)
+    } else {
+        number as u32
+    }
+}
+
+// How many of `length` bytes stand from `at` on.
+fn room(length: usize, at: usize) -> usize
+    ensures { λ r. ⌜ r ≡ length - at ⌝ }
+{
+    if at <= length { length - at } else { 0 }
+}
+
+// A byte as a number of 32 bits.
+fn wide(byte: u8) -> u32
+    ensures { λ r. ⌜ r ≡ byte ⌝ }
+    ensures { λ r. ⌜ r < 256 ⌝ }
+{
+    byte as u32
+}
+
+// The lowest byte of a number.
+fn low_byte(number: u32) -> u8
+    ensures { λ r. ⌜ r ≡ number % 256 ⌝ }
+{
+    (number % 256) as u8
+}
