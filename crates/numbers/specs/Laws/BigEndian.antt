@@ -36,6 +36,11 @@ unfolding Bytes
 cons-bytes x xs b h zero lt = b
 cons-bytes x xs b h (suc i) lt = h i (omega arith)
 
+-- what is a byte at every place is bytes
+pub bytes-of : (s : List ℕ) → ((i : ℕ) → getD s i 0 < 256) → Bytes s
+unfolding Bytes
+bytes-of s h i lt = h i
+
 pub part-bytes : (s : List ℕ) (at k : ℕ) → at + k ≤ length s → Bytes s → Bytes (take k (drop at s))
 unfolding Bytes
 part-bytes s at k fits h i lt =

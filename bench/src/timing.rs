@@ -1,0 +1,68 @@
+//! Times two ways of doing the same work, by turns.
+
+use std::time::{Duration, Instant};
+
+/// The best time of each, in nanoseconds.
+#[derive(Clone, Copy)]
+pub struct Times {
+    pub library: f64,
+    pub independent: f64,
+}
+
+impl Times {
+    pub fn ratio(self) -> f64 {
+        self.library / self.independent
+    }
+}
+
+/// The most rounds.
+const ROUNDS: u32 = 12;
+/// One timing lasts at least this long, by repeating short work.
+const LEAST: Duration = Duration::from_millis(4);
+/// After this long there are no more rounds than two.
+const ENOUGH: Duration = Duration::from_millis(700);
+/// After this long there is no second round.
+const SLOW: Duration = Duration::from_secs(4);
+
+/// Runs both by turns and keeps the best of each.
+pub fn compare(mut library: impl FnMut(), mut independent: impl FnMut()) -> Times {
+    let begin = Instant::now();
+    let by_library = first(&mut library);
+    let by_independent = first(&mut independent);
+    let mut best = Times {
+        library: by_library.1,
+        independent: by_independent.1,
+    };
+    for round in 2..=ROUNDS {
+        let enough = if round == 2 { SLOW } else { ENOUGH };
+        if begin.elapsed() > enough {
+            break;
+        }
+        best.library = best.library.min(once(&mut library, by_library.0));
+        best.independent = best
+            .independent
+            .min(once(&mut independent, by_independent.0));
+    }
+    best
+}
+
+/// How often the work is to be repeated for one timing, and the first timing.
+fn first(work: &mut impl FnMut()) -> (u32, f64) {
+    let mut times = 1;
+    loop {
+        let time = once(work, times);
+        if time * f64::from(times) >= LEAST.as_nanos() as f64 || times >= 1 << 20 {
+            return (times, time);
+        }
+        times *= 2;
+    }
+}
+
+/// The time of one piece of work, in nanoseconds.
+fn once(work: &mut impl FnMut(), times: u32) -> f64 {
+    let begin = Instant::now();
+    for _ in 0..times {
+        work();
+    }
+    begin.elapsed().as_nanos() as f64 / f64::from(times)
+}

@@ -1,0 +1,79 @@
+-- The tables of keys that the walk lends down: a row for each key of each map that is open, 256 for each level.
+-- Contracts of functions inside this crate cite these; no public contract does. No lemma stands here. Assumes nothing.
+use mathlib.Core.Path.{_≡_}
+use mathlib.Core.Bool.{true, false}
+use mathlib.Core.List.{List, [], _∷_}
+use Prim.Native.Nat.{ℕ, zero, suc, _+_, _-_, _*_, _/_, _<_, _≤_}
+use lib.ListN.{length, getD, take, drop, set}
+use Rattle.refusal.specs.Table.{keyRepeated}
+use Rattle.numbers.specs.BigEndian.{unsignedAt}
+use Rattle.messagepack.specs.Limits.{fileLimit, nestingLimit, entryLimit}
+use Rattle.messagepack.specs.Walk.{keyAt, among}
+use Rattle.messagepack.specs.declared.Walk.{Walk}
+use Rattle.messagepack.specs.declared.Text.{Text}
+
+-- 256 rows for each of 12 levels
+abbrev pub tableLength : ℕ
+tableLength = 3072
+
+-- a key's print: its length, and its last two bytes
+unfoldable pub printOf : List ℕ → ℕ
+printOf k = length k * 65536 + unsignedAt 2 k (length k - 2)
+
+-- the keys in the first n rows, the last first
+unfoldable pub keysOf : List ℕ → List ℕ → List ℕ → ℕ → List (List ℕ)
+keysOf s starts prints zero = []
+keysOf s starts prints (suc n) = take (getD prints n 0 / 65536) (drop (getD starts n 0) s) ∷ keysOf s starts prints n
+
+-- the keys in the rows from base up to end
+abbrev pub keysIn : List ℕ → List ℕ → List ℕ → ℕ → ℕ → List (List ℕ)
+keysIn s starts prints base end = keysOf s (drop base starts) (drop base prints) (end - base)
+
+-- a row holds a key of the file, and its print
+pub record RowHolds (s starts prints : List ℕ) (i : ℕ) : Type 0 where
+  pub inside : getD starts i 0 + getD prints i 0 / 65536 ≤ length s
+  pub print : getD prints i 0 ≡ printOf (take (getD prints i 0 / 65536) (drop (getD starts i 0) s))
+
+-- so do the first n rows
+unfoldable pub Stored : List ℕ → List ℕ → List ℕ → ℕ → Type 0
+Stored s starts prints n = (i : ℕ) → i < n → RowHolds s starts prints i
+
+-- a walk with so many levels left may begin
+pub record Free (s : List ℕ) (depth : ℕ) (starts prints : List ℕ) : Type 0 where
+  pub small : length s ≤ fileLimit
+  pub levels : depth ≤ nestingLimit
+  pub starts-long : length starts ≡ tableLength
+  pub prints-long : length prints ≡ tableLength
+
+-- the rows above those of the levels left are as they were
+pub record Kept (depth : ℕ) (old new : List ℕ) : Type 0 where
+  pub long : length new ≡ tableLength
+  pub same : drop (depth * entryLimit) new ≡ drop (depth * entryLimit) old
+
+-- a walk's answer, with the tables before and after
+pub record Walked (expected : Walk) (depth : ℕ) (starts prints : List ℕ) (r : Walk) (starts' prints' : List ℕ) : Type 0 where
+  pub answer : r ≡ expected
+  pub starts-kept : Kept depth starts starts'
+  pub prints-kept : Kept depth prints prints'
+
+-- the rows from base up to end hold keys, and there is a row after them
+pub record Rows (s : List ℕ) (base end : ℕ) (starts prints : List ℕ) : Type 0 where
+  pub small : length s ≤ fileLimit
+  pub order : base ≤ end
+  pub room : end < tableLength
+  pub starts-long : length starts ≡ tableLength
+  pub prints-long : length prints ≡ tableLength
+  pub stored : Stored s (drop base starts) (drop base prints) (end - base)
+
+-- a key of the file is sought among them
+pub record Sought (s : List ℕ) (base end : ℕ) (starts prints : List ℕ) (a m print : ℕ) : Type 0 where
+  pub rows : Rows s base end starts prints
+  pub inside : a + m ≤ length s
+  pub is : print ≡ printOf (take m (drop a s))
+  pub sized : print / 65536 ≡ m
+
+-- what comes of the key at a place: a refusal, with the tables as they were; or its end, and a row more
+pub data Noted (s : List ℕ) (at base end : ℕ) (starts prints : List ℕ) : Walk → List ℕ → List ℕ → Type 0 where
+  refused : {e : ℕ} → keyAt s at ≡ Text.Refused e → Noted s at base end starts prints (Walk.Refused e) starts prints
+  repeated : {a m : ℕ} → keyAt s at ≡ Text.At a m → among (take m (drop a s)) (keysIn s starts prints base end) ≡ true → Noted s at base end starts prints (Walk.Refused keyRepeated) starts prints
+  noted : {a m print : ℕ} → keyAt s at ≡ Text.At a m → among (take m (drop a s)) (keysIn s starts prints base end) ≡ false → Sought s base end starts prints a m print → Noted s at base end starts prints (Walk.End (a + m)) (set starts end a) (set prints end print)

@@ -1,0 +1,285 @@
+-- The tables of keys: rows that hold keys, a row more, and the loop over a map's entries.
+-- Assumes nothing.
+use mathlib.Core.Path.{_≡_, refl, sym, ap, ap₂, subst, _∙_}
+use mathlib.Core.Bool.{Bool, true, false, _||_}
+use mathlib.Core.List.{List, [], _∷_}
+use mathlib.Core.Logic.{⊎-elim, _≢_}
+use Prim.Native.Nat.{ℕ, zero, suc, _+_, _-_, _*_, _/_, _<_, _≤_}
+use native.Mathlib.Nat.{not-suc-le-zero, eq-or-lt-of-le, le-of-suc-le-suc, add-zero}
+use native.Mathlib.Numerals.{add-one, sub-one}
+use native.Mathlib.Omega.{arith}
+use lib.ListN.{length, getD, take, drop, set, length-set, length-drop}
+use lib.Seq.{drop-cons, drop-drop, getD-drop, getD-take, getD-set-same, getD-set-other, drop-set-lt, drop-set-add}
+use borrow.Author.Tests.{eq-eqb, ne-eqb}
+use Rattle.refusal.specs.Table.{keyRepeated}
+use Rattle.numbers.specs.BigEndian.{unsignedAt}
+use Rattle.numbers.specs.Laws.BigEndian.{unsignedAt-loads, unsignedAt-out}
+use Rattle.heads.specs.Laws.Span.{part-length}
+use Rattle.messagepack.specs.Limits.{fileLimit, nestingLimit, entryLimit}
+use Rattle.messagepack.specs.Walk.{equal, among, keyAt, entriesFrom, entriesAt}
+use Rattle.messagepack.specs.Keys.{tableLength, printOf, keysOf, keysIn, RowHolds, Stored, Free, Kept, Walked, Rows, Sought, Noted, refused, repeated, noted}
+use Rattle.messagepack.specs.declared.Walk.{Walk}
+use Rattle.messagepack.specs.declared.Text.{Text}
+use Rattle.messagepack.specs.Laws.Keys.{equal-false}
+use Rattle.messagepack.specs.Laws.Walk as w
+
+-- prints
+
+module _ (s : List ℕ) (a m : ℕ) (le : a + m ≤ length s) where
+  pub print-short : m < 2 → printOf (take m (drop a s)) ≡ m * 65536
+  unfolding printOf
+  print-short lt = rw (part-length s a m le, unsignedAt-out 2 (take m (drop a s)) (m - 2) (rw (part-length s a m le) (omega arith))) (add-zero (m * 65536))
+
+  in-part : (i : ℕ) → i < m → getD (take m (drop a s)) i 0 ≡ getD s (a + i) 0
+  in-part i lt = getD-take m (drop a s) i 0 lt ∙ getD-drop a s i 0
+
+  pub print-long : 2 ≤ m → printOf (take m (drop a s)) ≡ m * 65536 + unsignedAt 2 s (a + m - 2)
+  unfolding printOf
+  print-long two =
+      let l : length (take m (drop a s)) ≡ m = part-length s a m le in
+      let i : a + (m - 2 + 0) ≡ a + m - 2 + 0 = omega arith in
+      let j : a + (m - 2 + 1) ≡ a + m - 2 + 1 = omega arith in
+      rw (l, unsignedAt-loads 2 (take m (drop a s)) (m - 2) (rw l (omega arith)), unsignedAt-loads 2 s (a + m - 2) (omega arith), in-part (m - 2 + 0) (omega arith), in-part (m - 2 + 1) (omega arith), i, j)
+
+-- rows, counted from the first
+
+module _ (s starts prints k : List ℕ) where
+  keys-first : among k (keysOf s starts prints zero) ≡ false
+  unfolding among keysOf
+  keys-first = refl
+
+  keys-next : (n : ℕ) (t : Bool) → equal k (take (getD prints n 0 / 65536) (drop (getD starts n 0) s)) ≡ t → among k (keysOf s starts prints (suc n)) ≡ t || among k (keysOf s starts prints n)
+  unfolding among keysOf
+  keys-next n t e = rw (← e)
+
+module _ (s starts prints : List ℕ) (j a q : ℕ) where
+  keys-set : (i : ℕ) → i ≤ j → keysOf s (set starts j a) (set prints j q) i ≡ keysOf s starts prints i
+  unfolding keysOf
+  keys-set zero h = refl
+  keys-set (suc i) h =
+      let ne : i ≢ j = omega arith in
+      rw (getD-set-other starts j i a 0 ne, getD-set-other prints j i q 0 ne, keys-set i (omega arith))
+
+  keys-more : j < length starts → j < length prints → keysOf s (set starts j a) (set prints j q) (suc j) ≡ take (q / 65536) (drop a s) ∷ keysOf s starts prints j
+  unfolding keysOf
+  keys-more h k = rw (getD-set-same starts j a 0 h, getD-set-same prints j q 0 k, keys-set j (omega arith))
+
+  stored-more : j < length starts → j < length prints → a + q / 65536 ≤ length s → q ≡ printOf (take (q / 65536) (drop a s)) → Stored s starts prints j → Stored s (set starts j a) (set prints j q) (suc j)
+  unfolding Stored
+  stored-more h k le p old i lt = ⊎-elim
+      (λ (e : i ≡ j). record { inside = rw (e, getD-set-same starts j a 0 h, getD-set-same prints j q 0 k) le; print = rw (e, getD-set-same starts j a 0 h, getD-set-same prints j q 0 k) p })
+      (λ (l : i < j).
+        let ne : i ≢ j = omega arith in
+        let o = old i l in
+        record { inside = rw (getD-set-other starts j i a 0 ne, getD-set-other prints j i q 0 ne) (o .inside); print = rw (getD-set-other starts j i a 0 ne, getD-set-other prints j i q 0 ne) (o .print) })
+      (eq-or-lt-of-le (le-of-suc-le-suc lt))
+
+-- rows from base on
+
+module _ (s starts prints : List ℕ) (base : ℕ) where
+  -- a row by its place in the whole table
+  pub row-holds : (n : ℕ) → Stored s (drop base starts) (drop base prints) n → (i : ℕ) → base ≤ i → i < base + n → RowHolds s starts prints i
+  unfolding Stored
+  row-holds n st i le lt =
+      let r = st (i - base) (omega arith) in
+      let e : base + (i - base) ≡ i = omega arith in
+      record { inside = rw (getD-drop, getD-drop, e) at (r .inside); print = rw (getD-drop, getD-drop, e) at (r .print) }
+
+  module _ (k : List ℕ) where
+    pub seen-none : (i : ℕ) → i ≤ base → among k (keysIn s starts prints base i) ≡ false
+    seen-none i le = let e : i - base ≡ 0 = omega arith in rw e (keys-first s (drop base starts) (drop base prints) k)
+
+    pub seen-next : (i : ℕ) (t : Bool) → base < i → equal k (take (getD prints (i - 1) 0 / 65536) (drop (getD starts (i - 1) 0) s)) ≡ t → among k (keysIn s starts prints base i) ≡ t || among k (keysIn s starts prints base (i - 1))
+    seen-next i t lt h =
+        let e : i - base ≡ suc (i - 1 - base) = omega arith in
+        let f : base + (i - 1 - base) ≡ i - 1 = omega arith in
+        rw e (keys-next s (drop base starts) (drop base prints) k (i - 1 - base) t (rw (getD-drop, getD-drop, f) h))
+
+-- a row whose print is another holds another key
+pub row-differs : {s starts prints : List ℕ} {i : ℕ} (k : List ℕ) {print : ℕ} → RowHolds s starts prints i → print ≡ printOf k → (getD prints i 0 ≡ print → ⊥) → equal k (take (getD prints i 0 / 65536) (drop (getD starts i 0) s)) ≡ false
+row-differs k r p ne = equal-false k _ (λ e. ne (r .print ∙ ap printOf (sym e) ∙ sym p))
+
+-- a row with the print of a key of m bytes is a key of m bytes
+module _ {s starts prints : List ℕ} {i m print : ℕ} (r : RowHolds s starts prints i) (e : getD prints i 0 ≡ print) (z : print / 65536 ≡ m) where
+  pub row-inside : {q : ℕ} → q ≡ getD starts i 0 → q + m ≤ length s
+  row-inside o = rw (o, ← z, ← e) (r .inside)
+
+  pub row-same : (k : List ℕ) {q : ℕ} {b : Bool} → q ≡ getD starts i 0 → b ≡ equal k (take m (drop q s)) → equal k (take (getD prints i 0 / 65536) (drop (getD starts i 0) s)) ≡ b
+  row-same k o h = rw (e, z, ← o) (sym h)
+
+-- a row more
+
+module _ {s starts prints : List ℕ} {base end a m print : ℕ} (x : Sought s base end starts prints a m print) where
+  split : end ≡ base + (end - base)
+  split = omega (arith, x .rows .order)
+
+  starts-set : drop base (set starts end a) ≡ set (drop base starts) (end - base) a
+  starts-set = subst (λ (i : ℕ). drop base (set starts i a) ≡ set (drop base starts) (end - base) a) (sym split) (drop-set-add base starts (end - base) a)
+
+  prints-set : drop base (set prints end print) ≡ set (drop base prints) (end - base) print
+  prints-set = subst (λ (i : ℕ). drop base (set prints i print) ≡ set (drop base prints) (end - base) print) (sym split) (drop-set-add base prints (end - base) print)
+
+  next : end + 1 - base ≡ suc (end - base)
+  next = omega (arith, x .rows .order)
+
+  starts-room : end - base < length (drop base starts)
+  starts-room = simp length-drop (omega (arith, x .rows .order, x .rows .room, x .rows .starts-long))
+
+  prints-room : end - base < length (drop base prints)
+  prints-room = simp length-drop (omega (arith, x .rows .order, x .rows .room, x .rows .prints-long))
+
+  pub noted-keys : keysIn s (set starts end a) (set prints end print) base (end + 1) ≡ take m (drop a s) ∷ keysIn s starts prints base end
+  noted-keys = rw (starts-set, prints-set, next, ← x .sized) (keys-more s (drop base starts) (drop base prints) (end - base) a print starts-room prints-room)
+
+  pub noted-stored : Stored s (drop base (set starts end a)) (drop base (set prints end print)) (end + 1 - base)
+  noted-stored =
+      rw (starts-set, prints-set, next)
+      (stored-more s (drop base starts) (drop base prints) (end - base) a print starts-room prints-room (rw (x .sized) (x .inside)) (rw (x .sized) (x .is)) (x .rows .stored))
+
+-- tables that are kept
+
+pub kept-all : (depth : ℕ) {t : List ℕ} → length t ≡ tableLength → Kept depth t t
+kept-all depth l = record { long = l; same = refl }
+
+pub kept-then : {depth : ℕ} {t u v : List ℕ} → Kept depth t u → Kept depth u v → Kept depth t v
+kept-then a b = record { long = b .long; same = b .same ∙ a .same }
+
+-- what is kept with fewer levels left is kept with more
+pub kept-more : {depth : ℕ} {t u : List ℕ} → Kept depth t u → Kept (depth + 1) t u
+kept-more {depth} {t} {u} k =
+    let e : (depth + 1) * entryLimit ≡ depth * entryLimit + entryLimit = omega arith in
+    record { long = k .long; same = rw (e, ← drop-drop entryLimit (depth * entryLimit) u, ← drop-drop entryLimit (depth * entryLimit) t, k .same) }
+
+pub kept-at : {d e : ℕ} {t u : List ℕ} → d ≡ e → Kept d t u → Kept e t u
+kept-at {d} {e} {t} {u} q k = subst (λ (i : ℕ). Kept i t u) q k
+
+-- a walk with fewer levels left may begin too, and with tables that were kept
+pub free-less : {s : List ℕ} {d e : ℕ} {starts prints : List ℕ} → d ≤ e → Free s e starts prints → Free s d starts prints
+free-less le x = record { small = x .small; levels = omega (arith, x .levels); starts-long = x .starts-long; prints-long = x .prints-long }
+
+pub free-kept : {s : List ℕ} {d : ℕ} {starts prints starts' prints' : List ℕ} → Free s d starts prints → Kept d starts starts' → Kept d prints prints' → Free s d starts' prints'
+free-kept x ks kp = record { small = x .small; levels = x .levels; starts-long = ks .long; prints-long = kp .long }
+
+-- an answer by its case, and one for a value with more levels left
+pub walked-as : {expected : Walk} {d : ℕ} {starts prints starts' prints' : List ℕ} {r q : Walk} → r ≡ q → Walked expected d starts prints r starts' prints' → Walked expected d starts prints q starts' prints'
+walked-as e v = record { answer = sym e ∙ v .answer; starts-kept = v .starts-kept; prints-kept = v .prints-kept }
+
+pub walked-in : {inner outer : Walk} {d e : ℕ} {starts prints starts' prints' : List ℕ} {r : Walk} → d ≡ e → outer ≡ inner → Walked inner d starts prints r starts' prints' → Walked outer e starts prints r starts' prints'
+walked-in q o v = record { answer = v .answer ∙ sym o; starts-kept = kept-at q (v .starts-kept); prints-kept = kept-at q (v .prints-kept) }
+
+pub walked-more : {expected : Walk} {d : ℕ} {starts prints starts' prints' : List ℕ} {r : Walk} → Walked expected d starts prints r starts' prints' → Walked expected (d + 1) starts prints r starts' prints'
+walked-more v = record { answer = v .answer; starts-kept = kept-more (v .starts-kept); prints-kept = kept-more (v .prints-kept) }
+
+pub noted-as : {s : List ℕ} {at base end : ℕ} {starts prints starts' prints' : List ℕ} {r q : Walk} → r ≡ q → Noted s at base end starts prints r starts' prints' → Noted s at base end starts prints q starts' prints'
+noted-as {s} {at} {base} {end} {starts} {prints} {starts'} {prints'} e n = subst (λ (v : Walk). Noted s at base end starts prints v starts' prints') e n
+
+-- a row of the level itself is not among those that are kept
+pub kept-set : (depth i v : ℕ) (t : List ℕ) → length t ≡ tableLength → i < (depth + 1) * entryLimit → Kept (depth + 1) t (set t i v)
+kept-set depth i v t l lt = record { long = length-set t i v ∙ l; same = drop-set-lt ((depth + 1) * entryLimit) t i v lt }
+
+-- the loop over a map's entries
+
+-- the rows of the map's level hold its first keys, and the entries from here on decide
+pub record Going (s : List ℕ) (f : ℕ → Walk) (n at depth : ℕ) (starts₀ prints₀ starts prints : List ℕ) (row p : ℕ) : Type 0 where
+  pub levels : depth < nestingLimit
+  pub small : length s ≤ fileLimit
+  pub few : n ≤ entryLimit
+  pub from : depth * entryLimit ≤ row
+  pub to : row ≤ depth * entryLimit + n
+  pub starts-kept : Kept (depth + 1) starts₀ starts
+  pub prints-kept : Kept (depth + 1) prints₀ prints
+  pub stored : Stored s (drop (depth * entryLimit) starts) (drop (depth * entryLimit) prints) (row - depth * entryLimit)
+  pub goes : entriesAt s f n at ≡ entriesFrom s f (depth * entryLimit + n - row) (keysIn s starts prints (depth * entryLimit) row) p
+
+module _ {s : List ℕ} (f : ℕ → Walk) {n at depth : ℕ} where
+  pub going-first : {starts prints : List ℕ} → Free s (depth + 1) starts prints → n ≤ entryLimit → Going s f n at depth starts prints starts prints (depth * entryLimit) at
+  unfolding Stored keysOf
+  going-first {starts} {prints} x few =
+      let e : depth * entryLimit + n - depth * entryLimit ≡ n = omega arith in
+      let z : depth * entryLimit - depth * entryLimit ≡ 0 = omega arith in
+      record {
+        levels = omega (arith, x .levels);
+        small = x .small;
+        few = few;
+        from = omega arith;
+        to = omega arith;
+        starts-kept = kept-all (depth + 1) (x .starts-long);
+        prints-kept = kept-all (depth + 1) (x .prints-long);
+        stored = λ i lt. absurd (not-suc-le-zero (rw z at lt));
+        goes = rw (e, z) (w.entries-few s f n at few);
+      }
+
+  module _ {starts₀ prints₀ starts prints : List ℕ} {row p : ℕ} (g : Going s f n at depth starts₀ prints₀ starts prints row p) where
+    pub going-last : depth * entryLimit + n ≤ row → Walked (entriesAt s f n at) (depth + 1) starts₀ prints₀ (Walk.End p) starts prints
+    going-last le = record {
+      answer = sym (g .goes ∙ w.entries-none s f (depth * entryLimit + n - row) p (keysIn s starts prints (depth * entryLimit) row) (omega arith));
+      starts-kept = g .starts-kept;
+      prints-kept = g .prints-kept;
+    }
+
+    module _ (lt : row < depth * entryLimit + n) where
+      pub going-rows : Rows s (depth * entryLimit) row starts prints
+      going-rows = record {
+        small = g .small;
+        order = g .from;
+        room = omega (arith, g .levels, g .few);
+        starts-long = g .starts-kept .long;
+        prints-long = g .prints-kept .long;
+        stored = g .stored;
+      }
+
+      -- a key that is refused
+      pub going-key : {e : ℕ} {starts' prints' : List ℕ} → Noted s p (depth * entryLimit) row starts prints (Walk.Refused e) starts' prints' → Walked (entriesAt s f n at) (depth + 1) starts₀ prints₀ (Walk.Refused e) starts' prints'
+      going-key (refused k) = record {
+        answer = sym (g .goes ∙ w.entries-key s f (depth * entryLimit + n - row) p (keysIn s starts prints (depth * entryLimit) row) (omega arith) k);
+        starts-kept = g .starts-kept;
+        prints-kept = g .prints-kept;
+      }
+      going-key (repeated k b) = record {
+        answer = sym (g .goes ∙ w.entries-twice s f (depth * entryLimit + n - row) p (keysIn s starts prints (depth * entryLimit) row) (omega arith) k b);
+        starts-kept = g .starts-kept;
+        prints-kept = g .prints-kept;
+      }
+
+      -- a key that is new: its value may be walked
+      pub going-free : {q : ℕ} {starts' prints' : List ℕ} → Noted s p (depth * entryLimit) row starts prints (Walk.End q) starts' prints' → Free s depth starts' prints'
+      going-free (noted k b x) = record {
+        small = g .small;
+        levels = omega (arith, g .levels);
+        starts-long = length-set starts row _ ∙ g .starts-kept .long;
+        prints-long = length-set prints row _ ∙ g .prints-kept .long;
+      }
+
+      row-below : row < (depth + 1) * entryLimit
+      row-below = omega (arith, g .few)
+
+      -- what a value leaves alone, and a row of the level, the map leaves alone
+      kept-past : {t₀ t t' : List ℕ} (v : ℕ) → Kept (depth + 1) t₀ t → Kept depth (set t row v) t' → Kept (depth + 1) t₀ t'
+      kept-past {t₀} {t} {t'} v a b = kept-then a (kept-then (kept-set depth row v t (a .long) row-below) (kept-more b))
+
+      -- its value is refused
+      pub going-value : {q e : ℕ} {starts' prints' starts'' prints'' : List ℕ} → Noted s p (depth * entryLimit) row starts prints (Walk.End q) starts' prints' → Walked (f q) depth starts' prints' (Walk.Refused e) starts'' prints'' → Walked (entriesAt s f n at) (depth + 1) starts₀ prints₀ (Walk.Refused e) starts'' prints''
+      going-value (noted k b x) v = record {
+        answer = sym (g .goes ∙ w.entries-value s f (depth * entryLimit + n - row) p (keysIn s starts prints (depth * entryLimit) row) (omega arith) k b (sym (v .answer)));
+        starts-kept = kept-past _ (g .starts-kept) (v .starts-kept);
+        prints-kept = kept-past _ (g .prints-kept) (v .prints-kept);
+      }
+
+      -- its value ends: one entry more is done
+      pub going-next : {q e : ℕ} {starts' prints' starts'' prints'' : List ℕ} → Noted s p (depth * entryLimit) row starts prints (Walk.End q) starts' prints' → Walked (f q) depth starts' prints' (Walk.End e) starts'' prints'' → Going s f n at depth starts₀ prints₀ starts'' prints'' (row + 1) e
+      going-next (noted k b x) v =
+          let d : depth * entryLimit + n - row - 1 ≡ depth * entryLimit + n - (row + 1) = omega arith in
+          record {
+            levels = g .levels;
+            small = g .small;
+            few = g .few;
+            from = omega (arith, g .from);
+            to = omega arith;
+            starts-kept = kept-past _ (g .starts-kept) (v .starts-kept);
+            prints-kept = kept-past _ (g .prints-kept) (v .prints-kept);
+            stored = rw (v .starts-kept .same, v .prints-kept .same) (noted-stored x);
+            goes =
+              g .goes
+              ∙ w.entries-end s f (depth * entryLimit + n - row) p (keysIn s starts prints (depth * entryLimit) row) (omega arith) k b (sym (v .answer))
+              ∙ rw (v .starts-kept .same, v .prints-kept .same, noted-keys x, d);
+          }

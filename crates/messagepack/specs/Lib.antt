@@ -1,0 +1,7 @@
+pub mod Limits
+pub mod Document
+pub mod Rules
+pub mod Walk
+pub mod Read
+pub mod Keys
+pub mod Laws

@@ -1,0 +1,387 @@
+// The container of a file: one walk from the first byte, which refuses with the numbers 1 to 11 in the order of paper 01, or finds that the
+// file is a writing of a map within the limits. Values, arrays and maps are walked by functions that call each other, the levels left falling.
+// The keys of the maps that are open stand in two tables that are made once for a walk: where each starts, and a print of it to compare first.
+ghost use mathlib.Core.Path.{_≡_};
+ghost use mathlib.Core.Logic.{_↔_};
+ghost use mathlib.Core.Bool.{true, false};
+ghost use Prim.Native.Nat.{_+_, _*_, _/_, _≤_, _<_};
+ghost use lib.ListN.{length, take, drop};
+ghost use Rattle.messagepack.specs.Limits.{fileLimit, nestingLimit, entryLimit};
+ghost use Rattle.messagepack.specs.Rules.{Container};
+ghost use Rattle.messagepack.specs.Walk.{bodyAt, textAt, keyAt, integerAt, plainAt, binaryAt, stringAt, equal, among, manyAt, entriesAt, valueAt, ended, containerNumber};
+ghost use Rattle.messagepack.specs.Keys.{printOf, keysIn, tableLength, Free, Walked, Rows, Sought, Noted};
+
+use heads::Head;
+use heads::Kind;
+
+// The most bytes of a file.
+pub const FILE_LIMIT: usize = 67_108_864;
+
+// The most levels of arrays and maps, the outer map being the first.
+pub const NESTING_LIMIT: usize = 12;
+
+// The most entries of a map.
+pub const ENTRY_LIMIT: usize = 256;
+
+// The largest integer.
+pub const INTEGER_LIMIT: usize = 2_147_483_647;
+
+// Where a value ends, or the number of its refusal.
+pub enum Walk {
+    End(usize),
+    Refused(u8),
+}
+
+// A string's first byte and its length, or the number of its refusal.
+pub enum Text {
+    At(usize, usize),
+    Refused(u8),
+}
+
+// The refusal of a file as a container, 1 to 11, or 0.
+pub fn container(file: &[u8]) -> u8
+    ensures number { λ r. ⌜ r ≡ containerNumber (now (file .entry)) ⌝ }
+    ensures exactly { λ r. ⌜ (r ≡ 0) ↔ Container (now (file .entry)) ⌝ }
+{
+    first_fault(file)
+}
+
+// The number of the first fault by the walk's order, or 0.
+fn first_fault(file: &[u8]) -> u8
+    ensures { λ r. ⌜ r ≡ containerNumber (now (file .entry)) ⌝ }
+{
+    if FILE_LIMIT < file.len() {
+        return refusal::FILE_OVER_LIMIT;
+    }
+    match heads::kind_at(file, 0) {
+        Kind::Missing => refusal::CUT_SHORT,
+        Kind::Outside => refusal::LEAD_BYTE_UNKNOWN,
+        Kind::Map => outer(file),
+        Kind::Unsigned => refusal::OUTER_NOT_MAP,
+        Kind::Signed => refusal::OUTER_NOT_MAP,
+        Kind::Float => refusal::OUTER_NOT_MAP,
+        Kind::Str => refusal::OUTER_NOT_MAP,
+        Kind::Bin => refusal::OUTER_NOT_MAP,
+        Kind::Array => refusal::OUTER_NOT_MAP,
+    }
+}
+
+// The n bytes from p on.
+pub fn body_at(file: &[u8], n: usize, p: usize) -> Walk
+    ensures { λ r. ⌜ r ≡ bodyAt (now (file .entry)) n p ⌝ }
+{
+    if file.len() < p {
+        return Walk::Refused(refusal::CUT_SHORT);
+    }
+    if file.len() - p < n {
+        return Walk::Refused(refusal::CUT_SHORT);
+    }
+    Walk::End(p + n)
+}
+
+// The string whose head is at a place.
+pub fn text_at(file: &[u8], at: usize) -> Text
+    ensures { λ r. ⌜ r ≡ textAt (now (file .entry)) at ⌝ }
+{
+    match heads::head_at(file, at) {
+        Head::Cut => Text::Refused(refusal::CUT_SHORT),
+        Head::At(n, p) => match body_at(file, n, p) {
+            Walk::Refused(e) => Text::Refused(e),
+            Walk::End(end) => {
+                if utf8::is_utf8(&file[p..end]) {
+                    Text::At(p, n)
+                } else {
+                    Text::Refused(refusal::STRING_NOT_UTF8)
+                }
+            }
+        },
+    }
+}
+
+// The key that starts at a place.
+pub fn key_at(file: &[u8], at: usize) -> Text
+    ensures { λ r. ⌜ r ≡ keyAt (now (file .entry)) at ⌝ }
+{
+    match heads::kind_at(file, at) {
+        Kind::Missing => Text::Refused(refusal::CUT_SHORT),
+        Kind::Outside => Text::Refused(refusal::LEAD_BYTE_UNKNOWN),
+        Kind::Str => text_at(file, at),
+        Kind::Unsigned => Text::Refused(refusal::KEY_NOT_STRING),
+        Kind::Signed => Text::Refused(refusal::KEY_NOT_STRING),
+        Kind::Float => Text::Refused(refusal::KEY_NOT_STRING),
+        Kind::Bin => Text::Refused(refusal::KEY_NOT_STRING),
+        Kind::Array => Text::Refused(refusal::KEY_NOT_STRING),
+        Kind::Map => Text::Refused(refusal::KEY_NOT_STRING),
+    }
+}
+
+// Are two strings of bytes the same?
+pub fn same_bytes(x: &[u8], y: &[u8]) -> bool
+    ensures { λ r. ⌜ r ≡ equal (now (x .entry)) (now (y .entry)) ⌝ }
+{
+    if x.len() != y.len() {
+        return false;
+    }
+    let mut i: usize = 0;
+    while i < x.len() {
+        if x[i] != y[i] {
+            return false;
+        }
+        i += 1;
+    }
+    true
+}
+
+// An integer by an unsigned head.
+fn integer_at(file: &[u8], at: usize) -> Walk
+    ensures { λ r. ⌜ r ≡ integerAt (now (file .entry)) at ⌝ }
+{
+    match heads::head_at(file, at) {
+        Head::Cut => Walk::Refused(refusal::CUT_SHORT),
+        Head::At(n, p) => {
+            if n <= INTEGER_LIMIT {
+                Walk::End(p)
+            } else {
+                Walk::Refused(refusal::UNSIGNED_TOO_LARGE)
+            }
+        }
+    }
+}
+
+// A value that is its head alone: an integer by a signed head, or a float.
+fn plain_at(file: &[u8], at: usize) -> Walk
+    ensures { λ r. ⌜ r ≡ plainAt (now (file .entry)) at ⌝ }
+{
+    match heads::head_at(file, at) {
+        Head::Cut => Walk::Refused(refusal::CUT_SHORT),
+        Head::At(_, p) => Walk::End(p),
+    }
+}
+
+fn binary_at(file: &[u8], at: usize) -> Walk
+    ensures { λ r. ⌜ r ≡ binaryAt (now (file .entry)) at ⌝ }
+{
+    match heads::head_at(file, at) {
+        Head::Cut => Walk::Refused(refusal::CUT_SHORT),
+        Head::At(n, p) => body_at(file, n, p),
+    }
+}
+
+fn string_at(file: &[u8], at: usize) -> Walk
+    ensures { λ r. ⌜ r ≡ stringAt (now (file .entry)) at ⌝ }
+{
+    match text_at(file, at) {
+        Text::Refused(e) => Walk::Refused(e),
+        Text::At(p, n) => Walk::End(p + n),
+    }
+}
+
+// The walk of the outer map, with the tables of keys, and nothing after it.
+fn outer(file: &[u8]) -> u8
+    requires { ⌜ length (now file) ≤ fileLimit ⌝ }
+    ensures { λ r. ⌜ r ≡ ended (now (file .entry)) (valueAt (now (file .entry)) nestingLimit 0) ⌝ }
+{
+    let mut starts = no_starts();
+    let mut prints = no_prints();
+    match value(file, 0, NESTING_LIMIT, &mut starts, &mut prints) {
+        Walk::Refused(e) => e,
+        Walk::End(p) => {
+            if p == file.len() {
+                refusal::ACCEPTED
+            } else {
+                refusal::BYTES_AFTER
+            }
+        }
+    }
+}
+
+fn no_starts() -> [u32; 3072]
+    ensures { λ r. ⌜ length r ≡ tableLength ⌝ }
+{
+    [0u32; 3072]
+}
+
+fn no_prints() -> [u64; 3072]
+    ensures { λ r. ⌜ length r ≡ tableLength ⌝ }
+{
+    [0u64; 3072]
+}
+
+// The value at a place, with so many levels left. It leaves alone the rows of the maps that are open.
+fn value(
+    file: &[u8],
+    at: usize,
+    depth: usize,
+    starts: &mut [u32; 3072],
+    prints: &mut [u64; 3072],
+) -> Walk
+    requires { ⌜ Free (now file) depth (now starts) (now prints) ⌝ }
+    ensures { λ r. ⌜ Walked (valueAt (now (file .entry)) depth at) depth (now (starts .entry)) (now (prints .entry)) r (now (starts .exit)) (now (prints .exit)) ⌝ }
+{
+    match heads::kind_at(file, at) {
+        Kind::Missing => Walk::Refused(refusal::CUT_SHORT),
+        Kind::Outside => Walk::Refused(refusal::LEAD_BYTE_UNKNOWN),
+        Kind::Unsigned => integer_at(file, at),
+        Kind::Signed => plain_at(file, at),
+        Kind::Float => plain_at(file, at),
+        Kind::Bin => binary_at(file, at),
+        Kind::Str => string_at(file, at),
+        Kind::Array => {
+            if depth == 0 {
+                return Walk::Refused(refusal::NESTED_TOO_DEEP);
+            }
+            match heads::head_at(file, at) {
+                Head::Cut => Walk::Refused(refusal::CUT_SHORT),
+                Head::At(n, p) => array(file, n, p, depth - 1, starts, prints),
+            }
+        }
+        Kind::Map => {
+            if depth == 0 {
+                return Walk::Refused(refusal::NESTED_TOO_DEEP);
+            }
+            match heads::head_at(file, at) {
+                Head::Cut => Walk::Refused(refusal::CUT_SHORT),
+                Head::At(n, p) => map(file, n, p, depth - 1, starts, prints),
+            }
+        }
+    }
+}
+
+// The n values of an array from a place on, each with so many levels left.
+fn array(
+    file: &[u8],
+    n: usize,
+    at: usize,
+    depth: usize,
+    starts: &mut [u32; 3072],
+    prints: &mut [u64; 3072],
+) -> Walk
+    requires { ⌜ Free (now file) depth (now starts) (now prints) ⌝ }
+    ensures { λ r. ⌜ Walked (manyAt (valueAt (now (file .entry)) depth) n at) depth (now (starts .entry)) (now (prints .entry)) r (now (starts .exit)) (now (prints .exit)) ⌝ }
+{
+    let mut left = n;
+    let mut p = at;
+    while 0 < left {
+        match value(file, p, depth, starts, prints) {
+            Walk::End(q) => {
+                p = q;
+            }
+            Walk::Refused(e) => {
+                return Walk::Refused(e);
+            }
+        }
+        left -= 1;
+    }
+    Walk::End(p)
+}
+
+// The n entries of a map from a place on, each value with so many levels left. Its keys stand in the 256 rows from depth * 256 on.
+fn map(
+    file: &[u8],
+    n: usize,
+    at: usize,
+    depth: usize,
+    starts: &mut [u32; 3072],
+    prints: &mut [u64; 3072],
+) -> Walk
+    requires { ⌜ Free (now file) (depth + 1) (now starts) (now prints) ⌝ }
+    ensures { λ r. ⌜ Walked (entriesAt (now (file .entry)) (valueAt (now (file .entry)) depth) n at) (depth + 1) (now (starts .entry)) (now (prints .entry)) r (now (starts .exit)) (now (prints .exit)) ⌝ }
+{
+    if ENTRY_LIMIT < n {
+        return Walk::Refused(refusal::TOO_MANY_ENTRIES);
+    }
+    let base = depth * ENTRY_LIMIT;
+    let end = base + n;
+    let mut row = base;
+    let mut p = at;
+    while row < end {
+        match new_key(file, p, base, row, starts, prints) {
+            Walk::End(q) => {
+                p = q;
+            }
+            Walk::Refused(e) => {
+                return Walk::Refused(e);
+            }
+        }
+        match value(file, p, depth, starts, prints) {
+            Walk::End(q) => {
+                p = q;
+            }
+            Walk::Refused(e) => {
+                return Walk::Refused(e);
+            }
+        }
+        row += 1;
+    }
+    Walk::End(p)
+}
+
+// The key at a place, which is none of those in the rows from base up to end, and now stands in the row after them.
+fn new_key(
+    file: &[u8],
+    at: usize,
+    base: usize,
+    end: usize,
+    starts: &mut [u32; 3072],
+    prints: &mut [u64; 3072],
+) -> Walk
+    requires { ⌜ Rows (now file) base end (now starts) (now prints) ⌝ }
+    ensures { λ r. ⌜ Noted (now (file .entry)) at base end (now (starts .entry)) (now (prints .entry)) r (now (starts .exit)) (now (prints .exit)) ⌝ }
+{
+    match key_at(file, at) {
+        Text::Refused(e) => Walk::Refused(e),
+        Text::At(a, m) => {
+            let print = print_of(file, a, m);
+            if seen(file, starts, prints, base, end, a, m, print) {
+                return Walk::Refused(refusal::KEY_REPEATED);
+            }
+            starts[end] = a as u32;
+            prints[end] = print;
+            Walk::End(a + m)
+        }
+    }
+}
+
+// Is the key of m bytes at a, whose print is given, among those in the rows from base up to end?
+fn seen(
+    file: &[u8],
+    starts: &[u32; 3072],
+    prints: &[u64; 3072],
+    base: usize,
+    end: usize,
+    a: usize,
+    m: usize,
+    print: u64,
+) -> bool
+    requires { ⌜ Sought (now file) base end (now starts) (now prints) a m print ⌝ }
+    ensures { λ r. ⌜ r ≡ among (take m (drop a (now (file .entry)))) (keysIn (now (file .entry)) (now (starts .entry)) (now (prints .entry)) base end) ⌝ }
+{
+    let mut i = end;
+    while base < i {
+        i -= 1;
+        if prints[i] == print {
+            let b = wide(starts[i]);
+            if same_bytes(&file[a..a + m], &file[b..b + m]) {
+                return true;
+            }
+        }
+    }
+    false
+}
+
+// The print of the m bytes from a: their number, and the last two.
+fn print_of(file: &[u8], a: usize, m: usize) -> u64
+    requires { ⌜ (length (now file) ≤ fileLimit) × (a + m ≤ length (now file)) ⌝ }
+    ensures { λ r. ⌜ (r ≡ printOf (take m (drop a (now (file .entry))))) × (r / 65536 ≡ m) ⌝ }
+{
+    if m < 2 {
+        return (m as u64) * 65536;
+    }
+    (m as u64) * 65536 + (numbers::read_u16(file, a + m - 2) as u64)
+}
+
+fn wide(x: u32) -> usize
+    ensures { λ r. ⌜ r ≡ x ⌝ }
+{
+    x as usize
+}

@@ -1,0 +1,4 @@
+pub mod Utf8
+pub mod Check
+pub mod Step
+pub mod Laws

@@ -1,0 +1,9 @@
+//! An independent implementation of the MMTF container, the library's C calls,
+//! and what is needed to compare the two.
+
+pub mod check;
+pub mod corpus;
+pub mod generate;
+pub mod guard;
+pub mod independent;
+pub mod library;
