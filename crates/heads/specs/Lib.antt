@@ -1,4 +1,4 @@
 pub mod Lead
-pub mod Table
 pub mod Head
+pub mod Table
 pub mod Laws

@@ -1,8 +1,14 @@
--- How the code's table numbers the kinds. No lemma stands here. Assumes nothing.
+-- The table of lead bytes: what each row says, and what a kind and a head are by any table that is lent.
+-- No lemma stands here; that by the table of lead bytes they are those of the lead-byte rule is in Laws/Table.antt. Assumes nothing.
 use mathlib.Core.Bool.{cond}
-use Prim.Native.Nat.{ℕ}
-use lib.Dec.{eqb}
+use mathlib.Core.List.{List, [], _∷_}
+use Prim.Native.Nat.{ℕ, zero, suc, _+_, _-_, _*_, _/_, _%_}
+use lib.Dec.{ltb, eqb}
+use lib.ListN.{length, getD}
+use Rattle.numbers.specs.BigEndian.{unsignedAt}
+use Rattle.heads.specs.Lead.{kindOf, moreOf, heldBy}
 use Rattle.heads.specs.declared.Kind.{Kind}
+use Rattle.heads.specs.declared.Head.{Head}
 
 -- a kind's number in the table
 abbrev pub kindNumber : Kind → ℕ
@@ -24,3 +30,33 @@ kindFrom n =
     (cond (eqb n 3) Kind.Float
     (cond (eqb n 4) Kind.Str
     (cond (eqb n 5) Kind.Bin (cond (eqb n 6) Kind.Array (cond (eqb n 7) Kind.Map Kind.Outside))))))
+
+-- the row of a lead byte: eight times its kind's number, and the size of its head
+abbrev pub rowNumber : ℕ → ℕ
+rowNumber b = kindNumber (kindOf b) * 8 + (moreOf b + 1)
+
+-- n values of f, from i on
+abbrev pub valuesFrom : (ℕ → ℕ) → ℕ → ℕ → List ℕ
+valuesFrom f i zero = []
+valuesFrom f i (suc n) = f i ∷ valuesFrom f (suc i) n
+
+-- the table of lead bytes: the row of each of the 256
+unfoldable pub leadTable : List ℕ
+leadTable = valuesFrom rowNumber 0 256
+
+-- the kind at a place by a table
+unfoldable pub kindBy : List ℕ → List ℕ → ℕ → Kind
+kindBy table s at = cond (ltb at (length s)) (kindFrom (getD table (getD s at 0) 0 / 8)) Kind.Missing
+
+-- the number of a head of some size, whose lead byte b is at a place
+abbrev pub sizedNumber : List ℕ → ℕ → ℕ → ℕ → ℕ
+sizedNumber s b at size =
+    cond (eqb size 1) (heldBy b)
+    (cond (eqb size 2) (unsignedAt 1 s (at + 1)) (cond (eqb size 3) (unsignedAt 2 s (at + 1)) (unsignedAt 4 s (at + 1))))
+
+abbrev pub sizedHead : List ℕ → ℕ → ℕ → ℕ → Head
+sizedHead s b at size = cond (ltb (length s - at) size) Head.Cut (Head.At (sizedNumber s b at size) (at + size))
+
+-- the head at a place by a table
+unfoldable pub headBy : List ℕ → List ℕ → ℕ → Head
+headBy table s at = cond (ltb at (length s)) (sizedHead s (getD s at 0) at (getD table (getD s at 0) 0 % 8)) Head.Cut

@@ -7,6 +7,7 @@ use Prim.Native.Nat.{ℕ, zero, suc, _+_, _-_, _*_, _/_, _<_, _≤_}
 use lib.ListN.{length, getD, take, drop, set}
 use Rattle.refusal.specs.Table.{keyRepeated}
 use Rattle.numbers.specs.BigEndian.{unsignedAt}
+use Rattle.heads.specs.Table.{leadTable}
 use Rattle.messagepack.specs.Limits.{fileLimit, nestingLimit, entryLimit}
 use Rattle.messagepack.specs.Walk.{keyAt, among}
 use Rattle.messagepack.specs.declared.Walk.{Walk}
@@ -39,8 +40,9 @@ unfoldable pub Stored : List ℕ → List ℕ → List ℕ → ℕ → Type 0
 Stored s starts prints n = (i : ℕ) → i < n → RowHolds s starts prints i
 
 -- a walk with so many levels left may begin
-pub record Free (s : List ℕ) (depth : ℕ) (starts prints : List ℕ) : Type 0 where
+pub record Free (leads s : List ℕ) (depth : ℕ) (starts prints : List ℕ) : Type 0 where
   pub small : length s ≤ fileLimit
+  pub table : leads ≡ leadTable
   pub levels : depth ≤ nestingLimit
   pub starts-long : length starts ≡ tableLength
   pub prints-long : length prints ≡ tableLength

@@ -13,6 +13,7 @@ use Rattle.heads.specs.declared.Head.{Head}
 use Rattle.messagepack.specs.Limits.{fileLimit, nestingLimit, entryLimit, integerLimit}
 use Rattle.messagepack.specs.declared.Walk.{Walk}
 use Rattle.messagepack.specs.declared.Text.{Text}
+use Rattle.messagepack.specs.declared.Leaf.{Leaf}
 
 -- a head, or it is cut
 abbrev pub onHead : Head → (ℕ → ℕ → Walk) → Walk
@@ -113,6 +114,25 @@ byKind s at fa fm Kind.Bin = binaryAt s at
 byKind s at fa fm Kind.Str = stringAt s at
 byKind s at fa fm Kind.Array = fa (headAt s at)
 byKind s at fa fm Kind.Map = fm (headAt s at)
+
+abbrev pub leafOf : Walk → Leaf
+leafOf (Walk.End p) = Leaf.End p
+leafOf (Walk.Refused n) = Leaf.Refused n
+
+-- a value that holds no others, by its kind; or that it holds others
+abbrev pub leafByKind : List ℕ → ℕ → Kind → Leaf
+leafByKind s at Kind.Missing = Leaf.Refused cutShort
+leafByKind s at Kind.Outside = Leaf.Refused leadByteUnknown
+leafByKind s at Kind.Unsigned = leafOf (integerAt s at)
+leafByKind s at Kind.Signed = leafOf (plainAt s at)
+leafByKind s at Kind.Float = leafOf (plainAt s at)
+leafByKind s at Kind.Bin = leafOf (binaryAt s at)
+leafByKind s at Kind.Str = leafOf (stringAt s at)
+leafByKind s at Kind.Array = Leaf.Array
+leafByKind s at Kind.Map = Leaf.Map
+
+unfoldable pub leafAt : List ℕ → ℕ → Leaf
+leafAt s at = leafByKind s at (kindAt s at)
 
 -- the value at a place, with d more levels of arrays and maps
 unfoldable pub valueAt : List ℕ → ℕ → ℕ → Walk

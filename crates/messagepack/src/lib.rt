@@ -6,9 +6,10 @@ ghost use mathlib.Core.Logic.{_↔_};
 ghost use mathlib.Core.Bool.{true, false};
 ghost use Prim.Native.Nat.{_+_, _*_, _/_, _≤_, _<_};
 ghost use lib.ListN.{length, take, drop};
+ghost use Rattle.heads.specs.Table.{leadTable};
 ghost use Rattle.messagepack.specs.Limits.{fileLimit, nestingLimit, entryLimit};
 ghost use Rattle.messagepack.specs.Rules.{Container};
-ghost use Rattle.messagepack.specs.Walk.{bodyAt, textAt, keyAt, integerAt, plainAt, binaryAt, stringAt, equal, among, manyAt, entriesAt, valueAt, ended, containerNumber};
+ghost use Rattle.messagepack.specs.Walk.{leafOf, leafAt, bodyAt, textAt, keyAt, integerAt, plainAt, binaryAt, stringAt, equal, among, manyAt, entriesAt, valueAt, ended, containerNumber};
 ghost use Rattle.messagepack.specs.Keys.{printOf, keysIn, tableLength, Free, Walked, Rows, Sought, Noted};
 
 use heads::Head;
@@ -38,6 +39,14 @@ pub enum Text {
     Refused(u8),
 }
 
+// A value that holds no others, as `Walk` has it; or that it holds others, and which.
+pub enum Leaf {
+    End(usize),
+    Refused(u8),
+    Array,
+    Map,
+}
+
 // The refusal of a file as a container, 1 to 11, or 0.
 pub fn container(file: &[u8]) -> u8
     ensures number { λ r. ⌜ r ≡ containerNumber (now (file .entry)) ⌝ }
@@ -53,10 +62,11 @@ fn first_fault(file: &[u8]) -> u8
     if FILE_LIMIT < file.len() {
         return refusal::FILE_OVER_LIMIT;
     }
-    match heads::kind_at(file, 0) {
+    let leads = heads::leads();
+    match heads::kind_at(&leads, file, 0) {
         Kind::Missing => refusal::CUT_SHORT,
         Kind::Outside => refusal::LEAD_BYTE_UNKNOWN,
-        Kind::Map => outer(file),
+        Kind::Map => outer(&leads, file),
         Kind::Unsigned => refusal::OUTER_NOT_MAP,
         Kind::Signed => refusal::OUTER_NOT_MAP,
         Kind::Float => refusal::OUTER_NOT_MAP,
@@ -67,7 +77,7 @@ fn first_fault(file: &[u8]) -> u8
 }
 
 // The n bytes from p on.
-pub fn body_at(file: &[u8], n: usize, p: usize) -> Walk
+fn body_at(file: &[u8], n: usize, p: usize) -> Walk
     ensures { λ r. ⌜ r ≡ bodyAt (now (file .entry)) n p ⌝ }
 {
     if file.len() < p {
@@ -80,10 +90,11 @@ pub fn body_at(file: &[u8], n: usize, p: usize) -> Walk
 }
 
 // The string whose head is at a place.
-pub fn text_at(file: &[u8], at: usize) -> Text
+fn text_at(leads: &[u8; 256], file: &[u8], at: usize) -> Text
+    requires { ⌜ now leads ≡ leadTable ⌝ }
     ensures { λ r. ⌜ r ≡ textAt (now (file .entry)) at ⌝ }
 {
-    match heads::head_at(file, at) {
+    match heads::head_at(leads, file, at) {
         Head::Cut => Text::Refused(refusal::CUT_SHORT),
         Head::At(n, p) => match body_at(file, n, p) {
             Walk::Refused(e) => Text::Refused(e),
@@ -99,13 +110,14 @@ pub fn text_at(file: &[u8], at: usize) -> Text
 }
 
 // The key that starts at a place.
-pub fn key_at(file: &[u8], at: usize) -> Text
+fn key_at(leads: &[u8; 256], file: &[u8], at: usize) -> Text
+    requires { ⌜ now leads ≡ leadTable ⌝ }
     ensures { λ r. ⌜ r ≡ keyAt (now (file .entry)) at ⌝ }
 {
-    match heads::kind_at(file, at) {
+    match heads::kind_at(leads, file, at) {
         Kind::Missing => Text::Refused(refusal::CUT_SHORT),
         Kind::Outside => Text::Refused(refusal::LEAD_BYTE_UNKNOWN),
-        Kind::Str => text_at(file, at),
+        Kind::Str => text_at(leads, file, at),
         Kind::Unsigned => Text::Refused(refusal::KEY_NOT_STRING),
         Kind::Signed => Text::Refused(refusal::KEY_NOT_STRING),
         Kind::Float => Text::Refused(refusal::KEY_NOT_STRING),
@@ -132,11 +144,39 @@ pub fn same_bytes(x: &[u8], y: &[u8]) -> bool
     true
 }
 
+// The value at a place if it holds no others.
+fn leaf_at(leads: &[u8; 256], file: &[u8], at: usize) -> Leaf
+    requires { ⌜ now leads ≡ leadTable ⌝ }
+    ensures { λ r. ⌜ r ≡ leafAt (now (file .entry)) at ⌝ }
+{
+    match heads::kind_at(leads, file, at) {
+        Kind::Missing => Leaf::Refused(refusal::CUT_SHORT),
+        Kind::Outside => Leaf::Refused(refusal::LEAD_BYTE_UNKNOWN),
+        Kind::Unsigned => as_leaf(integer_at(leads, file, at)),
+        Kind::Signed => as_leaf(plain_at(leads, file, at)),
+        Kind::Float => as_leaf(plain_at(leads, file, at)),
+        Kind::Bin => as_leaf(binary_at(leads, file, at)),
+        Kind::Str => as_leaf(string_at(leads, file, at)),
+        Kind::Array => Leaf::Array,
+        Kind::Map => Leaf::Map,
+    }
+}
+
+fn as_leaf(walk: Walk) -> Leaf
+    ensures { λ r. ⌜ r ≡ leafOf walk ⌝ }
+{
+    match walk {
+        Walk::End(p) => Leaf::End(p),
+        Walk::Refused(e) => Leaf::Refused(e),
+    }
+}
+
 // An integer by an unsigned head.
-fn integer_at(file: &[u8], at: usize) -> Walk
+fn integer_at(leads: &[u8; 256], file: &[u8], at: usize) -> Walk
+    requires { ⌜ now leads ≡ leadTable ⌝ }
     ensures { λ r. ⌜ r ≡ integerAt (now (file .entry)) at ⌝ }
 {
-    match heads::head_at(file, at) {
+    match heads::head_at(leads, file, at) {
         Head::Cut => Walk::Refused(refusal::CUT_SHORT),
         Head::At(n, p) => {
             if n <= INTEGER_LIMIT {
@@ -149,41 +189,44 @@ fn integer_at(file: &[u8], at: usize) -> Walk
 }
 
 // A value that is its head alone: an integer by a signed head, or a float.
-fn plain_at(file: &[u8], at: usize) -> Walk
+fn plain_at(leads: &[u8; 256], file: &[u8], at: usize) -> Walk
+    requires { ⌜ now leads ≡ leadTable ⌝ }
     ensures { λ r. ⌜ r ≡ plainAt (now (file .entry)) at ⌝ }
 {
-    match heads::head_at(file, at) {
+    match heads::head_at(leads, file, at) {
         Head::Cut => Walk::Refused(refusal::CUT_SHORT),
         Head::At(_, p) => Walk::End(p),
     }
 }
 
-fn binary_at(file: &[u8], at: usize) -> Walk
+fn binary_at(leads: &[u8; 256], file: &[u8], at: usize) -> Walk
+    requires { ⌜ now leads ≡ leadTable ⌝ }
     ensures { λ r. ⌜ r ≡ binaryAt (now (file .entry)) at ⌝ }
 {
-    match heads::head_at(file, at) {
+    match heads::head_at(leads, file, at) {
         Head::Cut => Walk::Refused(refusal::CUT_SHORT),
         Head::At(n, p) => body_at(file, n, p),
     }
 }
 
-fn string_at(file: &[u8], at: usize) -> Walk
+fn string_at(leads: &[u8; 256], file: &[u8], at: usize) -> Walk
+    requires { ⌜ now leads ≡ leadTable ⌝ }
     ensures { λ r. ⌜ r ≡ stringAt (now (file .entry)) at ⌝ }
 {
-    match text_at(file, at) {
+    match text_at(leads, file, at) {
         Text::Refused(e) => Walk::Refused(e),
         Text::At(p, n) => Walk::End(p + n),
     }
 }
 
 // The walk of the outer map, with the tables of keys, and nothing after it.
-fn outer(file: &[u8]) -> u8
-    requires { ⌜ length (now file) ≤ fileLimit ⌝ }
+fn outer(leads: &[u8; 256], file: &[u8]) -> u8
+    requires { ⌜ (now leads ≡ leadTable) × (length (now file) ≤ fileLimit) ⌝ }
     ensures { λ r. ⌜ r ≡ ended (now (file .entry)) (valueAt (now (file .entry)) nestingLimit 0) ⌝ }
 {
     let mut starts = no_starts();
     let mut prints = no_prints();
-    match value(file, 0, NESTING_LIMIT, &mut starts, &mut prints) {
+    match value(leads, file, 0, NESTING_LIMIT, &mut starts, &mut prints) {
         Walk::Refused(e) => e,
         Walk::End(p) => {
             if p == file.len() {
@@ -209,46 +252,63 @@ fn no_prints() -> [u64; 3072]
 
 // The value at a place, with so many levels left. It leaves alone the rows of the maps that are open.
 fn value(
+    leads: &[u8; 256],
     file: &[u8],
     at: usize,
     depth: usize,
     starts: &mut [u32; 3072],
     prints: &mut [u64; 3072],
 ) -> Walk
-    requires { ⌜ Free (now file) depth (now starts) (now prints) ⌝ }
+    requires { ⌜ Free (now leads) (now file) depth (now starts) (now prints) ⌝ }
     ensures { λ r. ⌜ Walked (valueAt (now (file .entry)) depth at) depth (now (starts .entry)) (now (prints .entry)) r (now (starts .exit)) (now (prints .exit)) ⌝ }
 {
-    match heads::kind_at(file, at) {
-        Kind::Missing => Walk::Refused(refusal::CUT_SHORT),
-        Kind::Outside => Walk::Refused(refusal::LEAD_BYTE_UNKNOWN),
-        Kind::Unsigned => integer_at(file, at),
-        Kind::Signed => plain_at(file, at),
-        Kind::Float => plain_at(file, at),
-        Kind::Bin => binary_at(file, at),
-        Kind::Str => string_at(file, at),
-        Kind::Array => {
+    match leaf_at(leads, file, at) {
+        Leaf::End(p) => Walk::End(p),
+        Leaf::Refused(e) => Walk::Refused(e),
+        Leaf::Array => {
             if depth == 0 {
                 return Walk::Refused(refusal::NESTED_TOO_DEEP);
             }
-            match heads::head_at(file, at) {
+            match heads::head_at(leads, file, at) {
                 Head::Cut => Walk::Refused(refusal::CUT_SHORT),
-                Head::At(n, p) => array(file, n, p, depth - 1, starts, prints),
+                Head::At(n, p) => array(leads, file, n, p, depth - 1, starts, prints),
             }
         }
-        Kind::Map => {
+        Leaf::Map => {
             if depth == 0 {
                 return Walk::Refused(refusal::NESTED_TOO_DEEP);
             }
-            match heads::head_at(file, at) {
+            match heads::head_at(leads, file, at) {
                 Head::Cut => Walk::Refused(refusal::CUT_SHORT),
-                Head::At(n, p) => map(file, n, p, depth - 1, starts, prints),
+                Head::At(n, p) => map(leads, file, n, p, depth - 1, starts, prints),
             }
         }
     }
 }
 
+// The value at a place, as `value` has it; one that holds no others is walked here, so that a loop over values calls no function for it.
+fn element(
+    leads: &[u8; 256],
+    file: &[u8],
+    at: usize,
+    depth: usize,
+    starts: &mut [u32; 3072],
+    prints: &mut [u64; 3072],
+) -> Walk
+    requires { ⌜ Free (now leads) (now file) depth (now starts) (now prints) ⌝ }
+    ensures { λ r. ⌜ Walked (valueAt (now (file .entry)) depth at) depth (now (starts .entry)) (now (prints .entry)) r (now (starts .exit)) (now (prints .exit)) ⌝ }
+{
+    match leaf_at(leads, file, at) {
+        Leaf::End(p) => Walk::End(p),
+        Leaf::Refused(e) => Walk::Refused(e),
+        Leaf::Array => value(leads, file, at, depth, starts, prints),
+        Leaf::Map => value(leads, file, at, depth, starts, prints),
+    }
+}
+
 // The n values of an array from a place on, each with so many levels left.
 fn array(
+    leads: &[u8; 256],
     file: &[u8],
     n: usize,
     at: usize,
@@ -256,13 +316,13 @@ fn array(
     starts: &mut [u32; 3072],
     prints: &mut [u64; 3072],
 ) -> Walk
-    requires { ⌜ Free (now file) depth (now starts) (now prints) ⌝ }
+    requires { ⌜ Free (now leads) (now file) depth (now starts) (now prints) ⌝ }
     ensures { λ r. ⌜ Walked (manyAt (valueAt (now (file .entry)) depth) n at) depth (now (starts .entry)) (now (prints .entry)) r (now (starts .exit)) (now (prints .exit)) ⌝ }
 {
     let mut left = n;
     let mut p = at;
     while 0 < left {
-        match value(file, p, depth, starts, prints) {
+        match element(leads, file, p, depth, starts, prints) {
             Walk::End(q) => {
                 p = q;
             }
@@ -277,6 +337,7 @@ fn array(
 
 // The n entries of a map from a place on, each value with so many levels left. Its keys stand in the 256 rows from depth * 256 on.
 fn map(
+    leads: &[u8; 256],
     file: &[u8],
     n: usize,
     at: usize,
@@ -284,7 +345,7 @@ fn map(
     starts: &mut [u32; 3072],
     prints: &mut [u64; 3072],
 ) -> Walk
-    requires { ⌜ Free (now file) (depth + 1) (now starts) (now prints) ⌝ }
+    requires { ⌜ Free (now leads) (now file) (depth + 1) (now starts) (now prints) ⌝ }
     ensures { λ r. ⌜ Walked (entriesAt (now (file .entry)) (valueAt (now (file .entry)) depth) n at) (depth + 1) (now (starts .entry)) (now (prints .entry)) r (now (starts .exit)) (now (prints .exit)) ⌝ }
 {
     if ENTRY_LIMIT < n {
@@ -295,7 +356,7 @@ fn map(
     let mut row = base;
     let mut p = at;
     while row < end {
-        match new_key(file, p, base, row, starts, prints) {
+        match new_key(leads, file, p, base, row, starts, prints) {
             Walk::End(q) => {
                 p = q;
             }
@@ -303,7 +364,7 @@ fn map(
                 return Walk::Refused(e);
             }
         }
-        match value(file, p, depth, starts, prints) {
+        match element(leads, file, p, depth, starts, prints) {
             Walk::End(q) => {
                 p = q;
             }
@@ -318,6 +379,7 @@ fn map(
 
 // The key at a place, which is none of those in the rows from base up to end, and now stands in the row after them.
 fn new_key(
+    leads: &[u8; 256],
     file: &[u8],
     at: usize,
     base: usize,
@@ -325,10 +387,10 @@ fn new_key(
     starts: &mut [u32; 3072],
     prints: &mut [u64; 3072],
 ) -> Walk
-    requires { ⌜ Rows (now file) base end (now starts) (now prints) ⌝ }
+    requires { ⌜ (now leads ≡ leadTable) × Rows (now file) base end (now starts) (now prints) ⌝ }
     ensures { λ r. ⌜ Noted (now (file .entry)) at base end (now (starts .entry)) (now (prints .entry)) r (now (starts .exit)) (now (prints .exit)) ⌝ }
 {
-    match key_at(file, at) {
+    match key_at(leads, file, at) {
         Text::Refused(e) => Walk::Refused(e),
         Text::At(a, m) => {
             let print = print_of(file, a, m);

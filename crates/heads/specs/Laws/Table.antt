@@ -1,30 +1,32 @@
--- Tables of 256 rows: one that is a function, row by row; and what holds of every row of lead bytes.
+-- The table of lead bytes: its rows, and that kind and head by it are those of the lead-byte rule.
 -- Assumes nothing.
 use mathlib.Core.Path.{_≡_, refl, sym, ap, _∙_}
 use mathlib.Core.Bool.{Bool, true, false, cond, _&&_, _||_}
 use mathlib.Core.List.{List, [], _∷_}
-use Prim.Native.Nat.{ℕ, zero, suc, _+_, _<_, _≤_}
+use Prim.Native.Nat.{ℕ, zero, suc, _+_, _-_, _*_, _/_, _%_, _<_, _≤_}
 use native.Mathlib.Omega.{arith}
 use native.Mathlib.Nat.{add-zero, zero-add, add-suc, suc-add, le-of-suc-le-suc, not-suc-le-zero}
-use lib.Dec.{leb, eqb}
-use lib.ListN.{getD}
-use borrow.Author.Tests.{leb-true, eqb-true}
-use Rattle.heads.specs.Lead.{Row, row, leadBytes, among, rowIn, kindOf, moreOf}
-use Rattle.heads.specs.Table.{kindNumber, kindFrom}
+use lib.Arith.{digits-div, digits-mod}
+use lib.Dec.{ltb, leb, eqb}
+use lib.ListN.{length, getD, take, drop}
+use borrow.Author.Tests.{leb-true, eqb-true, ltb-true, ltb-false, lt-ltb, le-ltb}
+use Rattle.numbers.specs.BigEndian.{Bytes, unsignedAt}
+use Rattle.numbers.specs.Laws.BigEndian.{unsignedAt-in, byte-at}
+use Rattle.heads.specs.Lead.{Row, row, leadBytes, among, rowIn, kindOf, moreOf, heldBy}
+use Rattle.heads.specs.Head.{kindAt, headNumber, headFrom, headAt}
+use Rattle.heads.specs.Table.{kindNumber, kindFrom, rowNumber, valuesFrom, leadTable, kindBy, sizedNumber, sizedHead, headBy}
 use Rattle.heads.specs.declared.Kind.{Kind}
+use Rattle.heads.specs.declared.Head.{Head}
 
--- the n values of f from i on
-abbrev pub rows : (ℕ → ℕ) → ℕ → ℕ → List ℕ
-rows f i zero = []
-rows f i (suc n) = f i ∷ rows f (suc i) n
+-- rows that are the values of a function
 
-rows-from : (f : ℕ → ℕ) (i n k : ℕ) → k < n → getD (rows f i n) k 0 ≡ f (i + k)
+rows-from : (f : ℕ → ℕ) (i n k : ℕ) → k < n → getD (valuesFrom f i n) k 0 ≡ f (i + k)
 rows-from f i zero k h = absurd (not-suc-le-zero h)
 rows-from f i (suc n) zero h = ap f (sym (add-zero i))
 rows-from f i (suc n) (suc k) h = rows-from f (suc i) n k (le-of-suc-le-suc h) ∙ ap f (suc-add i k ∙ sym (add-suc i k))
 
 -- the row at k is the value at k
-pub rows-at : (f : ℕ → ℕ) (n k : ℕ) → k < n → getD (rows f 0 n) k 0 ≡ f k
+pub rows-at : (f : ℕ → ℕ) (n k : ℕ) → k < n → getD (valuesFrom f 0 n) k 0 ≡ f k
 rows-at f n k h = rows-from f 0 n k h ∙ ap f (zero-add k)
 
 -- what each row of lead bytes passes, and the row for none, the row of any byte passes
@@ -40,6 +42,14 @@ row-passes test b (r ∷ rs) o h = go (test r) refl (among b r) h (row-passes te
     go true e true k rest = e
     go true e false k rest = rest k
     go false e c k rest = let z : _≡_ {A = ℕ} 0 1 = cc in absurd (omega arith)
+
+ranges : ℕ → ℕ
+ranges b = cond (ltb b 0x80) b (cond (ltb b 0xa0) (b % 16) (cond (ltb b 0xc0) (b % 32) (cond (ltb b 0xe0) 0 (b % 32))))
+
+-- computed over all 256 rows
+held-table : valuesFrom heldBy 0 256 ≡ valuesFrom ranges 0 256
+unfolding heldBy ranges
+held-table = refl
 
 -- at most four bytes follow a lead byte
 pub moreOf-bound : (b : ℕ) → moreOf b ≤ 4
@@ -77,7 +87,73 @@ number-kind Kind.Bin h = refl
 number-kind Kind.Array h = refl
 number-kind Kind.Map h = refl
 
--- the kind of a lead byte, by its number in the table
-pub kind-by-number : (b : ℕ) {n : ℕ} → n ≡ kindNumber (kindOf b) → kindFrom n ≡ kindOf b
+kind-named : (b : ℕ) → kindFrom (kindNumber (kindOf b)) ≡ kindOf b
 unfolding kindOf
-kind-by-number b e = ap kindFrom e ∙ number-kind _ (row-passes (λ r. present (r .kind)) b leadBytes refl refl)
+kind-named b = number-kind _ (row-passes (λ r. present (r .kind)) b leadBytes refl refl)
+
+-- the table of lead bytes
+
+module _ (b : ℕ) (byte : b < 256) where
+  row-is : getD leadTable b 0 ≡ rowNumber b
+  unfolding leadTable
+  row-is = rows-at rowNumber 256 b byte
+
+  row-kind : kindFrom (getD leadTable b 0 / 8) ≡ kindOf b
+  row-kind =
+      let q : (kindNumber (kindOf b) * 8 + (moreOf b + 1)) / 8 ≡ kindNumber (kindOf b) = digits-div (kindNumber (kindOf b)) (omega (arith, moreOf-bound b)) in
+      rw (row-is, q) (kind-named b)
+
+  row-size : getD leadTable b 0 % 8 ≡ moreOf b + 1
+  row-size = rw row-is (digits-mod (kindNumber (kindOf b)) (omega (arith, moreOf-bound b)))
+
+-- what a lead byte holds, in ranges
+pub held-ranges : (b : ℕ) → b < 256 → heldBy b ≡ cond (ltb b 0x80) b (cond (ltb b 0xa0) (b % 16) (cond (ltb b 0xc0) (b % 32) (cond (ltb b 0xe0) 0 (b % 32))))
+unfolding ranges
+held-ranges b h = sym (rows-at heldBy 256 b h) ∙ ap (λ (l : List ℕ). getD l b 0) held-table ∙ rows-at ranges 256 b h
+
+-- by the table of lead bytes, kind and head are those of the lead-byte rule
+
+module _ (s : List ℕ) (bytes : Bytes s) (at : ℕ) where
+  pub kindBy-leads : kindBy leadTable s at ≡ kindAt s at
+  unfolding kindBy kindAt
+  kindBy-leads = go (ltb at (length s)) refl
+    where
+      go : (t : Bool) → ltb at (length s) ≡ t → cond t (kindFrom (getD leadTable (getD s at 0) 0 / 8)) Kind.Missing ≡ cond t (kindOf (getD s at 0)) Kind.Missing
+      go true e = row-kind (getD s at 0) (byte-at s bytes at (ltb-true at (length s) e))
+      go false e = refl
+
+  sized : (y : ℕ) → moreOf (getD s at 0) ≡ y → at + 1 + y ≤ length s → sizedNumber s (getD s at 0) at (y + 1) ≡ headNumber s (getD s at 0) y (at + 1)
+  sized zero e le = refl
+  sized (suc zero) e le = unsignedAt-in 1 s (at + 1) le
+  sized (suc (suc zero)) e le = unsignedAt-in 2 s (at + 1) le
+  sized (suc (suc (suc y))) e le =
+      let four : suc (suc (suc y)) ≡ 4 = sym e ∙ moreOf-four (getD s at 0) (omega arith) in
+      rw four (unsignedAt-in 4 s (at + 1) (omega arith))
+
+  pub headBy-leads : headBy leadTable s at ≡ headAt s at
+  unfolding headBy headAt
+  headBy-leads = go (ltb at (length s)) refl
+    where
+      b : ℕ
+      b = getD s at 0
+
+      whole : (t : Bool) → ltb (length s - (at + 1)) (moreOf b) ≡ t → at < length s → sizedHead s b at (moreOf b + 1) ≡ cond t Head.Cut (Head.At (headNumber s b (moreOf b) (at + 1)) (at + 1 + moreOf b))
+      whole true e lt = rw (lt-ltb (length s - at) (moreOf b + 1) (omega (arith, ltb-true (length s - (at + 1)) (moreOf b) e)))
+      whole false e lt =
+          let le : moreOf b ≤ length s - (at + 1) = ltb-false (length s - (at + 1)) (moreOf b) e in
+          let i : at + (moreOf b + 1) ≡ at + 1 + moreOf b = omega arith in
+          rw (le-ltb (length s - at) (moreOf b + 1) (omega arith), sized (moreOf b) refl (omega arith), i)
+
+      go : (t : Bool) → ltb at (length s) ≡ t → cond t (sizedHead s b at (getD leadTable b 0 % 8)) Head.Cut ≡ cond t (headFrom s b (moreOf b) (at + 1)) Head.Cut
+      go true e =
+          let lt : at < length s = ltb-true at (length s) e in
+          ap (sizedHead s b at) (row-size b (byte-at s bytes at lt)) ∙ whole (ltb (length s - (at + 1)) (moreOf b)) refl lt
+      go false e = refl
+
+-- the same of an answer by a table that is the table of lead bytes
+module _ (s : List ℕ) (bytes : Bytes s) (at : ℕ) {table : List ℕ} where
+  pub kind-rule : {r : Kind} → r ≡ kindBy table s at → table ≡ leadTable → r ≡ kindAt s at
+  kind-rule e t = e ∙ ap (λ (l : List ℕ). kindBy l s at) t ∙ kindBy-leads s bytes at
+
+  pub head-rule : {r : Head} → r ≡ headBy table s at → table ≡ leadTable → r ≡ headAt s at
+  head-rule e t = e ∙ ap (λ (l : List ℕ). headBy l s at) t ∙ headBy-leads s bytes at

@@ -9,31 +9,31 @@ returns : tie.Need-returns
 returns c = sym (file-over _ (c .if1 .taken))
 
 returns-2 : tie.Need-returns-2
-returns-2 c = sym (file-by _ (c .before .before .before .if1 .left) (sym (c .before .before .kind-at .ensures) ∙ c .enum-told .given .1))
+returns-2 c = sym (file-by _ (c .before .before .before .before .before .if1 .left) (sym (c .before .before .kind-at .ensures .1 (c .before .before .before .before .leads .ensures)) ∙ c .enum-told .given .1))
 
 returns-3 : tie.Need-returns-3
-returns-3 c = sym (file-by _ (c .before .before .before .if1 .left) (sym (c .before .before .kind-at .ensures) ∙ c .enum-told2 .given .1))
+returns-3 c = sym (file-by _ (c .before .before .before .before .before .if1 .left) (sym (c .before .before .kind-at .ensures .1 (c .before .before .before .before .leads .ensures)) ∙ c .enum-told2 .given .1))
 
 returns-4 : tie.Need-returns-4
-returns-4 c = c .outer .ensures ∙ sym (file-by _ (c .before .before .before .before .if1 .left) (sym (c .before .before .before .kind-at .ensures) ∙ c .before .enum-told3 .given .1))
+returns-4 c = c .outer .ensures ∙ sym (file-by _ (c .before .before .before .before .before .before .before .if1 .left) (sym (c .before .before .before .before .kind-at .ensures .1 (c .before .before .before .before .before .before .leads .ensures)) ∙ c .before .before .enum-told3 .given .1))
 
 returns-5 : tie.Need-returns-5
-returns-5 c = sym (file-by _ (c .before .before .before .if1 .left) (sym (c .before .before .kind-at .ensures) ∙ c .enum-told4 .given .1))
+returns-5 c = sym (file-by _ (c .before .before .before .before .before .if1 .left) (sym (c .before .before .kind-at .ensures .1 (c .before .before .before .before .leads .ensures)) ∙ c .enum-told4 .given .1))
 
 returns-6 : tie.Need-returns-6
-returns-6 c = sym (file-by _ (c .before .before .before .if1 .left) (sym (c .before .before .kind-at .ensures) ∙ c .enum-told5 .given .1))
+returns-6 c = sym (file-by _ (c .before .before .before .before .before .if1 .left) (sym (c .before .before .kind-at .ensures .1 (c .before .before .before .before .leads .ensures)) ∙ c .enum-told5 .given .1))
 
 returns-7 : tie.Need-returns-7
-returns-7 c = sym (file-by _ (c .before .before .before .if1 .left) (sym (c .before .before .kind-at .ensures) ∙ c .enum-told6 .given .1))
+returns-7 c = sym (file-by _ (c .before .before .before .before .before .if1 .left) (sym (c .before .before .kind-at .ensures .1 (c .before .before .before .before .leads .ensures)) ∙ c .enum-told6 .given .1))
 
 returns-8 : tie.Need-returns-8
-returns-8 c = sym (file-by _ (c .before .before .before .if1 .left) (sym (c .before .before .kind-at .ensures) ∙ c .enum-told7 .given .1))
+returns-8 c = sym (file-by _ (c .before .before .before .before .before .if1 .left) (sym (c .before .before .kind-at .ensures .1 (c .before .before .before .before .leads .ensures)) ∙ c .enum-told7 .given .1))
 
 returns-9 : tie.Need-returns-9
-returns-9 c = sym (file-by _ (c .before .before .before .if1 .left) (sym (c .before .before .kind-at .ensures) ∙ c .enum-told8 .given .1))
+returns-9 c = sym (file-by _ (c .before .before .before .before .before .if1 .left) (sym (c .before .before .kind-at .ensures .1 (c .before .before .before .before .leads .ensures)) ∙ c .enum-told8 .given .1))
 
 returns-10 : tie.Need-returns-10
-returns-10 c = sym (file-by _ (c .before .before .before .if1 .left) (sym (c .before .before .kind-at .ensures) ∙ c .enum-told9 .given .1))
+returns-10 c = sym (file-by _ (c .before .before .before .before .before .if1 .left) (sym (c .before .before .kind-at .ensures .1 (c .before .before .before .before .leads .ensures)) ∙ c .enum-told9 .given .1))
 
 pub first-fault-spec : {M : Type 1} → statement M
 first-fault-spec =
@@ -41,10 +41,11 @@ first-fault-spec =
     (tie.spec
     returns
     (λ c κs. search needs)
-    (λ c. search needs)
-    (λ c. search needs)
-    (λ c. search needs)
     (λ c κs. search needs)
+    (λ c. search needs)
+    (λ c. search needs)
+    (λ c. search needs)
+    (λ c κs. (c .before .before .before .before .before .leads .ensures, c .before .before .before .before .before .before .if1 .left))
     (λ c. search needs)
     (λ c. search needs)
     (λ c. search needs)

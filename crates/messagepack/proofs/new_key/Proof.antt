@@ -10,11 +10,11 @@ use Rattle.messagepack.proofs.new_key.Statement.{statement}
 use Rattle.messagepack.proofs.new_key.Tie as tie
 
 print-of-requires : tie.Need-print-of-requires
-print-of-requires c κs = (c .before .before .before .before .before .pre .small, text-is _ _ (key-is _ _ (sym (c .before .before .before .key-at .ensures) ∙ c .before .a .given .1) .1) .inside)
+print-of-requires c κs = (c .before .before .before .before .before .pre .1 .small, text-is _ _ (key-is _ _ (sym (c .before .before .before .key-at .ensures) ∙ c .before .a .given .1) .1) .inside)
 
 seen-requires : tie.Need-seen-requires
 seen-requires c κs = record {
-  rows = c .before .before .before .before .before .before .before .before .pre;
+  rows = c .before .before .before .before .before .before .before .before .pre .1;
   inside = text-is _ _ (key-is _ _ (sym (c .before .before .before .before .before .before .key-at .ensures) ∙ c .before .before .before .before .a .given .1) .1) .inside;
   is = c .before .before .print-of .ensures .0;
   sized = c .before .before .print-of .ensures .1;
@@ -24,10 +24,10 @@ returns : tie.Need-returns
 returns c = repeated (sym (c .before .before .before .before .before .before .before .before .key-at .ensures) ∙ c .before .before .before .before .before .before .a .given .1) (sym (c .before .seen .ensures) ∙ c .if1 .taken)
 
 cast-starts : tie.Need-cast-starts
-cast-starts c = omega (arith, c .before .before .before .before .before .before .before .before .before .before .pre .small, text-is _ _ (key-is _ _ (sym (c .before .before .before .before .before .before .before .before .key-at .ensures) ∙ c .before .before .before .before .before .before .a .given .1) .1) .inside)
+cast-starts c = omega (arith, c .before .before .before .before .before .before .before .before .before .before .pre .1 .small, text-is _ _ (key-is _ _ (sym (c .before .before .before .before .before .before .before .before .key-at .ensures) ∙ c .before .before .before .before .before .before .a .given .1) .1) .inside)
 
-add-t17 : tie.Need-add-t17
-add-t17 c = omega (arith, c .before .before .before .before .before .before .before .before .before .before .pre .small, text-is _ _ (key-is _ _ (sym (c .before .before .before .before .before .before .before .before .key-at .ensures) ∙ c .before .before .before .before .before .before .a .given .1) .1) .inside)
+add-t18 : tie.Need-add-t18
+add-t18 c = omega (arith, c .before .before .before .before .before .before .before .before .before .before .pre .1 .small, text-is _ _ (key-is _ _ (sym (c .before .before .before .before .before .before .before .before .key-at .ensures) ∙ c .before .before .before .before .before .before .a .given .1) .1) .inside)
 
 returns-2 : tie.Need-returns-2
 returns-2 c = refused (sym (c .before .before .before .key-at .ensures) ∙ c .before .e .given .1)
@@ -36,23 +36,23 @@ returns-3 : tie.Need-returns-3
 returns-3 c =
     noted (sym (c .before .before .before .before .before .before .before .before .key-at .ensures) ∙ c .before .before .before .before .before .before .a .given .1) (sym (c .before .seen .ensures) ∙ c .if1 .left)
     record {
-      rows = c .before .before .before .before .before .before .before .before .before .before .pre;
+      rows = c .before .before .before .before .before .before .before .before .before .before .pre .1;
       inside = text-is _ _ (key-is _ _ (sym (c .before .before .before .before .before .before .before .before .key-at .ensures) ∙ c .before .before .before .before .before .before .a .given .1) .1) .inside;
       is = c .before .before .before .before .print-of .ensures .0;
       sized = c .before .before .before .before .print-of .ensures .1;
     }
 
 mul-starts : tie.Need-mul-starts
-mul-starts c = omega (arith, c .before .before .before .before .before .before .before .before .before .before .pre .room)
+mul-starts c = omega (arith, c .before .before .before .before .before .before .before .before .before .before .pre .1 .room)
 
 element-write-starts : tie.Need-element-write-starts
-element-write-starts c = omega (arith, c .before .before .before .before .before .before .before .before .before .before .pre .room)
+element-write-starts c = omega (arith, c .before .before .before .before .before .before .before .before .before .before .pre .1 .room)
 
 mul-prints : tie.Need-mul-prints
-mul-prints c = omega (arith, c .before .before .before .before .before .before .before .before .before .before .pre .room)
+mul-prints c = omega (arith, c .before .before .before .before .before .before .before .before .before .before .pre .1 .room)
 
 element-write-prints : tie.Need-element-write-prints
-element-write-prints c = omega (arith, c .before .before .before .before .before .before .before .before .before .before .pre .room)
+element-write-prints c = omega (arith, c .before .before .before .before .before .before .before .before .before .before .pre .1 .room)
 
 pub new-key-spec : {M : Type 1} → statement M
 new-key-spec =
@@ -69,6 +69,6 @@ new-key-spec =
     element-write-starts
     mul-prints
     element-write-prints
-    add-t17
+    add-t18
     returns-2
     returns-3)

@@ -20,22 +20,22 @@ part-is-utf8-end : tie.Need-part-is-utf8-end
 part-is-utf8-end c = omega (arith, body-end _ _ _ (sym (c .before .before .before .body-at .ensures) ∙ c .before .end .given .1))
 
 returns : tie.Need-returns
-returns c = sym (text-cut _ _ (sym (c .before .before .head-at .ensures) ∙ c .enum-told .given .1))
+returns c = sym (text-cut _ _ (sym (c .before .before .head-at .ensures .1 (c .before .before .before .before .pre)) ∙ c .enum-told .given .1))
 
 returns-2 : tie.Need-returns-2
-returns-2 c = sym (text-short _ _ (sym (c .before .before .before .before .before .before .before .head-at .ensures) ∙ c .before .before .before .before .before .n .given .1) (sym (c .before .before .before .body-at .ensures) ∙ c .before .e .given .1))
+returns-2 c = sym (text-short _ _ (sym (c .before .before .before .before .before .before .before .head-at .ensures .1 (c .before .before .before .before .before .before .before .before .before .pre)) ∙ c .before .before .before .before .before .n .given .1) (sym (c .before .before .before .body-at .ensures) ∙ c .before .e .given .1))
 
 returns-3 : tie.Need-returns-3
 returns-3 c =
     let e = body-end _ _ _ (sym (c .before .before .before .before .before .before .body-at .ensures) ∙ c .before .before .before .before .end .given .1) in
     let size : c .before .before .before .before .end .given .0 .0 - c .before .before .before .before .before .before .before .before .n .given .0 .1 .0 ≡ c .before .before .before .before .before .before .before .before .n .given .0 .0 = omega arith in
-    sym (text-tested _ _ true (sym (c .before .before .before .before .before .before .before .before .before .before .head-at .ensures) ∙ c .before .before .before .before .before .before .before .before .n .given .1) (sym (c .before .before .before .before .before .before .body-at .ensures) ∙ c .before .before .before .before .end .given .1) (ap (λ (k : ℕ). isUtf8 (take k (drop (c .before .before .before .before .before .before .before .before .n .given .0 .1 .0) (c .before .before .before .before .before .before .before .before .before .before .before .before .args .file .now)))) (sym size) ∙ sym (c .before .is-utf8 .ensures .0) ∙ c .if1 .taken))
+    sym (text-tested _ _ true (sym (c .before .before .before .before .before .before .before .before .before .before .head-at .ensures .1 (c .before .before .before .before .before .before .before .before .before .before .before .before .pre)) ∙ c .before .before .before .before .before .before .before .before .n .given .1) (sym (c .before .before .before .before .before .before .body-at .ensures) ∙ c .before .before .before .before .end .given .1) (ap (λ (k : ℕ). isUtf8 (take k (drop (c .before .before .before .before .before .before .before .before .n .given .0 .1 .0) (c .before .before .before .before .before .before .before .before .before .before .before .before .args .file .now)))) (sym size) ∙ sym (c .before .is-utf8 .ensures .0) ∙ c .if1 .taken))
 
 returns-4 : tie.Need-returns-4
 returns-4 c =
     let e = body-end _ _ _ (sym (c .before .before .before .before .before .before .body-at .ensures) ∙ c .before .before .before .before .end .given .1) in
     let size : c .before .before .before .before .end .given .0 .0 - c .before .before .before .before .before .before .before .before .n .given .0 .1 .0 ≡ c .before .before .before .before .before .before .before .before .n .given .0 .0 = omega arith in
-    sym (text-tested _ _ false (sym (c .before .before .before .before .before .before .before .before .before .before .head-at .ensures) ∙ c .before .before .before .before .before .before .before .before .n .given .1) (sym (c .before .before .before .before .before .before .body-at .ensures) ∙ c .before .before .before .before .end .given .1) (ap (λ (k : ℕ). isUtf8 (take k (drop (c .before .before .before .before .before .before .before .before .n .given .0 .1 .0) (c .before .before .before .before .before .before .before .before .before .before .before .before .args .file .now)))) (sym size) ∙ sym (c .before .is-utf8 .ensures .0) ∙ c .if1 .left))
+    sym (text-tested _ _ false (sym (c .before .before .before .before .before .before .before .before .before .before .head-at .ensures .1 (c .before .before .before .before .before .before .before .before .before .before .before .before .pre)) ∙ c .before .before .before .before .before .before .before .before .n .given .1) (sym (c .before .before .before .before .before .before .body-at .ensures) ∙ c .before .before .before .before .end .given .1) (ap (λ (k : ℕ). isUtf8 (take k (drop (c .before .before .before .before .before .before .before .before .n .given .0 .1 .0) (c .before .before .before .before .before .before .before .before .before .before .before .before .args .file .now)))) (sym size) ∙ sym (c .before .is-utf8 .ensures .0) ∙ c .if1 .left))
 
 pub text-at-spec : {M : Type 1} → statement M
 text-at-spec =

@@ -14,6 +14,7 @@ use borrow.Author.Tests.{eq-eqb, ne-eqb}
 use Rattle.refusal.specs.Table.{keyRepeated}
 use Rattle.numbers.specs.BigEndian.{unsignedAt}
 use Rattle.numbers.specs.Laws.BigEndian.{unsignedAt-loads, unsignedAt-out}
+use Rattle.heads.specs.Table.{leadTable}
 use Rattle.heads.specs.Laws.Span.{part-length}
 use Rattle.messagepack.specs.Limits.{fileLimit, nestingLimit, entryLimit}
 use Rattle.messagepack.specs.Walk.{equal, among, keyAt, entriesFrom, entriesAt}
@@ -154,11 +155,11 @@ pub kept-at : {d e : ℕ} {t u : List ℕ} → d ≡ e → Kept d t u → Kept e
 kept-at {d} {e} {t} {u} q k = subst (λ (i : ℕ). Kept i t u) q k
 
 -- a walk with fewer levels left may begin too, and with tables that were kept
-pub free-less : {s : List ℕ} {d e : ℕ} {starts prints : List ℕ} → d ≤ e → Free s e starts prints → Free s d starts prints
-free-less le x = record { small = x .small; levels = omega (arith, x .levels); starts-long = x .starts-long; prints-long = x .prints-long }
+pub free-less : {leads s : List ℕ} {d e : ℕ} {starts prints : List ℕ} → d ≤ e → Free leads s e starts prints → Free leads s d starts prints
+free-less le x = record { small = x .small; table = x .table; levels = omega (arith, x .levels); starts-long = x .starts-long; prints-long = x .prints-long }
 
-pub free-kept : {s : List ℕ} {d : ℕ} {starts prints starts' prints' : List ℕ} → Free s d starts prints → Kept d starts starts' → Kept d prints prints' → Free s d starts' prints'
-free-kept x ks kp = record { small = x .small; levels = x .levels; starts-long = ks .long; prints-long = kp .long }
+pub free-kept : {leads s : List ℕ} {d : ℕ} {starts prints starts' prints' : List ℕ} → Free leads s d starts prints → Kept d starts starts' → Kept d prints prints' → Free leads s d starts' prints'
+free-kept x ks kp = record { small = x .small; table = x .table; levels = x .levels; starts-long = ks .long; prints-long = kp .long }
 
 -- an answer by its case, and one for a value with more levels left
 pub walked-as : {expected : Walk} {d : ℕ} {starts prints starts' prints' : List ℕ} {r q : Walk} → r ≡ q → Walked expected d starts prints r starts' prints' → Walked expected d starts prints q starts' prints'
@@ -180,7 +181,8 @@ kept-set depth i v t l lt = record { long = length-set t i v ∙ l; same = drop-
 -- the loop over a map's entries
 
 -- the rows of the map's level hold its first keys, and the entries from here on decide
-pub record Going (s : List ℕ) (f : ℕ → Walk) (n at depth : ℕ) (starts₀ prints₀ starts prints : List ℕ) (row p : ℕ) : Type 0 where
+pub record Going (leads s : List ℕ) (f : ℕ → Walk) (n at depth : ℕ) (starts₀ prints₀ starts prints : List ℕ) (row p : ℕ) : Type 0 where
+  pub table : leads ≡ leadTable
   pub levels : depth < nestingLimit
   pub small : length s ≤ fileLimit
   pub few : n ≤ entryLimit
@@ -191,13 +193,14 @@ pub record Going (s : List ℕ) (f : ℕ → Walk) (n at depth : ℕ) (starts₀
   pub stored : Stored s (drop (depth * entryLimit) starts) (drop (depth * entryLimit) prints) (row - depth * entryLimit)
   pub goes : entriesAt s f n at ≡ entriesFrom s f (depth * entryLimit + n - row) (keysIn s starts prints (depth * entryLimit) row) p
 
-module _ {s : List ℕ} (f : ℕ → Walk) {n at depth : ℕ} where
-  pub going-first : {starts prints : List ℕ} → Free s (depth + 1) starts prints → n ≤ entryLimit → Going s f n at depth starts prints starts prints (depth * entryLimit) at
+module _ {leads s : List ℕ} (f : ℕ → Walk) {n at depth : ℕ} where
+  pub going-first : {starts prints : List ℕ} → Free leads s (depth + 1) starts prints → n ≤ entryLimit → Going leads s f n at depth starts prints starts prints (depth * entryLimit) at
   unfolding Stored keysOf
   going-first {starts} {prints} x few =
       let e : depth * entryLimit + n - depth * entryLimit ≡ n = omega arith in
       let z : depth * entryLimit - depth * entryLimit ≡ 0 = omega arith in
       record {
+        table = x .table;
         levels = omega (arith, x .levels);
         small = x .small;
         few = few;
@@ -209,7 +212,7 @@ module _ {s : List ℕ} (f : ℕ → Walk) {n at depth : ℕ} where
         goes = rw (e, z) (w.entries-few s f n at few);
       }
 
-  module _ {starts₀ prints₀ starts prints : List ℕ} {row p : ℕ} (g : Going s f n at depth starts₀ prints₀ starts prints row p) where
+  module _ {starts₀ prints₀ starts prints : List ℕ} {row p : ℕ} (g : Going leads s f n at depth starts₀ prints₀ starts prints row p) where
     pub going-last : depth * entryLimit + n ≤ row → Walked (entriesAt s f n at) (depth + 1) starts₀ prints₀ (Walk.End p) starts prints
     going-last le = record {
       answer = sym (g .goes ∙ w.entries-none s f (depth * entryLimit + n - row) p (keysIn s starts prints (depth * entryLimit) row) (omega arith));
@@ -242,9 +245,10 @@ module _ {s : List ℕ} (f : ℕ → Walk) {n at depth : ℕ} where
       }
 
       -- a key that is new: its value may be walked
-      pub going-free : {q : ℕ} {starts' prints' : List ℕ} → Noted s p (depth * entryLimit) row starts prints (Walk.End q) starts' prints' → Free s depth starts' prints'
+      pub going-free : {q : ℕ} {starts' prints' : List ℕ} → Noted s p (depth * entryLimit) row starts prints (Walk.End q) starts' prints' → Free leads s depth starts' prints'
       going-free (noted k b x) = record {
         small = g .small;
+        table = g .table;
         levels = omega (arith, g .levels);
         starts-long = length-set starts row _ ∙ g .starts-kept .long;
         prints-long = length-set prints row _ ∙ g .prints-kept .long;
@@ -266,10 +270,11 @@ module _ {s : List ℕ} (f : ℕ → Walk) {n at depth : ℕ} where
       }
 
       -- its value ends: one entry more is done
-      pub going-next : {q e : ℕ} {starts' prints' starts'' prints'' : List ℕ} → Noted s p (depth * entryLimit) row starts prints (Walk.End q) starts' prints' → Walked (f q) depth starts' prints' (Walk.End e) starts'' prints'' → Going s f n at depth starts₀ prints₀ starts'' prints'' (row + 1) e
+      pub going-next : {q e : ℕ} {starts' prints' starts'' prints'' : List ℕ} → Noted s p (depth * entryLimit) row starts prints (Walk.End q) starts' prints' → Walked (f q) depth starts' prints' (Walk.End e) starts'' prints'' → Going leads s f n at depth starts₀ prints₀ starts'' prints'' (row + 1) e
       going-next (noted k b x) v =
           let d : depth * entryLimit + n - row - 1 ≡ depth * entryLimit + n - (row + 1) = omega arith in
           record {
+            table = g .table;
             levels = g .levels;
             small = g .small;
             few = g .few;

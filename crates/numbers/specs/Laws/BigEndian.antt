@@ -36,6 +36,10 @@ unfolding Bytes
 cons-bytes x xs b h zero lt = b
 cons-bytes x xs b h (suc i) lt = h i (omega arith)
 
+pub byte-at : (s : List ℕ) → Bytes s → (i : ℕ) → i < length s → getD s i 0 < 256
+unfolding Bytes
+byte-at s h i lt = h i lt
+
 -- what is a byte at every place is bytes
 pub bytes-of : (s : List ℕ) → ((i : ℕ) → getD s i 0 < 256) → Bytes s
 unfolding Bytes
