@@ -53,6 +53,21 @@ module _ (s : List ℕ) (at : ℕ) where
       let m : n ≡ numberOf (take (suc y) (drop (at + 1) s)) = i ∙ unsignedAt-in (suc y) s (at + 1) (omega arith) in
       rw (m, j) (sym (head-whole (suc y) (omega arith) (omega arith)))
 
+  -- a head that is read ends after its place, inside
+  pub head-inside : {n p : ℕ} → headAt s at ≡ Head.At n p → (at < p) × (p ≤ length s)
+  unfolding headAt
+  head-inside {n} {p} q = go (ltb at (length s)) refl (ltb (length s - (at + 1)) y) refl q
+    where
+      y : ℕ
+      y = moreOf (getD s at 0)
+
+      go : (t : Bool) → ltb at (length s) ≡ t → (u : Bool) → ltb (length s - (at + 1)) y ≡ u → cond t (cond u Head.Cut (Head.At (headNumber s (getD s at 0) y (at + 1)) (at + 1 + y))) Head.Cut ≡ Head.At n p → (at < p) × (p ≤ length s)
+      go true e true f k = let z : _≡_ {A = ℕ} 0 1 = cc in absurd (omega arith)
+      go false e u f k = let z : _≡_ {A = ℕ} 0 1 = cc in absurd (omega arith)
+      go true e false f k =
+          let j : p ≡ at + 1 + y = cc in
+          (omega arith, omega (arith, ltb-true at (length s) e, ltb-false (length s - (at + 1)) y f))
+
   -- a head that is read: where it is inside, and the head that it is
   pub record Found (n p : ℕ) : Type 0 where
     pub inside : at < length s

@@ -1,0 +1,204 @@
+// Views: the part of a file that shows an outer key's value, for any name and any key of a file that passes as a container.
+ghost use mathlib.Core.Path.{_≡_};
+ghost use mathlib.Core.Logic.{_↔_};
+ghost use Prim.Native.Nat.{ℕ, _-_};
+ghost use lib.ListN.{length};
+ghost use Rattle.heads.specs.Table.{leadTable};
+ghost use Rattle.heads.specs.Head.{headAt};
+ghost use Rattle.views.specs.View.{Viewable, viewNumber, Placed, Viewed};
+ghost use Rattle.views.specs.Skip.{Standing, isText, bodyPlace, ShowsAt, pastOver, pairsOver, Stepped};
+ghost use Rattle.views.specs.Laws.View.{Looking};
+ghost use Rattle.views.specs.declared.Place.{Place};
+
+use heads::Head;
+use heads::Kind;
+
+// Where a part starts and how long it is, or the number of the refusal.
+pub enum Place {
+    At(usize, usize),
+    Refused(u8),
+}
+
+// A step over a value: where it goes on, and how many values are inside; or no value stands there.
+pub enum Over {
+    On(usize, usize),
+    Stop,
+}
+
+// The part of the file that shows the outer key's value; empty on refusal.
+pub fn view<'a>(file: &'a [u8], name: &[u8]) -> &'a [u8]
+    ensures { λ r. ⌜ Viewed (now (file .entry)) (now (name .entry)) (now r) ⌝ }
+{
+    match find(file, name) {
+        Place::At(start, length) => &file[start..start + length],
+        Place::Refused(_) => &file[0..0],
+    }
+}
+
+// The refusal of a view, 1 to 11 or 26, or 0.
+pub fn view_refusal(file: &[u8], name: &[u8]) -> u8
+    ensures number { λ r. ⌜ r ≡ viewNumber (now (file .entry)) (now (name .entry)) ⌝ }
+    ensures exactly { λ r. ⌜ (r ≡ 0) ↔ Viewable (now (file .entry)) (now (name .entry)) ⌝ }
+{
+    match find(file, name) {
+        Place::At(_, _) => refusal::ACCEPTED,
+        Place::Refused(n) => n,
+    }
+}
+
+// The place of the part in the file, or the refusal.
+pub fn find(file: &[u8], name: &[u8]) -> Place
+    ensures { λ r. ⌜ Placed (now (file .entry)) (now (name .entry)) r ⌝ }
+{
+    let number = messagepack::container(file);
+    if number != refusal::ACCEPTED {
+        return Place::Refused(number);
+    }
+    let leads = heads::leads();
+    match heads::head_at(&leads, file, 0) {
+        Head::Cut => Place::Refused(refusal::NO_SUCH_FIELD),
+        Head::At(n, p) => entry(&leads, file, name, n, p),
+    }
+}
+
+// The n entries from a place on: the one with the name.
+fn entry(leads: &[u8; 256], file: &[u8], name: &[u8], n: usize, at: usize) -> Place
+    requires { ⌜ (now leads ≡ leadTable) × Looking (now file) (now name) n at ⌝ }
+    ensures { λ r. ⌜ Placed (now (file .entry)) (now (name .entry)) r ⌝ }
+{
+    let mut left = n;
+    let mut p = at;
+    while 0 < left {
+        let Head::At(m, a) = heads::head_at(leads, file, p) else {
+            return Place::Refused(refusal::NO_SUCH_FIELD);
+        };
+        let value = a + m;
+        if messagepack::same_bytes(&file[a..value], name) {
+            return part(leads, file, value);
+        }
+        p = skip(leads, file, value);
+        left -= 1;
+    }
+    Place::Refused(refusal::NO_SUCH_FIELD)
+}
+
+// The part that shows the value at a place.
+fn part(leads: &[u8; 256], file: &[u8], at: usize) -> Place
+    requires { ⌜ now leads ≡ leadTable ⌝ }
+    ensures { λ r. ⌜ ShowsAt (now (file .entry)) at r ⌝ }
+{
+    if is_text(heads::kind_at(leads, file, at)) {
+        body(leads, file, at)
+    } else {
+        whole(leads, file, at)
+    }
+}
+
+fn is_text(kind: Kind) -> bool
+    ensures { λ r. ⌜ r ≡ isText kind ⌝ }
+{
+    match kind {
+        Kind::Str => true,
+        Kind::Bin => true,
+        Kind::Unsigned => false,
+        Kind::Signed => false,
+        Kind::Float => false,
+        Kind::Array => false,
+        Kind::Map => false,
+        Kind::Outside => false,
+        Kind::Missing => false,
+    }
+}
+
+fn body(leads: &[u8; 256], file: &[u8], at: usize) -> Place
+    requires { ⌜ now leads ≡ leadTable ⌝ }
+    ensures { λ r. ⌜ r ≡ bodyPlace (headAt (now (file .entry)) at) ⌝ }
+{
+    match heads::head_at(leads, file, at) {
+        Head::Cut => Place::Refused(refusal::NO_SUCH_FIELD),
+        Head::At(n, p) => Place::At(p, n),
+    }
+}
+
+fn whole(leads: &[u8; 256], file: &[u8], at: usize) -> Place
+    requires { ⌜ now leads ≡ leadTable ⌝ }
+    ensures { λ r. ⌜ ((e : ℕ) → Standing (now (file .entry)) 1 at e → r ≡ Place.At at (e - at)) ⌝ }
+{
+    let end = skip(leads, file, at);
+    if end < at {
+        return Place::Refused(refusal::NO_SUCH_FIELD);
+    }
+    Place::At(at, end - at)
+}
+
+// Where the value at a place ends. Each value inside takes a byte at least, so that a count that cannot be true ends the loop.
+fn skip(leads: &[u8; 256], file: &[u8], at: usize) -> usize
+    requires { ⌜ now leads ≡ leadTable ⌝ }
+    ensures { λ r. ⌜ ((e : ℕ) → Standing (now (file .entry)) 1 at e → r ≡ e) ⌝ }
+{
+    let mut left: usize = 1;
+    let mut p = at;
+    while 0 < left {
+        let Over::On(q, inside) = step_over(leads, file, p) else {
+            return p;
+        };
+        let others = left - 1;
+        let room = file.len() - q;
+        if room < others {
+            return p;
+        }
+        if room - others < inside {
+            return p;
+        }
+        left = others + inside;
+        p = q;
+    }
+    p
+}
+
+// A step over the head of the value at a place, and the body of a string or a binary.
+fn step_over(leads: &[u8; 256], file: &[u8], at: usize) -> Over
+    requires { ⌜ now leads ≡ leadTable ⌝ }
+    ensures { λ r. ⌜ Stepped (now (file .entry)) at r ⌝ }
+{
+    let Head::At(n, p) = heads::head_at(leads, file, at) else {
+        return Over::Stop;
+    };
+    match heads::kind_at(leads, file, at) {
+        Kind::Missing => Over::Stop,
+        Kind::Outside => Over::Stop,
+        Kind::Unsigned => Over::On(p, 0),
+        Kind::Signed => Over::On(p, 0),
+        Kind::Float => Over::On(p, 0),
+        Kind::Str => past(file, n, p),
+        Kind::Bin => past(file, n, p),
+        Kind::Array => Over::On(p, n),
+        Kind::Map => pairs(file, n, p),
+    }
+}
+
+// A step over n bytes.
+fn past(file: &[u8], n: usize, p: usize) -> Over
+    ensures { λ r. ⌜ r ≡ pastOver (length (now (file .entry))) n p ⌝ }
+{
+    if file.len() < p {
+        return Over::Stop;
+    }
+    if file.len() - p < n {
+        return Over::Stop;
+    }
+    Over::On(p + n, 0)
+}
+
+// A step to n keys and their values.
+fn pairs(file: &[u8], n: usize, p: usize) -> Over
+    ensures { λ r. ⌜ r ≡ pairsOver (length (now (file .entry))) n p ⌝ }
+{
+    if file.len() < p {
+        return Over::Stop;
+    }
+    if (file.len() - p) / 2 < n {
+        return Over::Stop;
+    }
+    Over::On(p, n + n)
+}
