@@ -3,7 +3,7 @@
 use mathlib.Core.Path.{_≡_}
 use mathlib.Core.Bool.{true, false}
 use mathlib.Core.List.{List, [], _∷_}
-use Prim.Native.Nat.{ℕ, zero, suc, _+_, _-_, _*_, _/_, _<_, _≤_}
+use Prim.Native.Nat.{ℕ, zero, suc, _+_, _-_, _*_, _%_, _<_, _≤_}
 use lib.ListN.{length, getD, take, drop, set}
 use Rattle.refusal.specs.Table.{keyRepeated}
 use Rattle.numbers.specs.BigEndian.{unsignedAt}
@@ -17,23 +17,34 @@ use Rattle.messagepack.specs.declared.Text.{Text}
 abbrev pub tableLength : ℕ
 tableLength = 3072
 
--- a key's print: its length, and its last two bytes
+-- a key's print: its length modulo 65,536, and its last two bytes
 unfoldable pub printOf : List ℕ → ℕ
-printOf k = length k * 65536 + unsignedAt 2 k (length k - 2)
+printOf k = length k % 65536 * 65536 + unsignedAt 2 k (length k - 2)
 
--- the keys in the first n rows, the last first
-unfoldable pub keysOf : List ℕ → List ℕ → List ℕ → ℕ → List (List ℕ)
-keysOf s starts prints zero = []
-keysOf s starts prints (suc n) = take (getD prints n 0 / 65536) (drop (getD starts n 0) s) ∷ keysOf s starts prints n
+-- the bytes of a key
+abbrev pub keyBytes : List ℕ → Text → List ℕ
+keyBytes s (Text.At a m) = take m (drop a s)
+keyBytes s (Text.Refused e) = []
+
+-- the keys in the first n rows, the last first: each row has the place where its key starts
+unfoldable pub keysOf : List ℕ → List ℕ → ℕ → List (List ℕ)
+keysOf s starts zero = []
+keysOf s starts (suc n) = keyBytes s (keyAt s (getD starts n 0)) ∷ keysOf s starts n
 
 -- the keys in the rows from base up to end
-abbrev pub keysIn : List ℕ → List ℕ → List ℕ → ℕ → ℕ → List (List ℕ)
-keysIn s starts prints base end = keysOf s (drop base starts) (drop base prints) (end - base)
+abbrev pub keysIn : List ℕ → List ℕ → ℕ → ℕ → List (List ℕ)
+keysIn s starts base end = keysOf s (drop base starts) (end - base)
 
--- a row holds a key of the file, and its print
+-- a key stands at a place
+pub record KeyThere (s : List ℕ) (at : ℕ) : Type 0 where
+  pub a : ℕ
+  pub m : ℕ
+  pub is : keyAt s at ≡ Text.At a m
+
+-- a row holds the place of a key, and its print
 pub record RowHolds (s starts prints : List ℕ) (i : ℕ) : Type 0 where
-  pub inside : getD starts i 0 + getD prints i 0 / 65536 ≤ length s
-  pub print : getD prints i 0 ≡ printOf (take (getD prints i 0 / 65536) (drop (getD starts i 0) s))
+  pub key : KeyThere s (getD starts i 0)
+  pub print : getD prints i 0 ≡ printOf (keyBytes s (keyAt s (getD starts i 0)))
 
 -- so do the first n rows
 unfoldable pub Stored : List ℕ → List ℕ → List ℕ → ℕ → Type 0
@@ -67,15 +78,14 @@ pub record Rows (s : List ℕ) (base end : ℕ) (starts prints : List ℕ) : Typ
   pub prints-long : length prints ≡ tableLength
   pub stored : Stored s (drop base starts) (drop base prints) (end - base)
 
--- a key of the file is sought among them
-pub record Sought (s : List ℕ) (base end : ℕ) (starts prints : List ℕ) (a m print : ℕ) : Type 0 where
+-- the key at a place is sought among them
+pub record Sought (s : List ℕ) (base end : ℕ) (starts prints : List ℕ) (at a m print : ℕ) : Type 0 where
   pub rows : Rows s base end starts prints
-  pub inside : a + m ≤ length s
+  pub key : keyAt s at ≡ Text.At a m
   pub is : print ≡ printOf (take m (drop a s))
-  pub sized : print / 65536 ≡ m
 
 -- what comes of the key at a place: a refusal, with the tables as they were; or its end, and a row more
 pub data Noted (s : List ℕ) (at base end : ℕ) (starts prints : List ℕ) : Walk → List ℕ → List ℕ → Type 0 where
   refused : {e : ℕ} → keyAt s at ≡ Text.Refused e → Noted s at base end starts prints (Walk.Refused e) starts prints
-  repeated : {a m : ℕ} → keyAt s at ≡ Text.At a m → among (take m (drop a s)) (keysIn s starts prints base end) ≡ true → Noted s at base end starts prints (Walk.Refused keyRepeated) starts prints
-  noted : {a m print : ℕ} → keyAt s at ≡ Text.At a m → among (take m (drop a s)) (keysIn s starts prints base end) ≡ false → Sought s base end starts prints a m print → Noted s at base end starts prints (Walk.End (a + m)) (set starts end a) (set prints end print)
+  repeated : {a m : ℕ} → keyAt s at ≡ Text.At a m → among (take m (drop a s)) (keysIn s starts base end) ≡ true → Noted s at base end starts prints (Walk.Refused keyRepeated) starts prints
+  noted : {a m print : ℕ} → Sought s base end starts prints at a m print → among (take m (drop a s)) (keysIn s starts base end) ≡ false → Noted s at base end starts prints (Walk.End (a + m)) (set starts end at) (set prints end print)

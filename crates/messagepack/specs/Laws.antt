@@ -6,3 +6,4 @@ pub mod Unique
 pub mod Refused
 pub mod Container
 pub mod Tables
+pub mod Quick

@@ -4,4 +4,5 @@ pub mod Rules
 pub mod Walk
 pub mod Read
 pub mod Keys
+pub mod Quick
 pub mod Laws

@@ -4,13 +4,14 @@
 ghost use mathlib.Core.Path.{_≡_};
 ghost use mathlib.Core.Logic.{_↔_};
 ghost use mathlib.Core.Bool.{true, false};
-ghost use Prim.Native.Nat.{_+_, _*_, _/_, _≤_, _<_};
-ghost use lib.ListN.{length, take, drop};
+ghost use Prim.Native.Nat.{ℕ, _+_, _≤_, _<_};
+ghost use lib.ListN.{length, getD, take, drop};
 ghost use Rattle.heads.specs.Table.{leadTable};
 ghost use Rattle.messagepack.specs.Limits.{fileLimit, nestingLimit, entryLimit};
 ghost use Rattle.messagepack.specs.Rules.{Container};
 ghost use Rattle.messagepack.specs.Walk.{leafOf, leafAt, bodyAt, textAt, keyAt, integerAt, plainAt, binaryAt, stringAt, equal, among, manyAt, entriesAt, valueAt, ended, containerNumber};
-ghost use Rattle.messagepack.specs.Keys.{printOf, keysIn, tableLength, Free, Walked, Rows, Sought, Noted};
+ghost use Rattle.messagepack.specs.Keys.{printOf, keyBytes, keysIn, KeyThere, tableLength, Free, Walked, Rows, Sought, Noted};
+ghost use Rattle.messagepack.specs.Quick.{QuickSays, ShortSays};
 
 use heads::Head;
 use heads::Kind;
@@ -45,6 +46,18 @@ pub enum Leaf {
     Refused(u8),
     Array,
     Map,
+}
+
+// Where a value that is quickly found ends, or that it is another.
+pub enum Quick {
+    End(usize),
+    Other,
+}
+
+// A short string's first byte and its length, or that it is another value.
+pub enum Short {
+    At(usize, usize),
+    Other,
 }
 
 // The refusal of a file as a container, 1 to 11, or 0.
@@ -114,6 +127,9 @@ fn key_at(leads: &[u8; 256], file: &[u8], at: usize) -> Text
     requires { ⌜ now leads ≡ leadTable ⌝ }
     ensures { λ r. ⌜ r ≡ keyAt (now (file .entry)) at ⌝ }
 {
+    if let Short::At(p, n) = short_at(file, at) {
+        return Text::At(p, n);
+    }
     match heads::kind_at(leads, file, at) {
         Kind::Missing => Text::Refused(refusal::CUT_SHORT),
         Kind::Outside => Text::Refused(refusal::LEAD_BYTE_UNKNOWN),
@@ -142,6 +158,47 @@ pub fn same_bytes(x: &[u8], y: &[u8]) -> bool
         i += 1;
     }
     true
+}
+
+// A value at a place that is an integer in its lead byte, or a short string of bytes below 80: the commonest, found with no table.
+fn quick_at(file: &[u8], at: usize) -> Quick
+    ensures { λ r. ⌜ QuickSays (now (file .entry)) at r ⌝ }
+{
+    if file.len() <= at {
+        return Quick::Other;
+    }
+    if file[at] < 0x80 {
+        return Quick::End(at + 1);
+    }
+    let Short::At(p, n) = short_at(file, at) else {
+        return Quick::Other;
+    };
+    Quick::End(p + n)
+}
+
+// A string of at most 31 bytes, its length in its lead byte, if all its bytes are below 80.
+fn short_at(file: &[u8], at: usize) -> Short
+    ensures { λ r. ⌜ ShortSays (now (file .entry)) at r ⌝ }
+{
+    if file.len() <= at {
+        return Short::Other;
+    }
+    let b = file[at];
+    if b < 0xa0 {
+        return Short::Other;
+    }
+    if 0xc0 <= b {
+        return Short::Other;
+    }
+    let n = wide_byte(b - 0xa0);
+    let p = at + 1;
+    if file.len() - p < n {
+        return Short::Other;
+    }
+    if utf8::is_ascii(&file[p..p + n]) {
+        return Short::At(p, n);
+    }
+    Short::Other
 }
 
 // The value at a place if it holds no others.
@@ -224,8 +281,8 @@ fn outer(leads: &[u8; 256], file: &[u8]) -> u8
     requires { ⌜ (now leads ≡ leadTable) × (length (now file) ≤ fileLimit) ⌝ }
     ensures { λ r. ⌜ r ≡ ended (now (file .entry)) (valueAt (now (file .entry)) nestingLimit 0) ⌝ }
 {
-    let mut starts = no_starts();
-    let mut prints = no_prints();
+    let mut starts = no_keys();
+    let mut prints = no_keys();
     match value(leads, file, 0, NESTING_LIMIT, &mut starts, &mut prints) {
         Walk::Refused(e) => e,
         Walk::End(p) => {
@@ -238,16 +295,11 @@ fn outer(leads: &[u8; 256], file: &[u8]) -> u8
     }
 }
 
-fn no_starts() -> [u32; 3072]
+// A table of keys with nothing in it.
+fn no_keys() -> [u32; 3072]
     ensures { λ r. ⌜ length r ≡ tableLength ⌝ }
 {
     [0u32; 3072]
-}
-
-fn no_prints() -> [u64; 3072]
-    ensures { λ r. ⌜ length r ≡ tableLength ⌝ }
-{
-    [0u64; 3072]
 }
 
 // The value at a place, with so many levels left. It leaves alone the rows of the maps that are open.
@@ -257,7 +309,7 @@ fn value(
     at: usize,
     depth: usize,
     starts: &mut [u32; 3072],
-    prints: &mut [u64; 3072],
+    prints: &mut [u32; 3072],
 ) -> Walk
     requires { ⌜ Free (now leads) (now file) depth (now starts) (now prints) ⌝ }
     ensures { λ r. ⌜ Walked (valueAt (now (file .entry)) depth at) depth (now (starts .entry)) (now (prints .entry)) r (now (starts .exit)) (now (prints .exit)) ⌝ }
@@ -293,11 +345,14 @@ fn element(
     at: usize,
     depth: usize,
     starts: &mut [u32; 3072],
-    prints: &mut [u64; 3072],
+    prints: &mut [u32; 3072],
 ) -> Walk
     requires { ⌜ Free (now leads) (now file) depth (now starts) (now prints) ⌝ }
     ensures { λ r. ⌜ Walked (valueAt (now (file .entry)) depth at) depth (now (starts .entry)) (now (prints .entry)) r (now (starts .exit)) (now (prints .exit)) ⌝ }
 {
+    if let Quick::End(p) = quick_at(file, at) {
+        return Walk::End(p);
+    }
     match leaf_at(leads, file, at) {
         Leaf::End(p) => Walk::End(p),
         Leaf::Refused(e) => Walk::Refused(e),
@@ -314,7 +369,7 @@ fn array(
     at: usize,
     depth: usize,
     starts: &mut [u32; 3072],
-    prints: &mut [u64; 3072],
+    prints: &mut [u32; 3072],
 ) -> Walk
     requires { ⌜ Free (now leads) (now file) depth (now starts) (now prints) ⌝ }
     ensures { λ r. ⌜ Walked (manyAt (valueAt (now (file .entry)) depth) n at) depth (now (starts .entry)) (now (prints .entry)) r (now (starts .exit)) (now (prints .exit)) ⌝ }
@@ -343,7 +398,7 @@ fn map(
     at: usize,
     depth: usize,
     starts: &mut [u32; 3072],
-    prints: &mut [u64; 3072],
+    prints: &mut [u32; 3072],
 ) -> Walk
     requires { ⌜ Free (now leads) (now file) (depth + 1) (now starts) (now prints) ⌝ }
     ensures { λ r. ⌜ Walked (entriesAt (now (file .entry)) (valueAt (now (file .entry)) depth) n at) (depth + 1) (now (starts .entry)) (now (prints .entry)) r (now (starts .exit)) (now (prints .exit)) ⌝ }
@@ -385,7 +440,7 @@ fn new_key(
     base: usize,
     end: usize,
     starts: &mut [u32; 3072],
-    prints: &mut [u64; 3072],
+    prints: &mut [u32; 3072],
 ) -> Walk
     requires { ⌜ (now leads ≡ leadTable) × Rows (now file) base end (now starts) (now prints) ⌝ }
     ensures { λ r. ⌜ Noted (now (file .entry)) at base end (now (starts .entry)) (now (prints .entry)) r (now (starts .exit)) (now (prints .exit)) ⌝ }
@@ -394,10 +449,10 @@ fn new_key(
         Text::Refused(e) => Walk::Refused(e),
         Text::At(a, m) => {
             let print = print_of(file, a, m);
-            if seen(file, starts, prints, base, end, a, m, print) {
+            if seen(leads, file, starts, prints, base, end, at, a, m, print) {
                 return Walk::Refused(refusal::KEY_REPEATED);
             }
-            starts[end] = a as u32;
+            starts[end] = at as u32;
             prints[end] = print;
             Walk::End(a + m)
         }
@@ -406,24 +461,28 @@ fn new_key(
 
 // Is the key of m bytes at a, whose print is given, among those in the rows from base up to end?
 fn seen(
+    leads: &[u8; 256],
     file: &[u8],
     starts: &[u32; 3072],
-    prints: &[u64; 3072],
+    prints: &[u32; 3072],
     base: usize,
     end: usize,
+    at: usize,
     a: usize,
     m: usize,
-    print: u64,
+    print: u32,
 ) -> bool
-    requires { ⌜ Sought (now file) base end (now starts) (now prints) a m print ⌝ }
-    ensures { λ r. ⌜ r ≡ among (take m (drop a (now (file .entry)))) (keysIn (now (file .entry)) (now (starts .entry)) (now (prints .entry)) base end) ⌝ }
+    requires { ⌜ (now leads ≡ leadTable) × Sought (now file) base end (now starts) (now prints) at a m print ⌝ }
+    ensures { λ r. ⌜ r ≡ among (take m (drop a (now (file .entry)))) (keysIn (now (file .entry)) (now (starts .entry)) base end) ⌝ }
 {
+    if hits(prints, base, end, print) == 0 {
+        return false;
+    }
     let mut i = end;
     while base < i {
         i -= 1;
         if prints[i] == print {
-            let b = wide(starts[i]);
-            if same_bytes(&file[a..a + m], &file[b..b + m]) {
+            if same_key(leads, file, at, wide(starts[i])) {
                 return true;
             }
         }
@@ -431,15 +490,52 @@ fn seen(
     false
 }
 
-// The print of the m bytes from a: their number, and the last two.
-fn print_of(file: &[u8], a: usize, m: usize) -> u64
-    requires { ⌜ (length (now file) ≤ fileLimit) × (a + m ≤ length (now file)) ⌝ }
-    ensures { λ r. ⌜ (r ≡ printOf (take m (drop a (now (file .entry))))) × (r / 65536 ≡ m) ⌝ }
+// How many rows from base up to end have a print: it goes through all of them, so that several are compared at a time.
+fn hits(prints: &[u32; 3072], base: usize, end: usize, print: u32) -> u32
+    requires { ⌜ (base ≤ end) × (end ≤ tableLength) ⌝ }
+    ensures { λ r. ⌜ (r ≡ 0 → (i : ℕ) → base ≤ i → i < end → getD (now (prints .entry)) i 0 ≡ print → ⊥) ⌝ }
 {
-    if m < 2 {
-        return (m as u64) * 65536;
+    let mut n: u32 = 0;
+    let mut i = base;
+    while i < end {
+        if prints[i] == print {
+            n += 1;
+        }
+        i += 1;
     }
-    (m as u64) * 65536 + (numbers::read_u16(file, a + m - 2) as u64)
+    n
+}
+
+// Are the keys at two places the same?
+fn same_key(leads: &[u8; 256], file: &[u8], at: usize, other: usize) -> bool
+    requires { ⌜ (now leads ≡ leadTable) × KeyThere (now file) at × KeyThere (now file) other ⌝ }
+    ensures { λ r. ⌜ r ≡ equal (keyBytes (now (file .entry)) (keyAt (now (file .entry)) at)) (keyBytes (now (file .entry)) (keyAt (now (file .entry)) other)) ⌝ }
+{
+    let Head::At(m, a) = heads::head_at(leads, file, at) else {
+        return false;
+    };
+    let Head::At(n, b) = heads::head_at(leads, file, other) else {
+        return false;
+    };
+    same_bytes(&file[a..a + m], &file[b..b + n])
+}
+
+// The print of the m bytes from a: their number, and the last two.
+fn print_of(file: &[u8], a: usize, m: usize) -> u32
+    requires { ⌜ a + m ≤ length (now file) ⌝ }
+    ensures { λ r. ⌜ r ≡ printOf (take m (drop a (now (file .entry)))) ⌝ }
+{
+    let size = ((m % 65536) as u32) * 65536;
+    if m < 2 {
+        return size;
+    }
+    size + (numbers::read_u16(file, a + m - 2) as u32)
+}
+
+fn wide_byte(x: u8) -> usize
+    ensures { λ r. ⌜ r ≡ x ⌝ }
+{
+    x as usize
 }
 
 fn wide(x: u32) -> usize

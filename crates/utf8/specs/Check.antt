@@ -1,6 +1,6 @@
 -- The test of UTF-8, a byte at a time, which the contracts and other crates' definitions cite.
 -- That it says yes exactly for UTF-8 is `exactly` of Laws/Utf8.antt. Assumes nothing.
-use mathlib.Core.Bool.{Bool, cond, _&&_, _||_}
+use mathlib.Core.Bool.{Bool, true, cond, _&&_, _||_}
 use mathlib.Core.List.{List, [], _∷_}
 use Prim.Native.Nat.{ℕ, zero, suc}
 use lib.Dec.{ltb, leb, eqb}
@@ -34,3 +34,8 @@ due (suc k) lo hi (b ∷ s) = within lo hi b && due k 0x80 0xbf s
 -- the bytes are UTF-8
 abbrev pub isUtf8 : List ℕ → Bool
 isUtf8 bytes = due 0 0x80 0xbf bytes
+
+-- every byte is below 80: such bytes are UTF-8 (`isAscii-isUtf8` of Laws/Check.antt)
+unfoldable pub isAscii : List ℕ → Bool
+isAscii [] = true
+isAscii (b ∷ s) = ltb b 0x80 && isAscii s

@@ -6,7 +6,7 @@ ghost use mathlib.Core.Logic.{_↔_};
 ghost use Prim.Native.Nat.{ℕ, suc, _+_, _<_, _≤_};
 ghost use lib.ListN.{length, drop, getD};
 ghost use Rattle.utf8.specs.Utf8.{Utf8};
-ghost use Rattle.utf8.specs.Check.{isUtf8, due, following};
+ghost use Rattle.utf8.specs.Check.{isUtf8, due, following, isAscii};
 ghost use Rattle.utf8.specs.Check.{lowest as lowestOf, highest as highestOf};
 ghost use Rattle.utf8.specs.Step.{onward, Forward, LeadAt};
 
@@ -27,6 +27,20 @@ pub fn is_utf8(bytes: &[u8]) -> bool
             return false;
         };
         at = next;
+    }
+    true
+}
+
+// Whether every byte is below 80: a quick answer for short strings.
+pub fn is_ascii(bytes: &[u8]) -> bool
+    ensures { λ r. ⌜ r ≡ isAscii (now (bytes .entry)) ⌝ }
+{
+    let mut i: usize = 0;
+    while i < bytes.len() {
+        if 0x80 <= bytes[i] {
+            return false;
+        }
+        i += 1;
     }
     true
 }

@@ -91,6 +91,37 @@ kind-named : (b : ℕ) → kindFrom (kindNumber (kindOf b)) ≡ kindOf b
 unfolding kindOf
 kind-named b = number-kind _ (row-passes (λ r. present (r .kind)) b leadBytes refl refl)
 
+-- what two functions have in common, shown by computing both over a range
+values-agree : (f g : ℕ → ℕ) (i n : ℕ) → valuesFrom f i n ≡ valuesFrom g i n → (b : ℕ) → i ≤ b → b < i + n → f b ≡ g b
+values-agree f g i n e b l h =
+    let k : i + (b - i) ≡ b = omega arith in
+    let lt : b - i < n = omega arith in
+    ap f (sym k) ∙ sym (rows-from f i n (b - i) lt) ∙ ap (λ (v : List ℕ). getD v (b - i) 0) e ∙ rows-from g i n (b - i) lt ∙ ap g k
+
+-- a lead byte whose number is in it: its kind, that no bytes follow, and what it holds
+pub record Alone (k : Kind) (b n : ℕ) : Type 0 where
+  pub kind : kindOf b ≡ k
+  pub more : moreOf b ≡ 0
+  pub held : heldBy b ≡ n
+
+-- the lead bytes 00 to 7f
+pub low-lead : (b : ℕ) → b < 0x80 → Alone Kind.Unsigned b b
+unfolding kindOf moreOf heldBy
+low-lead b h = record {
+  kind = sym (kind-named b) ∙ ap kindFrom (values-agree (λ i. kindNumber (kindOf i)) (λ i. 1) 0 0x80 refl b (omega arith) (omega arith));
+  more = values-agree moreOf (λ i. 0) 0 0x80 refl b (omega arith) (omega arith);
+  held = values-agree heldBy (λ i. i) 0 0x80 refl b (omega arith) (omega arith);
+}
+
+-- the lead bytes a0 to bf
+pub string-lead : (b : ℕ) → 0xa0 ≤ b → b < 0xc0 → Alone Kind.Str b (b - 0xa0)
+unfolding kindOf moreOf heldBy
+string-lead b l h = record {
+  kind = sym (kind-named b) ∙ ap kindFrom (values-agree (λ i. kindNumber (kindOf i)) (λ i. 4) 0xa0 32 refl b l (omega arith));
+  more = values-agree moreOf (λ i. 0) 0xa0 32 refl b l (omega arith);
+  held = values-agree heldBy (λ i. i - 0xa0) 0xa0 32 refl b l (omega arith);
+}
+
 -- the table of lead bytes
 
 module _ (b : ℕ) (byte : b < 256) where

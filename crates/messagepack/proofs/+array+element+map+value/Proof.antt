@@ -13,6 +13,7 @@ use Rattle.messagepack.specs.Walk.{valueAt, manyAt, entriesAt, onHead}
 use Rattle.messagepack.specs.Keys.{Free, Kept, Walked}
 use Rattle.messagepack.specs.declared.Walk.{Walk}
 use Rattle.messagepack.specs.Laws.Walk as w
+use Rattle.messagepack.specs.Laws.Quick.{quick-ends}
 use Rattle.messagepack.specs.Laws.Tables.{kept-all, kept-then, walked-as, walked-in, walked-more, noted-as, free-less, free-kept, Going, going-first, going-last, going-rows, going-key, going-free, going-value, going-next}
 use Rattle.messagepack.proofs.array.Reads as array
 use Rattle.messagepack.proofs.array.Kinds as array-kinds
@@ -29,6 +30,7 @@ use Rattle.messagepack.proofs.+array+element+map+value.Lts-element as e
 use Rattle.heads.proofs.head_at.Reads as head-at-reads
 use Rattle.messagepack.proofs.leaf_at.Reads as leaf-at-reads
 use Rattle.messagepack.proofs.new_key.Reads as new-key-reads
+use Rattle.messagepack.proofs.quick_at.Reads as quick-at-reads
 use Rattle.messagepack.proofs.+array+element+map+value.{statement}
 use Rattle.messagepack.proofs.+array+element+map+value.Tie.{close}
 
@@ -76,7 +78,7 @@ abbrev array-claims : ℕ → array-lts.Claims
 array-claims t = (element-below t, element.Post)
 
 abbrev element-claims : ℕ → element-lts.Claims
-element-claims t = (leaf-at-reads.Asked, leaf-at-reads.Learnt, value-below t, value.Post)
+element-claims t = (quick-at-reads.Asked, quick-at-reads.Learnt, leaf-at-reads.Asked, leaf-at-reads.Learnt, value-below t, value.Post)
 
 abbrev map-claims : ℕ → map-lts.Claims
 map-claims t = (new-key-reads.Asked, new-key-reads.Learnt, element-below t, element.Post)
@@ -242,20 +244,23 @@ value-returns-8 t c =
 
 -- the value in a loop
 
+element-returns : (t : ℕ) → element-lts.Need-returns (element-claims t) (element-at t) element.Post
+element-returns t c = unchanged (c .before .before .before .before .before .pre .1) (quick-ends _ (c .before .before .before .quick-at .ensures) (c .before .p .given .1))
+
 element-leaf-at-requires : (t : ℕ) → element-lts.Need-leaf-at-requires (element-claims t) (element-at t) element.Post
-element-leaf-at-requires t c κs = c .before .pre .1 .table
+element-leaf-at-requires t c κs = c .before .before .before .before .pre .1 .table
 
 element-value-requires : (t : ℕ) → element-lts.Need-value-requires (element-claims t) (element-at t) element.Post
-element-value-requires t c κs = (search needs, c .before .before .before .before .before .before .pre .1)
+element-value-requires t c κs = (search needs, c .before .before .before .before .before .before .before .before .before .pre .1)
 
 element-value-requires-2 : (t : ℕ) → element-lts.Need-value-requires-2 (element-claims t) (element-at t) element.Post
-element-value-requires-2 t c κs = (search needs, c .before .before .before .before .before .before .pre .1)
-
-element-returns : (t : ℕ) → element-lts.Need-returns (element-claims t) (element-at t) element.Post
-element-returns t c = unchanged (c .before .before .before .before .before .pre .1) (w.leaf-ends _ _ _ (sym (c .before .before .before .leaf-at .ensures) ∙ c .before .p .given .1))
+element-value-requires-2 t c κs = (search needs, c .before .before .before .before .before .before .before .before .before .pre .1)
 
 element-returns-2 : (t : ℕ) → element-lts.Need-returns-2 (element-claims t) (element-at t) element.Post
-element-returns-2 t c = unchanged (c .before .before .before .before .before .pre .1) (w.leaf-refuses _ _ _ (sym (c .before .before .before .leaf-at .ensures) ∙ c .before .e .given .1))
+element-returns-2 t c = unchanged (c .before .before .before .before .before .before .before .before .pre .1) (w.leaf-ends _ _ _ (sym (c .before .before .before .leaf-at .ensures) ∙ c .before .p2 .given .1))
+
+element-returns-3 : (t : ℕ) → element-lts.Need-returns-3 (element-claims t) (element-at t) element.Post
+element-returns-3 t c = unchanged (c .before .before .before .before .before .before .before .before .pre .1) (w.leaf-refuses _ _ _ (sym (c .before .before .before .leaf-at .ensures) ∙ c .before .e .given .1))
 
 pub +array+element+map+value-spec : {M : Type 1} → statement M
 +array+element+map+value-spec =
@@ -283,6 +288,10 @@ pub +array+element+map+value-spec : {M : Type 1} → statement M
     (element-claims t)
     (element-at t)
     element.Post
+    (λ c κs. search needs)
+    (λ c. search needs)
+    (element-returns t)
+    (λ c. search needs)
     (element-leaf-at-requires t)
     (λ c. search needs)
     (λ c. search needs)
@@ -290,8 +299,8 @@ pub +array+element+map+value-spec : {M : Type 1} → statement M
     (element-value-requires t)
     (λ c. search needs)
     (element-value-requires-2 t)
-    (element-returns t)
     (element-returns-2 t)
+    (element-returns-3 t)
     (λ c. c .value .ensures)
     (λ c. c .value2 .ensures))
     (λ t. map-lts.spec

@@ -1,30 +1,26 @@
--- Each case of the key is a case of `Noted`; a key's place and print fit the tables, since it ends inside the file.
+-- Each case of the key is a case of `Noted`; a key's place fits the table, since it ends inside the file.
 use mathlib.Core.Path.{_≡_, sym, _∙_}
-use Prim.Native.Nat.{_+_, _≤_}
 use native.Mathlib.Omega.{arith}
-use lib.ListN.{length}
 use borrow.Author.Needs.{needs}
 use Rattle.messagepack.specs.Keys.{Sought, refused, repeated, noted}
+use Rattle.heads.specs.Laws.Head.{head-inside}
 use Rattle.messagepack.specs.Laws.Walk.{text-is, key-is}
 use Rattle.messagepack.proofs.new_key.Statement.{statement}
 use Rattle.messagepack.proofs.new_key.Tie as tie
 
 print-of-requires : tie.Need-print-of-requires
-print-of-requires c κs = (c .before .before .before .before .before .pre .1 .small, text-is _ _ (key-is _ _ (sym (c .before .before .before .key-at .ensures) ∙ c .before .a .given .1) .1) .inside)
+print-of-requires c κs = text-is _ _ (key-is _ _ (sym (c .before .before .before .key-at .ensures) ∙ c .before .a .given .1) .1) .inside
 
 seen-requires : tie.Need-seen-requires
-seen-requires c κs = record {
-  rows = c .before .before .before .before .before .before .before .before .pre .1;
-  inside = text-is _ _ (key-is _ _ (sym (c .before .before .before .before .before .before .key-at .ensures) ∙ c .before .before .before .before .a .given .1) .1) .inside;
-  is = c .before .before .print-of .ensures .0;
-  sized = c .before .before .print-of .ensures .1;
-}
+seen-requires c κs = (c .before .before .before .before .before .before .before .before .pre .0, record { rows = c .before .before .before .before .before .before .before .before .pre .1; key = (sym (c .before .before .before .before .before .before .key-at .ensures) ∙ c .before .before .before .before .a .given .1); is = c .before .before .print-of .ensures })
 
 returns : tie.Need-returns
 returns c = repeated (sym (c .before .before .before .before .before .before .before .before .key-at .ensures) ∙ c .before .before .before .before .before .before .a .given .1) (sym (c .before .seen .ensures) ∙ c .if1 .taken)
 
 cast-starts : tie.Need-cast-starts
-cast-starts c = omega (arith, c .before .before .before .before .before .before .before .before .before .before .pre .1 .small, text-is _ _ (key-is _ _ (sym (c .before .before .before .before .before .before .before .before .key-at .ensures) ∙ c .before .before .before .before .before .before .a .given .1) .1) .inside)
+cast-starts c =
+    let i = text-is _ _ (key-is _ _ (sym (c .before .before .before .before .before .before .before .before .key-at .ensures) ∙ c .before .before .before .before .before .before .a .given .1) .1) in
+    omega (arith, c .before .before .before .before .before .before .before .before .before .before .pre .1 .small, i .inside, head-inside _ _ (i .head))
 
 add-t18 : tie.Need-add-t18
 add-t18 c = omega (arith, c .before .before .before .before .before .before .before .before .before .before .pre .1 .small, text-is _ _ (key-is _ _ (sym (c .before .before .before .before .before .before .before .before .key-at .ensures) ∙ c .before .before .before .before .before .before .a .given .1) .1) .inside)
@@ -33,14 +29,7 @@ returns-2 : tie.Need-returns-2
 returns-2 c = refused (sym (c .before .before .before .key-at .ensures) ∙ c .before .e .given .1)
 
 returns-3 : tie.Need-returns-3
-returns-3 c =
-    noted (sym (c .before .before .before .before .before .before .before .before .key-at .ensures) ∙ c .before .before .before .before .before .before .a .given .1) (sym (c .before .seen .ensures) ∙ c .if1 .left)
-    record {
-      rows = c .before .before .before .before .before .before .before .before .before .before .pre .1;
-      inside = text-is _ _ (key-is _ _ (sym (c .before .before .before .before .before .before .before .before .key-at .ensures) ∙ c .before .before .before .before .before .before .a .given .1) .1) .inside;
-      is = c .before .before .before .before .print-of .ensures .0;
-      sized = c .before .before .before .before .print-of .ensures .1;
-    }
+returns-3 c = noted (record { rows = c .before .before .before .before .before .before .before .before .before .before .pre .1; key = (sym (c .before .before .before .before .before .before .before .before .key-at .ensures) ∙ c .before .before .before .before .before .before .a .given .1); is = c .before .before .before .before .print-of .ensures }) (sym (c .before .seen .ensures) ∙ c .if1 .left)
 
 mul-starts : tie.Need-mul-starts
 mul-starts c = omega (arith, c .before .before .before .before .before .before .before .before .before .before .pre .1 .room)

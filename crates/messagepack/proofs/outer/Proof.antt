@@ -9,7 +9,7 @@ use Rattle.messagepack.proofs.outer.Statement.{statement}
 use Rattle.messagepack.proofs.outer.Tie as tie
 
 value-requires : tie.Need-value-requires
-value-requires c κs = record { small = c .before .before .before .before .before .pre .1; table = c .before .before .before .before .before .pre .0; levels = omega arith; starts-long = c .before .before .before .no-starts .ensures; prints-long = c .before .before .no-prints .ensures }
+value-requires c κs = record { small = c .before .before .before .before .before .pre .1; table = c .before .before .before .before .before .pre .0; levels = omega arith; starts-long = c .before .before .before .no-keys .ensures; prints-long = c .before .before .no-keys2 .ensures }
 
 returns : tie.Need-returns
 returns c = rw (sym (c .before .before .before .value .ensures .answer) ∙ c .before .e .given .1)

@@ -4,7 +4,7 @@ use mathlib.Core.Path.{_≡_, refl, sym, ap, ap₂, subst, _∙_}
 use mathlib.Core.Bool.{Bool, true, false, _||_}
 use mathlib.Core.List.{List, [], _∷_}
 use mathlib.Core.Logic.{⊎-elim, _≢_}
-use Prim.Native.Nat.{ℕ, zero, suc, _+_, _-_, _*_, _/_, _<_, _≤_}
+use Prim.Native.Nat.{ℕ, zero, suc, _+_, _-_, _*_, _%_, _<_, _≤_}
 use native.Mathlib.Nat.{not-suc-le-zero, eq-or-lt-of-le, le-of-suc-le-suc, add-zero}
 use native.Mathlib.Numerals.{add-one, sub-one}
 use native.Mathlib.Omega.{arith}
@@ -14,11 +14,13 @@ use borrow.Author.Tests.{eq-eqb, ne-eqb}
 use Rattle.refusal.specs.Table.{keyRepeated}
 use Rattle.numbers.specs.BigEndian.{unsignedAt}
 use Rattle.numbers.specs.Laws.BigEndian.{unsignedAt-loads, unsignedAt-out}
+use Rattle.heads.specs.Head.{headAt}
 use Rattle.heads.specs.Table.{leadTable}
+use Rattle.heads.specs.declared.Head.{Head}
 use Rattle.heads.specs.Laws.Span.{part-length}
 use Rattle.messagepack.specs.Limits.{fileLimit, nestingLimit, entryLimit}
 use Rattle.messagepack.specs.Walk.{equal, among, keyAt, entriesFrom, entriesAt}
-use Rattle.messagepack.specs.Keys.{tableLength, printOf, keysOf, keysIn, RowHolds, Stored, Free, Kept, Walked, Rows, Sought, Noted, refused, repeated, noted}
+use Rattle.messagepack.specs.Keys.{tableLength, printOf, keyBytes, keysOf, keysIn, KeyThere, RowHolds, Stored, Free, Kept, Walked, Rows, Sought, Noted, refused, repeated, noted}
 use Rattle.messagepack.specs.declared.Walk.{Walk}
 use Rattle.messagepack.specs.declared.Text.{Text}
 use Rattle.messagepack.specs.Laws.Keys.{equal-false}
@@ -27,14 +29,14 @@ use Rattle.messagepack.specs.Laws.Walk as w
 -- prints
 
 module _ (s : List ℕ) (a m : ℕ) (le : a + m ≤ length s) where
-  pub print-short : m < 2 → printOf (take m (drop a s)) ≡ m * 65536
+  pub print-short : m < 2 → printOf (take m (drop a s)) ≡ m % 65536 * 65536
   unfolding printOf
-  print-short lt = rw (part-length s a m le, unsignedAt-out 2 (take m (drop a s)) (m - 2) (rw (part-length s a m le) (omega arith))) (add-zero (m * 65536))
+  print-short lt = rw (part-length s a m le, unsignedAt-out 2 (take m (drop a s)) (m - 2) (rw (part-length s a m le) (omega arith))) (add-zero (m % 65536 * 65536))
 
   in-part : (i : ℕ) → i < m → getD (take m (drop a s)) i 0 ≡ getD s (a + i) 0
   in-part i lt = getD-take m (drop a s) i 0 lt ∙ getD-drop a s i 0
 
-  pub print-long : 2 ≤ m → printOf (take m (drop a s)) ≡ m * 65536 + unsignedAt 2 s (a + m - 2)
+  pub print-long : 2 ≤ m → printOf (take m (drop a s)) ≡ m % 65536 * 65536 + unsignedAt 2 s (a + m - 2)
   unfolding printOf
   print-long two =
       let l : length (take m (drop a s)) ≡ m = part-length s a m le in
@@ -44,81 +46,102 @@ module _ (s : List ℕ) (a m : ℕ) (le : a + m ≤ length s) where
 
 -- rows, counted from the first
 
-module _ (s starts prints k : List ℕ) where
-  keys-first : among k (keysOf s starts prints zero) ≡ false
+module _ (s starts : List ℕ) where
+  keys-none : (k : List ℕ) → among k (keysOf s starts zero) ≡ false
   unfolding among keysOf
-  keys-first = refl
+  keys-none k = refl
 
-  keys-next : (n : ℕ) (t : Bool) → equal k (take (getD prints n 0 / 65536) (drop (getD starts n 0) s)) ≡ t → among k (keysOf s starts prints (suc n)) ≡ t || among k (keysOf s starts prints n)
+  keys-next : (k : List ℕ) (n : ℕ) (t : Bool) → equal k (keyBytes s (keyAt s (getD starts n 0))) ≡ t → among k (keysOf s starts (suc n)) ≡ t || among k (keysOf s starts n)
   unfolding among keysOf
-  keys-next n t e = rw (← e)
+  keys-next k n t e = rw (← e)
 
-module _ (s starts prints : List ℕ) (j a q : ℕ) where
-  keys-set : (i : ℕ) → i ≤ j → keysOf s (set starts j a) (set prints j q) i ≡ keysOf s starts prints i
+  keys-set : (j at i : ℕ) → i ≤ j → keysOf s (set starts j at) i ≡ keysOf s starts i
   unfolding keysOf
-  keys-set zero h = refl
-  keys-set (suc i) h =
+  keys-set j at zero h = refl
+  keys-set j at (suc i) h = let ne : i ≢ j = omega arith in rw (getD-set-other starts j i at 0 ne, keys-set j at i (omega arith))
+
+  keys-more : (j at : ℕ) → j < length starts → keysOf s (set starts j at) (suc j) ≡ keyBytes s (keyAt s at) ∷ keysOf s starts j
+  unfolding keysOf
+  keys-more j at h = rw (getD-set-same starts j at 0 h, keys-set j at j (omega arith))
+
+stored-more : (s starts prints : List ℕ) (j at q : ℕ) → j < length starts → j < length prints → KeyThere s at → q ≡ printOf (keyBytes s (keyAt s at)) → Stored s starts prints j → Stored s (set starts j at) (set prints j q) (suc j)
+unfolding Stored
+stored-more s starts prints j at q h k key p old i lt = ⊎-elim
+    (λ (e : i ≡ j). record { key = rw (e, getD-set-same starts j at 0 h) key; print = rw (e, getD-set-same starts j at 0 h, getD-set-same prints j q 0 k) p })
+    (λ (l : i < j).
       let ne : i ≢ j = omega arith in
-      rw (getD-set-other starts j i a 0 ne, getD-set-other prints j i q 0 ne, keys-set i (omega arith))
-
-  keys-more : j < length starts → j < length prints → keysOf s (set starts j a) (set prints j q) (suc j) ≡ take (q / 65536) (drop a s) ∷ keysOf s starts prints j
-  unfolding keysOf
-  keys-more h k = rw (getD-set-same starts j a 0 h, getD-set-same prints j q 0 k, keys-set j (omega arith))
-
-  stored-more : j < length starts → j < length prints → a + q / 65536 ≤ length s → q ≡ printOf (take (q / 65536) (drop a s)) → Stored s starts prints j → Stored s (set starts j a) (set prints j q) (suc j)
-  unfolding Stored
-  stored-more h k le p old i lt = ⊎-elim
-      (λ (e : i ≡ j). record { inside = rw (e, getD-set-same starts j a 0 h, getD-set-same prints j q 0 k) le; print = rw (e, getD-set-same starts j a 0 h, getD-set-same prints j q 0 k) p })
-      (λ (l : i < j).
-        let ne : i ≢ j = omega arith in
-        let o = old i l in
-        record { inside = rw (getD-set-other starts j i a 0 ne, getD-set-other prints j i q 0 ne) (o .inside); print = rw (getD-set-other starts j i a 0 ne, getD-set-other prints j i q 0 ne) (o .print) })
-      (eq-or-lt-of-le (le-of-suc-le-suc lt))
+      let o = old i l in
+      record { key = rw (getD-set-other starts j i at 0 ne) (o .key); print = rw (getD-set-other starts j i at 0 ne, getD-set-other prints j i q 0 ne) (o .print) })
+    (eq-or-lt-of-le (le-of-suc-le-suc lt))
 
 -- rows from base on
 
-module _ (s starts prints : List ℕ) (base : ℕ) where
+module _ (s starts : List ℕ) (base : ℕ) where
   -- a row by its place in the whole table
-  pub row-holds : (n : ℕ) → Stored s (drop base starts) (drop base prints) n → (i : ℕ) → base ≤ i → i < base + n → RowHolds s starts prints i
+  pub row-holds : (prints : List ℕ) (n : ℕ) → Stored s (drop base starts) (drop base prints) n → (i : ℕ) → base ≤ i → i < base + n → RowHolds s starts prints i
   unfolding Stored
-  row-holds n st i le lt =
+  row-holds prints n st i le lt =
       let r = st (i - base) (omega arith) in
       let e : base + (i - base) ≡ i = omega arith in
-      record { inside = rw (getD-drop, getD-drop, e) at (r .inside); print = rw (getD-drop, getD-drop, e) at (r .print) }
+      let a : getD (drop base starts) (i - base) 0 ≡ getD starts i 0 = getD-drop base starts (i - base) 0 ∙ ap (λ (k : ℕ). getD starts k 0) e in
+      let b : getD (drop base prints) (i - base) 0 ≡ getD prints i 0 = getD-drop base prints (i - base) 0 ∙ ap (λ (k : ℕ). getD prints k 0) e in
+      record { key = subst (KeyThere s) a (r .key); print = rw (a, b) at (r .print) }
 
   module _ (k : List ℕ) where
-    pub seen-none : (i : ℕ) → i ≤ base → among k (keysIn s starts prints base i) ≡ false
-    seen-none i le = let e : i - base ≡ 0 = omega arith in rw e (keys-first s (drop base starts) (drop base prints) k)
+    pub seen-none : (i : ℕ) → i ≤ base → among k (keysIn s starts base i) ≡ false
+    seen-none i le = let e : i - base ≡ 0 = omega arith in rw e (keys-none s (drop base starts) k)
 
-    pub seen-next : (i : ℕ) (t : Bool) → base < i → equal k (take (getD prints (i - 1) 0 / 65536) (drop (getD starts (i - 1) 0) s)) ≡ t → among k (keysIn s starts prints base i) ≡ t || among k (keysIn s starts prints base (i - 1))
+    pub seen-next : (i : ℕ) (t : Bool) → base < i → equal k (keyBytes s (keyAt s (getD starts (i - 1) 0))) ≡ t → among k (keysIn s starts base i) ≡ t || among k (keysIn s starts base (i - 1))
     seen-next i t lt h =
         let e : i - base ≡ suc (i - 1 - base) = omega arith in
         let f : base + (i - 1 - base) ≡ i - 1 = omega arith in
-        rw e (keys-next s (drop base starts) (drop base prints) k (i - 1 - base) t (rw (getD-drop, getD-drop, f) h))
+        let a : getD (drop base starts) (i - 1 - base) 0 ≡ getD starts (i - 1) 0 = getD-drop base starts (i - 1 - base) 0 ∙ ap (λ (j : ℕ). getD starts j 0) f in
+        rw e (keys-next s (drop base starts) k (i - 1 - base) t (rw a h))
+
+-- a key that stands at a place: its head is read, and its bytes are inside
+pub there-read : {s : List ℕ} {at n p : ℕ} → KeyThere s at → headAt s at ≡ Head.At n p → (p + n ≤ length s) × (keyBytes s (keyAt s at) ≡ take n (drop p s))
+there-read {s} {at} {n} {p} k g =
+    let i = w.text-is s at (w.key-is s at (k .is) .1) in
+    let h : headAt s at ≡ Head.At (k .m) (k .a) = i .head in
+    let m : k .m ≡ n = cc in
+    let a : k .a ≡ p = cc in
+    (rw (m, a) at (i .inside), ap (keyBytes s) (k .is) ∙ rw (m, a))
+
+pub there-head : {s : List ℕ} (at : ℕ) → KeyThere s at → headAt s at ≡ Head.Cut → ⊥
+there-head {s} at k g =
+    let h : headAt s at ≡ Head.At (k .m) (k .a) = w.text-is s at (w.key-is s at (k .is) .1) .head in
+    let z : _≡_ {A = ℕ} 0 1 = cc in
+    omega arith
+
+-- a row's key, by the place that it has
+pub row-same : (s starts : List ℕ) (i at : ℕ) {a m q : ℕ} {b : Bool} → keyAt s at ≡ Text.At a m → q ≡ getD starts i 0 → b ≡ equal (keyBytes s (keyAt s at)) (keyBytes s (keyAt s q)) → equal (take m (drop a s)) (keyBytes s (keyAt s (getD starts i 0))) ≡ b
+row-same s starts i at k o h = rw (← o, ← ap (keyBytes s) k) (sym h)
 
 -- a row whose print is another holds another key
-pub row-differs : {s starts prints : List ℕ} {i : ℕ} (k : List ℕ) {print : ℕ} → RowHolds s starts prints i → print ≡ printOf k → (getD prints i 0 ≡ print → ⊥) → equal k (take (getD prints i 0 / 65536) (drop (getD starts i 0) s)) ≡ false
+pub row-differs : {s starts prints : List ℕ} {i : ℕ} (k : List ℕ) {print : ℕ} → RowHolds s starts prints i → print ≡ printOf k → (getD prints i 0 ≡ print → ⊥) → equal k (keyBytes s (keyAt s (getD starts i 0))) ≡ false
 row-differs k r p ne = equal-false k _ (λ e. ne (r .print ∙ ap printOf (sym e) ∙ sym p))
 
--- a row with the print of a key of m bytes is a key of m bytes
-module _ {s starts prints : List ℕ} {i m print : ℕ} (r : RowHolds s starts prints i) (e : getD prints i 0 ≡ print) (z : print / 65536 ≡ m) where
-  pub row-inside : {q : ℕ} → q ≡ getD starts i 0 → q + m ≤ length s
-  row-inside o = rw (o, ← z, ← e) (r .inside)
+-- no row has the print: the key is in none
+module _ (s starts prints : List ℕ) (base end : ℕ) (st : Stored s (drop base starts) (drop base prints) (end - base)) (k : List ℕ) (print : ℕ) (is : print ≡ printOf k) (no : (i : ℕ) → base ≤ i → i < end → getD prints i 0 ≡ print → ⊥) where
+  none-below : (n : ℕ) → n ≤ end - base → among k (keysIn s starts base (base + n)) ≡ false
+  none-below zero h = seen-none s starts base k (base + 0) (omega arith)
+  none-below (suc n) h =
+      let i : base + suc n - 1 ≡ base + n = omega arith in
+      let r : RowHolds s starts prints (base + n) = row-holds s starts base prints (end - base) st (base + n) (omega arith) (omega arith) in
+      let d : equal k (keyBytes s (keyAt s (getD starts (base + suc n - 1) 0))) ≡ false = rw i (row-differs k r is (no (base + n) (omega arith) (omega arith))) in
+      seen-next s starts base k (base + suc n) false (omega arith) d ∙ rw i (none-below n (omega arith))
 
-  pub row-same : (k : List ℕ) {q : ℕ} {b : Bool} → q ≡ getD starts i 0 → b ≡ equal k (take m (drop q s)) → equal k (take (getD prints i 0 / 65536) (drop (getD starts i 0) s)) ≡ b
-  row-same k o h = rw (e, z, ← o) (sym h)
+  pub none-seen : base ≤ end → among k (keysIn s starts base end) ≡ false
+  none-seen le = let e : base + (end - base) ≡ end = omega arith in subst (λ (i : ℕ). among k (keysIn s starts base i) ≡ false) e (none-below (end - base) (omega arith))
 
 -- a row more
 
-module _ {s starts prints : List ℕ} {base end a m print : ℕ} (x : Sought s base end starts prints a m print) where
+module _ {s starts prints : List ℕ} {base end at a m print : ℕ} (x : Sought s base end starts prints at a m print) where
   split : end ≡ base + (end - base)
   split = omega (arith, x .rows .order)
 
-  starts-set : drop base (set starts end a) ≡ set (drop base starts) (end - base) a
-  starts-set = subst (λ (i : ℕ). drop base (set starts i a) ≡ set (drop base starts) (end - base) a) (sym split) (drop-set-add base starts (end - base) a)
-
-  prints-set : drop base (set prints end print) ≡ set (drop base prints) (end - base) print
-  prints-set = subst (λ (i : ℕ). drop base (set prints i print) ≡ set (drop base prints) (end - base) print) (sym split) (drop-set-add base prints (end - base) print)
+  rows-set : (t : List ℕ) (v : ℕ) → drop base (set t end v) ≡ set (drop base t) (end - base) v
+  rows-set t v = subst (λ (i : ℕ). drop base (set t i v) ≡ set (drop base t) (end - base) v) (sym split) (drop-set-add base t (end - base) v)
 
   next : end + 1 - base ≡ suc (end - base)
   next = omega (arith, x .rows .order)
@@ -129,13 +152,16 @@ module _ {s starts prints : List ℕ} {base end a m print : ℕ} (x : Sought s b
   prints-room : end - base < length (drop base prints)
   prints-room = simp length-drop (omega (arith, x .rows .order, x .rows .room, x .rows .prints-long))
 
-  pub noted-keys : keysIn s (set starts end a) (set prints end print) base (end + 1) ≡ take m (drop a s) ∷ keysIn s starts prints base end
-  noted-keys = rw (starts-set, prints-set, next, ← x .sized) (keys-more s (drop base starts) (drop base prints) (end - base) a print starts-room prints-room)
+  key-bytes : keyBytes s (keyAt s at) ≡ take m (drop a s)
+  key-bytes = ap (keyBytes s) (x .key)
 
-  pub noted-stored : Stored s (drop base (set starts end a)) (drop base (set prints end print)) (end + 1 - base)
+  pub noted-keys : keysIn s (set starts end at) base (end + 1) ≡ take m (drop a s) ∷ keysIn s starts base end
+  noted-keys = rw (rows-set starts at, next, ← key-bytes) (keys-more s (drop base starts) (end - base) at starts-room)
+
+  pub noted-stored : Stored s (drop base (set starts end at)) (drop base (set prints end print)) (end + 1 - base)
   noted-stored =
-      rw (starts-set, prints-set, next)
-      (stored-more s (drop base starts) (drop base prints) (end - base) a print starts-room prints-room (rw (x .sized) (x .inside)) (rw (x .sized) (x .is)) (x .rows .stored))
+      rw (rows-set starts at, rows-set prints print, next)
+      (stored-more s (drop base starts) (drop base prints) (end - base) at print starts-room prints-room (record { a = a; m = m; is = x .key }) (x .is ∙ ap printOf (sym key-bytes)) (x .rows .stored))
 
 -- tables that are kept
 
@@ -191,7 +217,7 @@ pub record Going (leads s : List ℕ) (f : ℕ → Walk) (n at depth : ℕ) (sta
   pub starts-kept : Kept (depth + 1) starts₀ starts
   pub prints-kept : Kept (depth + 1) prints₀ prints
   pub stored : Stored s (drop (depth * entryLimit) starts) (drop (depth * entryLimit) prints) (row - depth * entryLimit)
-  pub goes : entriesAt s f n at ≡ entriesFrom s f (depth * entryLimit + n - row) (keysIn s starts prints (depth * entryLimit) row) p
+  pub goes : entriesAt s f n at ≡ entriesFrom s f (depth * entryLimit + n - row) (keysIn s starts (depth * entryLimit) row) p
 
 module _ {leads s : List ℕ} (f : ℕ → Walk) {n at depth : ℕ} where
   pub going-first : {starts prints : List ℕ} → Free leads s (depth + 1) starts prints → n ≤ entryLimit → Going leads s f n at depth starts prints starts prints (depth * entryLimit) at
@@ -215,7 +241,7 @@ module _ {leads s : List ℕ} (f : ℕ → Walk) {n at depth : ℕ} where
   module _ {starts₀ prints₀ starts prints : List ℕ} {row p : ℕ} (g : Going leads s f n at depth starts₀ prints₀ starts prints row p) where
     pub going-last : depth * entryLimit + n ≤ row → Walked (entriesAt s f n at) (depth + 1) starts₀ prints₀ (Walk.End p) starts prints
     going-last le = record {
-      answer = sym (g .goes ∙ w.entries-none s f (depth * entryLimit + n - row) p (keysIn s starts prints (depth * entryLimit) row) (omega arith));
+      answer = sym (g .goes ∙ w.entries-none s f (depth * entryLimit + n - row) p (keysIn s starts (depth * entryLimit) row) (omega arith));
       starts-kept = g .starts-kept;
       prints-kept = g .prints-kept;
     }
@@ -234,19 +260,19 @@ module _ {leads s : List ℕ} (f : ℕ → Walk) {n at depth : ℕ} where
       -- a key that is refused
       pub going-key : {e : ℕ} {starts' prints' : List ℕ} → Noted s p (depth * entryLimit) row starts prints (Walk.Refused e) starts' prints' → Walked (entriesAt s f n at) (depth + 1) starts₀ prints₀ (Walk.Refused e) starts' prints'
       going-key (refused k) = record {
-        answer = sym (g .goes ∙ w.entries-key s f (depth * entryLimit + n - row) p (keysIn s starts prints (depth * entryLimit) row) (omega arith) k);
+        answer = sym (g .goes ∙ w.entries-key s f (depth * entryLimit + n - row) p (keysIn s starts (depth * entryLimit) row) (omega arith) k);
         starts-kept = g .starts-kept;
         prints-kept = g .prints-kept;
       }
       going-key (repeated k b) = record {
-        answer = sym (g .goes ∙ w.entries-twice s f (depth * entryLimit + n - row) p (keysIn s starts prints (depth * entryLimit) row) (omega arith) k b);
+        answer = sym (g .goes ∙ w.entries-twice s f (depth * entryLimit + n - row) p (keysIn s starts (depth * entryLimit) row) (omega arith) k b);
         starts-kept = g .starts-kept;
         prints-kept = g .prints-kept;
       }
 
       -- a key that is new: its value may be walked
       pub going-free : {q : ℕ} {starts' prints' : List ℕ} → Noted s p (depth * entryLimit) row starts prints (Walk.End q) starts' prints' → Free leads s depth starts' prints'
-      going-free (noted k b x) = record {
+      going-free (noted x b) = record {
         small = g .small;
         table = g .table;
         levels = omega (arith, g .levels);
@@ -263,15 +289,15 @@ module _ {leads s : List ℕ} (f : ℕ → Walk) {n at depth : ℕ} where
 
       -- its value is refused
       pub going-value : {q e : ℕ} {starts' prints' starts'' prints'' : List ℕ} → Noted s p (depth * entryLimit) row starts prints (Walk.End q) starts' prints' → Walked (f q) depth starts' prints' (Walk.Refused e) starts'' prints'' → Walked (entriesAt s f n at) (depth + 1) starts₀ prints₀ (Walk.Refused e) starts'' prints''
-      going-value (noted k b x) v = record {
-        answer = sym (g .goes ∙ w.entries-value s f (depth * entryLimit + n - row) p (keysIn s starts prints (depth * entryLimit) row) (omega arith) k b (sym (v .answer)));
+      going-value (noted x b) v = record {
+        answer = sym (g .goes ∙ w.entries-value s f (depth * entryLimit + n - row) p (keysIn s starts (depth * entryLimit) row) (omega arith) (x .key) b (sym (v .answer)));
         starts-kept = kept-past _ (g .starts-kept) (v .starts-kept);
         prints-kept = kept-past _ (g .prints-kept) (v .prints-kept);
       }
 
       -- its value ends: one entry more is done
       pub going-next : {q e : ℕ} {starts' prints' starts'' prints'' : List ℕ} → Noted s p (depth * entryLimit) row starts prints (Walk.End q) starts' prints' → Walked (f q) depth starts' prints' (Walk.End e) starts'' prints'' → Going leads s f n at depth starts₀ prints₀ starts'' prints'' (row + 1) e
-      going-next (noted k b x) v =
+      going-next (noted x b) v =
           let d : depth * entryLimit + n - row - 1 ≡ depth * entryLimit + n - (row + 1) = omega arith in
           record {
             table = g .table;
@@ -285,6 +311,6 @@ module _ {leads s : List ℕ} (f : ℕ → Walk) {n at depth : ℕ} where
             stored = rw (v .starts-kept .same, v .prints-kept .same) (noted-stored x);
             goes =
               g .goes
-              ∙ w.entries-end s f (depth * entryLimit + n - row) p (keysIn s starts prints (depth * entryLimit) row) (omega arith) k b (sym (v .answer))
-              ∙ rw (v .starts-kept .same, v .prints-kept .same, noted-keys x, d);
+              ∙ w.entries-end s f (depth * entryLimit + n - row) p (keysIn s starts (depth * entryLimit) row) (omega arith) (x .key) b (sym (v .answer))
+              ∙ rw (v .starts-kept .same, noted-keys x, d);
           }

@@ -1,16 +1,16 @@
 -- The check at a place of the bytes: what a lead byte asks, one byte on, and the end. Assumes nothing.
 use mathlib.Core.Path.{_≡_, refl, ap, _∙_}
-use mathlib.Core.Bool.{true, false, _&&_}
+use mathlib.Core.Bool.{Bool, true, false, _&&_}
 use mathlib.Core.Logic.{_≢_}
 use mathlib.Core.List.{List, [], _∷_}
 use Prim.Native.Nat.{ℕ, zero, suc, _+_, _<_, _≤_}
 use native.Mathlib.Numerals.{add-one}
 use native.Mathlib.Omega.{arith}
-use borrow.Author.Tests.{lt-ltb, le-ltb, lt-leb, le-leb, ne-eqb}
+use borrow.Author.Tests.{ltb-true, lt-ltb, le-ltb, lt-leb, le-leb, ne-eqb}
 use lib.ListN.{length, drop, getD, drop-of-length-le}
-use lib.Dec.{eqb·suc-zero}
+use lib.Dec.{ltb, eqb·suc-zero}
 use lib.Seq.{drop-cons}
-use Rattle.utf8.specs.Check.{within, isLead, following, lowest, highest, due, isUtf8}
+use Rattle.utf8.specs.Check.{within, isLead, following, lowest, highest, due, isUtf8, isAscii}
 
 -- what a byte is, by its range
 module _ (b : ℕ) where
@@ -84,3 +84,28 @@ ascii-run s i zero h a = let e : i + 0 ≡ i = omega arith in rw e
 ascii-run s i (suc n) h a =
     let e : i + n + 1 ≡ i + suc n = omega arith in
     ascii-run s i n (omega arith) (λ j l. a j (omega arith)) ∙ ascii-at s (i + n) (omega arith) (a n (omega arith)) ∙ rw e
+
+-- bytes below 80
+
+pub isAscii-isUtf8 : (s : List ℕ) → isAscii s ≡ true → isUtf8 s ≡ true
+unfolding isAscii due
+isAscii-isUtf8 [] h = refl
+isAscii-isUtf8 (b ∷ s) h = go (ltb b 0x80) refl h (isAscii-isUtf8 s)
+  where
+    go : (t : Bool) → ltb b 0x80 ≡ t → t && isAscii s ≡ true → (isAscii s ≡ true → isUtf8 s ≡ true) → isUtf8 (b ∷ s) ≡ true
+    go true e k rest = ascii-at (b ∷ s) 0 (omega arith) (ltb-true b 0x80 e) ∙ rest k
+    go false e k rest = let z : _≡_ {A = ℕ} 0 1 = cc in absurd (omega arith)
+
+-- one byte at a time: what is left decides
+module _ (s : List ℕ) (i : ℕ) where
+  pub isAscii-next : i < length s → getD s i 0 < 0x80 → isAscii (drop i s) ≡ isAscii (drop (i + 1) s)
+  unfolding isAscii
+  isAscii-next h a = rw (drop-cons s i 0 h, lt-ltb _ 0x80 a, add-one)
+
+  pub isAscii-not : i < length s → 0x80 ≤ getD s i 0 → isAscii (drop i s) ≡ false
+  unfolding isAscii
+  isAscii-not h a = rw (drop-cons s i 0 h, le-ltb _ 0x80 a)
+
+  pub isAscii-end : length s ≤ i → isAscii (drop i s) ≡ true
+  unfolding isAscii
+  isAscii-end h = rw (drop-of-length-le s h)

@@ -1,0 +1,55 @@
+-- The tests are those of a string whose length is in its lead byte and whose bytes are below 80.
+use mathlib.Core.Path.{_≡_, sym, _∙_}
+use Prim.Native.Nat.{_+_, _-_, _<_, _≤_}
+use native.Mathlib.Omega.{arith}
+use lib.ListN.{length}
+use borrow.Author.Needs.{needs}
+use Rattle.messagepack.specs.Quick.{another}
+use Rattle.messagepack.specs.Laws.Quick.{short-found}
+use Rattle.messagepack.proofs.short_at.Statement.{statement}
+use Rattle.messagepack.proofs.short_at.Tie as tie
+
+part-is-ascii-end : tie.Need-part-is-ascii-end
+part-is-ascii-end c = omega arith
+
+returns-5 : tie.Need-returns-5
+returns-5 c =
+    let a = c .before .before .before .before .before .before .before .before .before .before .args in
+    let n = c .before .before .before .before .wide-byte .result in
+    let i : a .at + 1 + n - (a .at + 1) ≡ n = omega arith in
+    short-found (a .file .now) (a .at) (omega arith) n (c .before .before .before .before .before .before .if2 .left) (c .before .before .before .before .before .if3 .left) (c .before .before .before .before .wide-byte .ensures) (omega arith) (rw i at (sym (c .before .is-ascii .ensures) ∙ c .if5 .taken))
+
+returns : tie.Need-returns
+returns c = another
+
+returns-2 : tie.Need-returns-2
+returns-2 c = another
+
+returns-3 : tie.Need-returns-3
+returns-3 c = another
+
+returns-4 : tie.Need-returns-4
+returns-4 c = another
+
+returns-6 : tie.Need-returns-6
+returns-6 c = another
+
+pub short-at-spec : {M : Type 1} → statement M
+short-at-spec =
+    tie.close
+    (tie.spec
+    returns
+    (λ c. search needs)
+    returns-2
+    returns-3
+    (λ c κs. search needs)
+    (λ c. search needs)
+    (λ c. search needs)
+    returns-4
+    (λ c. search needs)
+    (λ c. search needs)
+    (λ c. search needs)
+    part-is-ascii-end
+    (λ c κs. search needs)
+    returns-5
+    returns-6)

@@ -1,0 +1,72 @@
+-- The quick looks at a value: an integer in its lead byte, and a short string of bytes below 80.
+-- Assumes nothing.
+use mathlib.Core.Path.{_≡_, refl, sym, ap, subst, _∙_}
+use mathlib.Core.Bool.{true}
+use mathlib.Core.List.{List}
+use Prim.Native.Nat.{ℕ, _+_, _-_, _<_, _≤_}
+use native.Mathlib.Omega.{arith}
+use lib.Dec.{lit<}
+use lib.ListN.{length, getD, take, drop}
+use borrow.Author.Tests.{le-leb}
+use Rattle.utf8.specs.Check.{isAscii}
+use Rattle.utf8.specs.Laws.Check.{isAscii-isUtf8}
+use Rattle.heads.specs.Lead.{moreOf}
+use Rattle.heads.specs.Head.{kindAt, headAt}
+use Rattle.heads.specs.declared.Kind.{Kind}
+use Rattle.heads.specs.declared.Head.{Head}
+use Rattle.heads.specs.Laws.Head.{kind-in, head-held}
+use Rattle.heads.specs.Laws.Table.{low-lead, string-lead}
+use Rattle.messagepack.specs.Limits.{integerLimit}
+use Rattle.messagepack.specs.Walk.{textAt, keyAt, valueAt}
+use Rattle.messagepack.specs.Quick.{QuickSays, ends, other, ShortSays, found, another}
+use Rattle.messagepack.specs.declared.Walk.{Walk}
+use Rattle.messagepack.specs.declared.Text.{Text}
+use Rattle.messagepack.specs.declared.Quick.{Quick}
+use Rattle.messagepack.specs.declared.Short.{Short}
+use Rattle.messagepack.specs.Laws.Walk as w
+
+module _ (s : List ℕ) (at : ℕ) (inside : at < length s) where
+  -- an integer in its lead byte
+  pub low-ends : getD s at 0 < 0x80 → QuickSays s at (Quick.End (at + 1))
+  low-ends h =
+      let r = low-lead (getD s at 0) h in
+      let k : kindAt s at ≡ Kind.Unsigned = kind-in s at inside ∙ r .kind in
+      let one : 1 ≡ moreOf (getD s at 0) + 1 = rw (r .more) in
+      let g : headAt s at ≡ Head.At (getD s at 0) (at + 1) = sym (head-held s at one refl (omega arith) (sym (r .held))) in
+      ends {p = at + 1} (λ d. w.value-unsigned s d at k ∙ rw (g, le-leb (getD s at 0) integerLimit (omega arith)))
+
+  -- a short string
+  pub short-found : (n : ℕ) → 0xa0 ≤ getD s at 0 → getD s at 0 < 0xc0 → n ≡ getD s at 0 - 0xa0 → at + 1 + n ≤ length s → isAscii (take n (drop (at + 1) s)) ≡ true → ShortSays s at (Short.At (at + 1) n)
+  short-found n l h e le a =
+      let r = string-lead (getD s at 0) l h in
+      let one : 1 ≡ moreOf (getD s at 0) + 1 = rw (r .more) in
+      let g : headAt s at ≡ Head.At n (at + 1) = sym (head-held s at one refl (omega arith) (e ∙ sym (r .held))) in
+      found (kind-in s at inside ∙ r .kind) (w.text-tested s at true g (w.body-in s n (at + 1) le) (isAscii-isUtf8 (take n (drop (at + 1) s)) a))
+
+module _ {s : List ℕ} {at : ℕ} where
+  -- a short string's end is the value's
+  pub short-ends : {q : Short} {p n : ℕ} → ShortSays s at q → q ≡ Short.At p n → QuickSays s at (Quick.End (p + n))
+  short-ends {p = p} {n = n} x e = go (subst (ShortSays s at) e x)
+    where
+      go : ShortSays s at (Short.At p n) → QuickSays s at (Quick.End (p + n))
+      go (found k t) = ends {p = p + n} (λ d. w.value-str s d at k ∙ rw t)
+
+  -- it ends inside the file
+  pub short-inside : {q : Short} {p n : ℕ} → ShortSays s at q → q ≡ Short.At p n → p + n ≤ length s
+  short-inside {p = p} {n = n} x e = go (subst (ShortSays s at) e x)
+    where
+      go : ShortSays s at (Short.At p n) → p + n ≤ length s
+      go (found k t) = w.text-is s at t .inside
+
+  -- and it is a key
+  pub short-key : {q : Short} {p n : ℕ} → ShortSays s at q → q ≡ Short.At p n → Text.At p n ≡ keyAt s at
+  short-key {p = p} {n = n} x e = go (subst (ShortSays s at) e x)
+    where
+      go : ShortSays s at (Short.At p n) → Text.At p n ≡ keyAt s at
+      go (found k t) = sym (w.key-by s at k ∙ t)
+
+  pub quick-ends : {q : Quick} {p : ℕ} (d : ℕ) → QuickSays s at q → q ≡ Quick.End p → Walk.End p ≡ valueAt s d at
+  quick-ends {p = p} d x e = go (subst (QuickSays s at) e x)
+    where
+      go : QuickSays s at (Quick.End p) → Walk.End p ≡ valueAt s d at
+      go (ends f) = sym (f d)

@@ -1,0 +1,21 @@
+-- What the quick looks at a value say, which contracts of functions inside this crate cite. No lemma stands here. Assumes nothing.
+use mathlib.Core.Path.{_≡_}
+use mathlib.Core.List.{List}
+use Prim.Native.Nat.{ℕ}
+use Rattle.heads.specs.Head.{kindAt}
+use Rattle.heads.specs.declared.Kind.{Kind}
+use Rattle.messagepack.specs.Walk.{textAt, valueAt}
+use Rattle.messagepack.specs.declared.Walk.{Walk}
+use Rattle.messagepack.specs.declared.Text.{Text}
+use Rattle.messagepack.specs.declared.Quick.{Quick}
+use Rattle.messagepack.specs.declared.Short.{Short}
+
+-- an end that is found is the value's, with any levels left
+pub data QuickSays (s : List ℕ) (at : ℕ) : Quick → Type 0 where
+  ends : {p : ℕ} → ((d : ℕ) → valueAt s d at ≡ Walk.End p) → QuickSays s at (Quick.End p)
+  other : QuickSays s at Quick.Other
+
+-- a short string that is found is the string there
+pub data ShortSays (s : List ℕ) (at : ℕ) : Short → Type 0 where
+  found : {p n : ℕ} → kindAt s at ≡ Kind.Str → textAt s at ≡ Text.At p n → ShortSays s at (Short.At p n)
+  another : ShortSays s at Short.Other
