@@ -1,9 +1,10 @@
 -- The tables of keys that the walk lends down: a row for each key of each map that is open, 256 for each level.
 -- Contracts of functions inside this crate cite these; no public contract does. No lemma stands here. Assumes nothing.
 use mathlib.Core.Path.{_≡_}
-use mathlib.Core.Bool.{true, false}
+use mathlib.Core.Bool.{true, false, cond}
 use mathlib.Core.List.{List, [], _∷_}
 use Prim.Native.Nat.{ℕ, zero, suc, _+_, _-_, _*_, _%_, _<_, _≤_}
+use lib.Dec.{leb}
 use lib.ListN.{length, getD, take, drop, set}
 use Rattle.refusal.specs.Table.{keyRepeated}
 use Rattle.numbers.specs.BigEndian.{unsignedAt}
@@ -17,9 +18,13 @@ use Rattle.messagepack.specs.declared.Text.{Text}
 abbrev pub tableLength : ℕ
 tableLength = 3072
 
--- a key's print: its length modulo 65,536, and its last two bytes
+-- the number of a key's last four bytes; of its last two where it has fewer, and 0 where it has fewer than that
+abbrev pub lastOf : List ℕ → ℕ
+lastOf k = cond (leb 4 (length k)) (unsignedAt 4 k (length k - 4)) (unsignedAt 2 k (length k - 2))
+
+-- a key's print: a number of its length and its last bytes, which equal keys share
 unfoldable pub printOf : List ℕ → ℕ
-printOf k = length k % 65536 * 65536 + unsignedAt 2 k (length k - 2)
+printOf k = (length k % 65536 * 65536 + lastOf k) % 4294967296
 
 -- the bytes of a key
 abbrev pub keyBytes : List ℕ → Text → List ℕ

@@ -1,10 +1,10 @@
 -- What the quick looks at a value say, which contracts of functions inside this crate cite. No lemma stands here. Assumes nothing.
 use mathlib.Core.Path.{_≡_}
 use mathlib.Core.List.{List}
-use Prim.Native.Nat.{ℕ}
+use Prim.Native.Nat.{ℕ, _≤_}
 use Rattle.heads.specs.Head.{kindAt}
 use Rattle.heads.specs.declared.Kind.{Kind}
-use Rattle.messagepack.specs.Walk.{textAt, valueAt}
+use Rattle.messagepack.specs.Walk.{textAt, manyAt, valueAt}
 use Rattle.messagepack.specs.declared.Walk.{Walk}
 use Rattle.messagepack.specs.declared.Text.{Text}
 use Rattle.messagepack.specs.declared.Quick.{Quick}
@@ -19,3 +19,8 @@ pub data QuickSays (s : List ℕ) (at : ℕ) : Quick → Type 0 where
 pub data ShortSays (s : List ℕ) (at : ℕ) : Short → Type 0 where
   found : {p n : ℕ} → kindAt s at ≡ Kind.Str → textAt s at ≡ Text.At p n → ShortSays s at (Short.At p n)
   another : ShortSays s at Short.Other
+
+-- of n values from a place on, those before another place end there, and so many are left
+pub record RunSays (s : List ℕ) (at n p left : ℕ) : Type 0 where
+  pub fewer : left ≤ n
+  pub same : (d : ℕ) → manyAt (valueAt s d) n at ≡ manyAt (valueAt s d) left p

@@ -11,7 +11,7 @@ ghost use Rattle.messagepack.specs.Limits.{fileLimit, nestingLimit, entr
 ghost use Rattle.messagepack.specs.Rules.{Container};
 ghost use Rattle.messagepack.specs.Walk.{leafOf, leafAt, bodyAt, textAt, keyAt, integerAt, plainAt, binaryAt, stringAt, equal, among, manyAt, entriesAt, valueAt, ended, containerNumber};
 ghost use Rattle.messagepack.specs.Keys.{printOf, keyBytes, keysIn, KeyThere, tableLength, Free, Walked, Rows, Sought, Noted};
-ghost use Rattle.messagepack.specs.Quick.{QuickSays, ShortSays};
+ghost use Rattle.messagepack.specs.Quick.{QuickSays, ShortSays, RunSays};
 
 use heads::Head;
 use heads::Kind;
@@ -52,6 +52,12 @@ pub enum Leaf {
 pub enum Quick {
     End(usize),
     Other,
+}
+
+// A place, and how many values are left from there on.
+pub struct Run {
+    pub at: usize,
+    pub left: usize,
 }
 
 // A short string's first byte and its length, or that it is another value.
@@ -314,10 +320,15 @@ fn value(
     requires { ⌜ Free (now leads) (now file) depth (now starts) (now prints) ⌝ }
     ensures { λ r. ⌜ Walked (valueAt (now (file .entry)) depth at) depth (now (starts .entry)) (now (prints .entry)) r (now (starts .exit)) (now (prints .exit)) ⌝ }
 {
-    match leaf_at(leads, file, at) {
-        Leaf::End(p) => Walk::End(p),
-        Leaf::Refused(e) => Walk::Refused(e),
-        Leaf::Array => {
+    match heads::kind_at(leads, file, at) {
+        Kind::Missing => Walk::Refused(refusal::CUT_SHORT),
+        Kind::Outside => Walk::Refused(refusal::LEAD_BYTE_UNKNOWN),
+        Kind::Unsigned => integer_at(leads, file, at),
+        Kind::Signed => plain_at(leads, file, at),
+        Kind::Float => plain_at(leads, file, at),
+        Kind::Bin => binary_at(leads, file, at),
+        Kind::Str => string_at(leads, file, at),
+        Kind::Array => {
             if depth == 0 {
                 return Walk::Refused(refusal::NESTED_TOO_DEEP);
             }
@@ -326,7 +337,7 @@ fn value(
                 Head::At(n, p) => array(leads, file, n, p, depth - 1, starts, prints),
             }
         }
-        Leaf::Map => {
+        Kind::Map => {
             if depth == 0 {
                 return Walk::Refused(refusal::NESTED_TOO_DEEP);
             }
@@ -338,7 +349,7 @@ fn value(
     }
 }
 
-// The value at a place, as `value` has it; one that holds no others is walked here, so that a loop over values calls no function for it.
+// The value at a place, as `value` has it; one that holds no others is walked with no step into the recursion.
 fn element(
     leads: &[u8; 256],
     file: &[u8],
@@ -374,20 +385,55 @@ fn array(
     requires { ⌜ Free (now leads) (now file) depth (now starts) (now prints) ⌝ }
     ensures { λ r. ⌜ Walked (manyAt (valueAt (now (file .entry)) depth) n at) depth (now (starts .entry)) (now (prints .entry)) r (now (starts .exit)) (now (prints .exit)) ⌝ }
 {
-    let mut left = n;
-    let mut p = at;
+    let first = leaves(leads, file, at, n);
+    let mut left = first.left;
+    let mut p = first.at;
     while 0 < left {
-        match element(leads, file, p, depth, starts, prints) {
+        match value(leads, file, p, depth, starts, prints) {
             Walk::End(q) => {
-                p = q;
+                let next = leaves(leads, file, q, left - 1);
+                p = next.at;
+                left = next.left;
             }
             Walk::Refused(e) => {
                 return Walk::Refused(e);
             }
         }
-        left -= 1;
     }
     Walk::End(p)
+}
+
+// Past the first of n values from a place on that hold no others.
+fn leaves(leads: &[u8; 256], file: &[u8], at: usize, n: usize) -> Run
+    requires { ⌜ now leads ≡ leadTable ⌝ }
+    ensures { λ r. ⌜ RunSays (now (file .entry)) at n (r .at) (r .left) ⌝ }
+{
+    let mut left = n;
+    let mut p = at;
+    while 0 < left {
+        let Quick::End(q) = leaf_end(leads, file, p) else {
+            return Run { at: p, left: left };
+        };
+        p = q;
+        left -= 1;
+    }
+    Run { at: p, left: left }
+}
+
+// The end of a value at a place that holds no others and is not refused.
+fn leaf_end(leads: &[u8; 256], file: &[u8], at: usize) -> Quick
+    requires { ⌜ now leads ≡ leadTable ⌝ }
+    ensures { λ r. ⌜ QuickSays (now (file .entry)) at r ⌝ }
+{
+    if let Quick::End(p) = quick_at(file, at) {
+        return Quick::End(p);
+    }
+    match leaf_at(leads, file, at) {
+        Leaf::End(p) => Quick::End(p),
+        Leaf::Refused(_) => Quick::Other,
+        Leaf::Array => Quick::Other,
+        Leaf::Map => Quick::Other,
+    }
 }
 
 // The n entries of a map from a place on, each value with so many levels left. Its keys stand in the 256 rows from depth * 256 on.
@@ -520,7 +566,7 @@ fn same_key(leads: &[u8; 256], file: &[u8], at: usize, other: usize) -> bool
     same_bytes(&file[a..a + m], &file[b..b + n])
 }
 
-// The print of the m bytes from a: their number, and the last two.
+// The print of the m bytes from a: a number of how many they are and of the last of them.
 fn print_of(file: &[u8], a: usize, m: usize) -> u32
     requires { ⌜ a + m ≤ length (now file) ⌝ }
     ensures { λ r. ⌜ r ≡ printOf (take m (drop a (now (file .entry)))) ⌝ }
@@ -529,7 +575,11 @@ fn print_of(file: &[u8], a: usize, m: usize) -> u32
     if m < 2 {
         return size;
     }
-    size + (numbers::read_u16(file, a + m - 2) as u32)
+    if m < 4 {
+        let last = numbers::read_u16(file, a + m - 2) as u32;
+        return std::num::wrapping_add_u32(size, last);
+    }
+    std::num::wrapping_add_u32(size, numbers::read_u32(file, a + m - 4))
 }
 
 fn wide_byte(x: u8) -> usize

@@ -28,7 +28,13 @@ use Rattle.messagepack.proofs.element.Reads as element
 use Rattle.messagepack.proofs.element.Kinds as element-kinds
 use Rattle.messagepack.proofs.+array+element+map+value.Lts-element as element-lts
 use Rattle.heads.proofs.head_at.Reads as head-at-reads
+use Rattle.heads.proofs.kind_at.Reads as kind-at-reads
 use Rattle.messagepack.proofs.leaf_at.Reads as leaf-at-reads
+use Rattle.messagepack.proofs.integer_at.Reads as integer-at-reads
+use Rattle.messagepack.proofs.plain_at.Reads as plain-at-reads
+use Rattle.messagepack.proofs.binary_at.Reads as binary-at-reads
+use Rattle.messagepack.proofs.string_at.Reads as string-at-reads
+use Rattle.messagepack.proofs.leaves.Reads as leaves-reads
 use Rattle.messagepack.proofs.new_key.Reads as new-key-reads
 use Rattle.messagepack.proofs.quick_at.Reads as quick-at-reads
 use Rattle.messagepack.proofs.+array+element+map+value.{statement}
@@ -75,7 +81,7 @@ value-below t = and 4 value-kinds.ps (falls 4 value-kinds.ps _<_ μ-value t) val
 -- what each may ask of those that it calls, and learns from them
 
 abbrev array-claims : ℕ → array-lts.Claims
-array-claims t = (element-below t, element.Post)
+array-claims t = (leaves-reads.Asked, leaves-reads.Learnt, value-below t, value.Post)
 
 abbrev element-claims : ℕ → element-lts.Claims
 element-claims t = (quick-at-reads.Asked, quick-at-reads.Learnt, leaf-at-reads.Asked, leaf-at-reads.Learnt, value-below t, value.Post)
@@ -85,8 +91,16 @@ map-claims t = (new-key-reads.Asked, new-key-reads.Learnt, element-below t, elem
 
 abbrev value-claims : ℕ → value-lts.Claims
 value-claims t = (
-  leaf-at-reads.Asked,
-  leaf-at-reads.Learnt,
+  kind-at-reads.Asked,
+  kind-at-reads.Learnt,
+  integer-at-reads.Asked,
+  integer-at-reads.Learnt,
+  plain-at-reads.Asked,
+  plain-at-reads.Learnt,
+  binary-at-reads.Asked,
+  binary-at-reads.Learnt,
+  string-at-reads.Asked,
+  string-at-reads.Learnt,
   head-at-reads.Asked,
   head-at-reads.Learnt,
   array-below t,
@@ -104,33 +118,42 @@ array-Inv-loop leads file n at depth starts₀ prints₀ left₀ p₀ starts pri
 abbrev array-μ-loop : array-lts.MeasureT-loop
 array-μ-loop leads file n at depth starts₀ prints₀ left₀ p₀ starts prints left p = left
 
-array-loop-holds : (t : ℕ) → array-lts.Need-loop-holds (array-claims t) (array-at t) array.Post array-Inv-loop array-μ-loop
-array-loop-holds t c = (kept-all _ (c .before .pre .1 .starts-long), kept-all _ (c .before .pre .1 .prints-long), refl)
+array-leaves-requires : (t : ℕ) → array-lts.Need-leaves-requires (array-claims t) (array-at t) array.Post array-Inv-loop array-μ-loop
+array-leaves-requires t c κs = c .before .pre .1 .table
 
-array-element-requires : (t : ℕ) → array-lts.Need-element-requires (array-claims t) (array-at t) array.Post array-Inv-loop array-μ-loop
-array-element-requires t c κs = (search needs, free-kept (c .before .before .before .before .before .pre .1) (c .before .before .before .loop .inv .0) (c .before .before .before .loop .inv .1))
+array-loop-holds : (t : ℕ) → array-lts.Need-loop-holds (array-claims t) (array-at t) array.Post array-Inv-loop array-μ-loop
+array-loop-holds t c = (kept-all _ (c .before .before .pre .1 .starts-long), kept-all _ (c .before .before .pre .1 .prints-long), c .leaves .ensures .same (c .before .before .args .depth))
+
+array-value-requires : (t : ℕ) → array-lts.Need-value-requires (array-claims t) (array-at t) array.Post array-Inv-loop array-μ-loop
+array-value-requires t c κs = (search needs, free-kept (c .before .before .before .before .before .before .pre .1) (c .before .before .before .loop .inv .0) (c .before .before .before .loop .inv .1))
+
+array-leaves-requires-2 : (t : ℕ) → array-lts.Need-leaves-requires-2 (array-claims t) (array-at t) array.Post array-Inv-loop array-μ-loop
+array-leaves-requires-2 t c κs = c .before .before .before .before .before .before .before .before .before .before .pre .1 .table
+
+array-loop-less : (t : ℕ) → array-lts.Need-loop-less (array-claims t) (array-at t) array.Post array-Inv-loop array-μ-loop
+array-loop-less t c = omega (arith, c .leaves2 .ensures .fewer)
+
+array-loop-again : (t : ℕ) → array-lts.Need-loop-again (array-claims t) (array-at t) array.Post array-Inv-loop array-μ-loop
+array-loop-again t c =
+    let a = c .before .before .before .before .before .before .before .before .before .before .before .args in
+    let l = c .before .before .before .before .before .before .before .before .loop in
+    let o = c .before .before .before .before .value .ensures in
+    (kept-then (l .inv .0) (o .starts-kept), kept-then (l .inv .1) (o .prints-kept), l .inv .2 ∙ w.many-end (valueAt (a .file .now) (a .depth)) (l .left) (l .p) (c .before .before .before .before .before .before .before .loop-test .taken) (sym (o .answer) ∙ c .before .before .q .given .1) ∙ c .leaves2 .ensures .same (a .depth))
 
 array-returns : (t : ℕ) → array-lts.Need-returns (array-claims t) (array-at t) array.Post array-Inv-loop array-μ-loop
 array-returns t c =
-    let a = c .before .before .before .before .before .before .before .before .before .args in
+    let a = c .before .before .before .before .before .before .before .before .before .before .args in
     let l = c .before .before .before .before .before .before .before .loop in
-    let o = c .before .before .before .element .ensures in
+    let o = c .before .before .before .value .ensures in
     record {
       answer = sym (l .inv .2 ∙ w.many-refused (valueAt (a .file .now) (a .depth)) (l .left) (l .p) (c .before .before .before .before .before .before .loop-test .taken) (sym (o .answer) ∙ c .before .e .given .1));
       starts-kept = kept-then (l .inv .0) (o .starts-kept);
       prints-kept = kept-then (l .inv .1) (o .prints-kept);
     }
 
-array-loop-again : (t : ℕ) → array-lts.Need-loop-again (array-claims t) (array-at t) array.Post array-Inv-loop array-μ-loop
-array-loop-again t c =
-    let a = c .before .before .before .before .before .before .before .before .before .args in
-    let l = c .before .before .before .before .before .before .before .loop in
-    let o = c .before .before .before .element .ensures in
-    (kept-then (l .inv .0) (o .starts-kept), kept-then (l .inv .1) (o .prints-kept), l .inv .2 ∙ w.many-end (valueAt (a .file .now) (a .depth)) (l .left) (l .p) (c .before .before .before .before .before .before .loop-test .taken) (sym (o .answer) ∙ c .before .q .given .1))
-
 array-returns-2 : (t : ℕ) → array-lts.Need-returns-2 (array-claims t) (array-at t) array.Post array-Inv-loop array-μ-loop
 array-returns-2 t c =
-    let a = c .before .before .before .args in
+    let a = c .before .before .before .before .args in
     let l = c .before .loop in
     record {
       answer = sym (l .inv .2 ∙ w.many-none (valueAt (a .file .now) (a .depth)) (l .left) (l .p) (c .loop-test .left));
@@ -195,11 +218,23 @@ map-returns-4 t c = going-last _ (c .before .loop .inv) (c .loop-test .left)
 unchanged : {leads file : List ℕ} {depth : ℕ} {starts prints : List ℕ} {r expected : Walk} → Free leads file depth starts prints → r ≡ expected → Walked expected depth starts prints r starts prints
 unchanged {depth = depth} x e = record { answer = e; starts-kept = kept-all depth (x .starts-long); prints-kept = kept-all depth (x .prints-long) }
 
-value-leaf-at-requires : (t : ℕ) → value-lts.Need-leaf-at-requires (value-claims t) (value-at t) value.Post
-value-leaf-at-requires t c κs = c .before .pre .1 .table
-
 value-returns : (t : ℕ) → value-lts.Need-returns (value-claims t) (value-at t) value.Post
-value-returns t c = unchanged (c .before .before .before .before .before .pre .1) (sym (w.deep-array _ _ _ (c .if1 .taken) (w.leaf-array _ _ (sym (c .before .before .before .leaf-at .ensures) ∙ c .before .enum-told .given .1))))
+value-returns t c = unchanged (c .before .before .before .before .before .pre .1) (sym (w.deep-array _ _ _ (c .if1 .taken) (sym (c .before .before .before .kind-at .ensures .1 (c .before .before .before .before .before .pre .1 .table)) ∙ c .before .enum-told8 .given .1)))
+
+value-integer-at-requires : (t : ℕ) → value-lts.Need-integer-at-requires (value-claims t) (value-at t) value.Post
+value-integer-at-requires t c κs = c .before .before .before .before .pre .1 .table
+
+value-plain-at-requires : (t : ℕ) → value-lts.Need-plain-at-requires (value-claims t) (value-at t) value.Post
+value-plain-at-requires t c κs = c .before .before .before .before .pre .1 .table
+
+value-plain-at-requires-2 : (t : ℕ) → value-lts.Need-plain-at-requires-2 (value-claims t) (value-at t) value.Post
+value-plain-at-requires-2 t c κs = c .before .before .before .before .pre .1 .table
+
+value-binary-at-requires : (t : ℕ) → value-lts.Need-binary-at-requires (value-claims t) (value-at t) value.Post
+value-binary-at-requires t c κs = c .before .before .before .before .pre .1 .table
+
+value-string-at-requires : (t : ℕ) → value-lts.Need-string-at-requires (value-claims t) (value-at t) value.Post
+value-string-at-requires t c κs = c .before .before .before .before .pre .1 .table
 
 value-sub-array : (t : ℕ) → value-lts.Need-sub-array (value-claims t) (value-at t) value.Post
 value-sub-array t c = pos-of-ne-zero (c .before .before .before .before .if1 .left)
@@ -208,7 +243,7 @@ value-array-requires : (t : ℕ) → value-lts.Need-array-requires (value-claims
 value-array-requires t c κs = (omega (arith, pos-of-ne-zero (c .before .before .before .before .before .before .if1 .left)), free-less (omega arith) (c .before .before .before .before .before .before .before .before .before .before .before .pre .1))
 
 value-returns-2 : (t : ℕ) → value-lts.Need-returns-2 (value-claims t) (value-at t) value.Post
-value-returns-2 t c = unchanged (c .before .before .before .before .before .pre .1) (sym (w.deep-map _ _ _ (c .if2 .taken) (w.leaf-map _ _ (sym (c .before .before .before .leaf-at .ensures) ∙ c .before .enum-told3 .given .1))))
+value-returns-2 t c = unchanged (c .before .before .before .before .before .pre .1) (sym (w.deep-map _ _ _ (c .if2 .taken) (sym (c .before .before .before .kind-at .ensures .1 (c .before .before .before .before .before .pre .1 .table)) ∙ c .before .enum-told10 .given .1)))
 
 value-sub-map : (t : ℕ) → value-lts.Need-sub-map (value-claims t) (value-at t) value.Post
 value-sub-map t c = pos-of-ne-zero (c .before .before .before .before .if2 .left)
@@ -217,30 +252,45 @@ value-map-requires : (t : ℕ) → value-lts.Need-map-requires (value-claims t) 
 value-map-requires t c κs = (omega (arith, pos-of-ne-zero (c .before .before .before .before .before .before .if2 .left)), free-less (omega (arith, pos-of-ne-zero (c .before .before .before .before .before .before .if2 .left))) (c .before .before .before .before .before .before .before .before .before .before .before .pre .1))
 
 value-returns-3 : (t : ℕ) → value-lts.Need-returns-3 (value-claims t) (value-at t) value.Post
-value-returns-3 t c = unchanged (c .before .before .before .before .before .pre .1) (w.leaf-ends _ _ _ (sym (c .before .before .before .leaf-at .ensures) ∙ c .before .p .given .1))
+value-returns-3 t c = unchanged (c .before .before .before .before .pre .1) (sym (w.value-missing _ _ _ (sym (c .before .before .kind-at .ensures .1 (c .before .before .before .before .pre .1 .table)) ∙ c .enum-told .given .1)))
 
 value-returns-4 : (t : ℕ) → value-lts.Need-returns-4 (value-claims t) (value-at t) value.Post
-value-returns-4 t c = unchanged (c .before .before .before .before .before .pre .1) (w.leaf-refuses _ _ _ (sym (c .before .before .before .leaf-at .ensures) ∙ c .before .e .given .1))
+value-returns-4 t c = unchanged (c .before .before .before .before .pre .1) (sym (w.value-outside _ _ _ (sym (c .before .before .kind-at .ensures .1 (c .before .before .before .before .pre .1 .table)) ∙ c .enum-told2 .given .1)))
 
 value-returns-5 : (t : ℕ) → value-lts.Need-returns-5 (value-claims t) (value-at t) value.Post
-value-returns-5 t c =
-    unchanged (c .before .before .before .before .before .before .before .before .pre .1)
-    (sym (w.array-cut _ _ _ (pos-of-ne-zero (c .before .before .before .if1 .left)) (w.leaf-array _ _ (sym (c .before .before .before .before .before .before .leaf-at .ensures) ∙ c .before .before .before .before .enum-told .given .1)) (sym (c .before .before .head-at .ensures .1 (c .before .before .before .before .before .before .before .before .pre .1 .table)) ∙ c .enum-told2 .given .1)))
+value-returns-5 t c = unchanged (c .before .before .before .before .before .pre .1) (c .integer-at .ensures ∙ sym (w.value-unsigned _ _ _ (sym (c .before .before .before .kind-at .ensures .1 (c .before .before .before .before .before .pre .1 .table)) ∙ c .before .enum-told3 .given .1)))
 
 value-returns-6 : (t : ℕ) → value-lts.Need-returns-6 (value-claims t) (value-at t) value.Post
-value-returns-6 t c =
-    let pos = pos-of-ne-zero (c .before .before .before .before .before .before .before .if1 .left) in
-    walked-in (omega arith) (w.array-at _ _ _ pos (w.leaf-array _ _ (sym (c .before .before .before .before .before .before .before .before .before .before .leaf-at .ensures) ∙ c .before .before .before .before .before .before .before .before .enum-told .given .1)) (sym (c .before .before .before .before .before .before .head-at .ensures .1 (c .before .before .before .before .before .before .before .before .before .before .before .before .pre .1 .table)) ∙ c .before .before .before .before .n .given .1)) (walked-more (c .array .ensures))
+value-returns-6 t c = unchanged (c .before .before .before .before .before .pre .1) (c .plain-at .ensures ∙ sym (w.value-signed _ _ _ (sym (c .before .before .before .kind-at .ensures .1 (c .before .before .before .before .before .pre .1 .table)) ∙ c .before .enum-told4 .given .1)))
 
 value-returns-7 : (t : ℕ) → value-lts.Need-returns-7 (value-claims t) (value-at t) value.Post
-value-returns-7 t c =
-    unchanged (c .before .before .before .before .before .before .before .before .pre .1)
-    (sym (w.map-cut _ _ _ (pos-of-ne-zero (c .before .before .before .if2 .left)) (w.leaf-map _ _ (sym (c .before .before .before .before .before .before .leaf-at .ensures) ∙ c .before .before .before .before .enum-told3 .given .1)) (sym (c .before .before .head-at2 .ensures .1 (c .before .before .before .before .before .before .before .before .pre .1 .table)) ∙ c .enum-told4 .given .1)))
+value-returns-7 t c = unchanged (c .before .before .before .before .before .pre .1) (c .plain-at2 .ensures ∙ sym (w.value-float _ _ _ (sym (c .before .before .before .kind-at .ensures .1 (c .before .before .before .before .before .pre .1 .table)) ∙ c .before .enum-told5 .given .1)))
 
 value-returns-8 : (t : ℕ) → value-lts.Need-returns-8 (value-claims t) (value-at t) value.Post
-value-returns-8 t c =
+value-returns-8 t c = unchanged (c .before .before .before .before .before .pre .1) (c .binary-at .ensures ∙ sym (w.value-bin _ _ _ (sym (c .before .before .before .kind-at .ensures .1 (c .before .before .before .before .before .pre .1 .table)) ∙ c .before .enum-told6 .given .1)))
+
+value-returns-9 : (t : ℕ) → value-lts.Need-returns-9 (value-claims t) (value-at t) value.Post
+value-returns-9 t c = unchanged (c .before .before .before .before .before .pre .1) (c .string-at .ensures ∙ sym (w.value-str _ _ _ (sym (c .before .before .before .kind-at .ensures .1 (c .before .before .before .before .before .pre .1 .table)) ∙ c .before .enum-told7 .given .1)))
+
+value-returns-10 : (t : ℕ) → value-lts.Need-returns-10 (value-claims t) (value-at t) value.Post
+value-returns-10 t c =
+    unchanged (c .before .before .before .before .before .before .before .before .pre .1)
+    (sym (w.array-cut _ _ _ (pos-of-ne-zero (c .before .before .before .if1 .left)) (sym (c .before .before .before .before .before .before .kind-at .ensures .1 (c .before .before .before .before .before .before .before .before .pre .1 .table)) ∙ c .before .before .before .before .enum-told8 .given .1) (sym (c .before .before .head-at .ensures .1 (c .before .before .before .before .before .before .before .before .pre .1 .table)) ∙ c .enum-told9 .given .1)))
+
+value-returns-11 : (t : ℕ) → value-lts.Need-returns-11 (value-claims t) (value-at t) value.Post
+value-returns-11 t c =
+    let pos = pos-of-ne-zero (c .before .before .before .before .before .before .before .if1 .left) in
+    walked-in (omega arith) (w.array-at _ _ _ pos (sym (c .before .before .before .before .before .before .before .before .before .before .kind-at .ensures .1 (c .before .before .before .before .before .before .before .before .before .before .before .before .pre .1 .table)) ∙ c .before .before .before .before .before .before .before .before .enum-told8 .given .1) (sym (c .before .before .before .before .before .before .head-at .ensures .1 (c .before .before .before .before .before .before .before .before .before .before .before .before .pre .1 .table)) ∙ c .before .before .before .before .n .given .1)) (walked-more (c .array .ensures))
+
+value-returns-12 : (t : ℕ) → value-lts.Need-returns-12 (value-claims t) (value-at t) value.Post
+value-returns-12 t c =
+    unchanged (c .before .before .before .before .before .before .before .before .pre .1)
+    (sym (w.map-cut _ _ _ (pos-of-ne-zero (c .before .before .before .if2 .left)) (sym (c .before .before .before .before .before .before .kind-at .ensures .1 (c .before .before .before .before .before .before .before .before .pre .1 .table)) ∙ c .before .before .before .before .enum-told10 .given .1) (sym (c .before .before .head-at2 .ensures .1 (c .before .before .before .before .before .before .before .before .pre .1 .table)) ∙ c .enum-told11 .given .1)))
+
+value-returns-13 : (t : ℕ) → value-lts.Need-returns-13 (value-claims t) (value-at t) value.Post
+value-returns-13 t c =
     let pos = pos-of-ne-zero (c .before .before .before .before .before .before .before .if2 .left) in
-    walked-in (omega arith) (w.map-at _ _ _ pos (w.leaf-map _ _ (sym (c .before .before .before .before .before .before .before .before .before .before .leaf-at .ensures) ∙ c .before .before .before .before .before .before .before .before .enum-told3 .given .1)) (sym (c .before .before .before .before .before .before .head-at2 .ensures .1 (c .before .before .before .before .before .before .before .before .before .before .before .before .pre .1 .table)) ∙ c .before .before .before .before .n2 .given .1)) (c .map .ensures)
+    walked-in (omega arith) (w.map-at _ _ _ pos (sym (c .before .before .before .before .before .before .before .before .before .before .kind-at .ensures .1 (c .before .before .before .before .before .before .before .before .before .before .before .before .pre .1 .table)) ∙ c .before .before .before .before .before .before .before .before .enum-told10 .given .1) (sym (c .before .before .before .before .before .before .head-at2 .ensures .1 (c .before .before .before .before .before .before .before .before .before .before .before .before .pre .1 .table)) ∙ c .before .before .before .before .n2 .given .1)) (c .map .ensures)
 
 -- the value in a loop
 
@@ -275,14 +325,16 @@ pub +array+element+map+value-spec : {M : Type 1} → statement M
     array.Post
     array-Inv-loop
     array-μ-loop
+    (array-leaves-requires t)
     (array-loop-holds t)
-    (array-element-requires t)
+    (array-value-requires t)
     (λ c. search needs)
+    (λ c. search needs)
+    (array-leaves-requires-2 t)
+    (array-loop-less t)
+    (array-loop-again t)
     (λ c. search needs)
     (array-returns t)
-    (λ c. search needs)
-    (λ c. search needs)
-    (array-loop-again t)
     (array-returns-2 t))
     (λ t. element-lts.spec
     (element-claims t)
@@ -329,9 +381,19 @@ pub +array+element+map+value-spec : {M : Type 1} → statement M
     (value-claims t)
     (value-at t)
     value.Post
-    (value-leaf-at-requires t)
+    (λ c κs. search needs)
     (λ c. search needs)
     (λ c. search needs)
+    (λ c. search needs)
+    (value-integer-at-requires t)
+    (λ c. search needs)
+    (value-plain-at-requires t)
+    (λ c. search needs)
+    (value-plain-at-requires-2 t)
+    (λ c. search needs)
+    (value-binary-at-requires t)
+    (λ c. search needs)
+    (value-string-at-requires t)
     (λ c. search needs)
     (value-returns t)
     (λ c κs. search needs)
@@ -352,3 +414,8 @@ pub +array+element+map+value-spec : {M : Type 1} → statement M
     (value-returns-6 t)
     (value-returns-7 t)
     (value-returns-8 t)
+    (value-returns-9 t)
+    (value-returns-10 t)
+    (value-returns-11 t)
+    (value-returns-12 t)
+    (value-returns-13 t)

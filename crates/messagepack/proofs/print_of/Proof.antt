@@ -1,8 +1,9 @@
--- A print is the size and the last two bytes.
-use mathlib.Core.Path.{sym, _∙_}
+-- A print is the size with the last bytes added, modulo 2^32.
+use mathlib.Core.Path.{sym, ap, _∙_}
+use Prim.Native.Nat.{ℕ, _+_, _*_, _%_}
 use native.Mathlib.Omega.{arith}
 use borrow.Author.Needs.{needs}
-use Rattle.messagepack.specs.Laws.Tables.{print-short, print-long}
+use Rattle.messagepack.specs.Laws.Tables.{print-four, print-two, print-short}
 use Rattle.messagepack.proofs.print_of.Statement.{statement}
 use Rattle.messagepack.proofs.print_of.Tie as tie
 
@@ -10,7 +11,14 @@ returns : tie.Need-returns
 returns c = sym (print-short _ _ _ (c .before .before .pre) (c .if1 .taken))
 
 returns-2 : tie.Need-returns-2
-returns-2 c = let e = c .read-u16 .ensures in sym (print-long _ _ _ (c .before .before .before .pre) (c .before .if1 .left) ∙ rw (sym e))
+returns-2 c =
+    let m = c .before .before .before .before .before .args .m in
+    c .wrapping-add-u32 .ensures ∙ ap (λ (n : ℕ). (m % 65536 * 65536 + n) % 4294967296) (c .before .read-u16 .ensures) ∙ sym (print-two _ _ _ (c .before .before .before .before .before .pre) (c .before .before .if2 .taken) (c .before .before .before .if1 .left))
+
+returns-3 : tie.Need-returns-3
+returns-3 c =
+    let m = c .before .before .before .before .before .args .m in
+    c .wrapping-add-u322 .ensures ∙ ap (λ (n : ℕ). (m % 65536 * 65536 + n) % 4294967296) (c .before .read-u32 .ensures) ∙ sym (print-four _ _ _ (c .before .before .before .before .before .pre) (c .before .before .if2 .left))
 
 pub print-of-spec : {M : Type 1} → statement M
 print-of-spec =
@@ -23,5 +31,10 @@ print-of-spec =
     (λ c. search needs)
     (λ c κs. search needs)
     (λ c. search needs)
+    (λ c κs. search needs)
+    returns-2
     (λ c. search needs)
-    returns-2)
+    (λ c. search needs)
+    (λ c κs. search needs)
+    (λ c κs. search needs)
+    returns-3)

@@ -17,10 +17,11 @@ use Rattle.heads.specs.declared.Head.{Head}
 use Rattle.heads.specs.Laws.Head.{kind-in, head-held}
 use Rattle.heads.specs.Laws.Table.{low-lead, string-lead}
 use Rattle.messagepack.specs.Limits.{integerLimit}
-use Rattle.messagepack.specs.Walk.{textAt, keyAt, valueAt}
-use Rattle.messagepack.specs.Quick.{QuickSays, ends, other, ShortSays, found, another}
+use Rattle.messagepack.specs.Walk.{textAt, keyAt, leafAt, manyAt, valueAt}
+use Rattle.messagepack.specs.Quick.{QuickSays, ends, other, ShortSays, found, another, RunSays}
 use Rattle.messagepack.specs.declared.Walk.{Walk}
 use Rattle.messagepack.specs.declared.Text.{Text}
+use Rattle.messagepack.specs.declared.Leaf.{Leaf}
 use Rattle.messagepack.specs.declared.Quick.{Quick}
 use Rattle.messagepack.specs.declared.Short.{Short}
 use Rattle.messagepack.specs.Laws.Walk as w
@@ -70,3 +71,20 @@ module _ {s : List ℕ} {at : ℕ} where
     where
       go : QuickSays s at (Quick.End p) → Walk.End p ≡ valueAt s d at
       go (ends f) = sym (f d)
+
+-- a leaf that ends, by its case
+pub leaf-quick : (s : List ℕ) (at : ℕ) {p : ℕ} → leafAt s at ≡ Leaf.End p → QuickSays s at (Quick.End p)
+leaf-quick s at e = ends (λ d. sym (w.leaf-ends s at d e))
+
+pub quick-as : {s : List ℕ} {at : ℕ} {q : Quick} {p : ℕ} → QuickSays s at q → q ≡ Quick.End p → QuickSays s at (Quick.End p)
+quick-as {s} {at} x e = subst (QuickSays s at) e x
+
+-- one value more is passed
+pub run-next : {s : List ℕ} {at n p left : ℕ} {q : Quick} {r : ℕ} → RunSays s at n p left → 0 < left → QuickSays s p q → q ≡ Quick.End r → RunSays s at n r (left - 1)
+run-next {s} {at} {n} {p} {left} x pos k e = record {
+  fewer = omega (arith, x .fewer);
+  same = λ d. x .same d ∙ w.many-end (valueAt s d) left p pos (sym (quick-ends d k e));
+}
+
+pub run-first : (s : List ℕ) (at n : ℕ) → RunSays s at n at n
+run-first s at n = record { fewer = omega arith; same = λ d. refl }

@@ -5,15 +5,15 @@ use mathlib.Core.Bool.{Bool, true, false, _||_}
 use mathlib.Core.List.{List, [], _∷_}
 use mathlib.Core.Logic.{⊎-elim, _≢_}
 use Prim.Native.Nat.{ℕ, zero, suc, _+_, _-_, _*_, _%_, _<_, _≤_}
-use native.Mathlib.Nat.{not-suc-le-zero, eq-or-lt-of-le, le-of-suc-le-suc, add-zero}
+use native.Mathlib.Nat.{not-suc-le-zero, eq-or-lt-of-le, le-of-suc-le-suc, add-zero, add-assoc, mod-eq-of-lt}
 use native.Mathlib.Numerals.{add-one, sub-one}
 use native.Mathlib.Omega.{arith}
 use lib.ListN.{length, getD, take, drop, set, length-set, length-drop}
 use lib.Seq.{drop-cons, drop-drop, getD-drop, getD-take, getD-set-same, getD-set-other, drop-set-lt, drop-set-add}
-use borrow.Author.Tests.{eq-eqb, ne-eqb}
+use borrow.Author.Tests.{le-leb, lt-leb}
 use Rattle.refusal.specs.Table.{keyRepeated}
 use Rattle.numbers.specs.BigEndian.{unsignedAt}
-use Rattle.numbers.specs.Laws.BigEndian.{unsignedAt-loads, unsignedAt-out}
+use Rattle.numbers.specs.Laws.BigEndian.{loads, unsignedAt-loads, unsignedAt-out}
 use Rattle.heads.specs.Head.{headAt}
 use Rattle.heads.specs.Table.{leadTable}
 use Rattle.heads.specs.declared.Head.{Head}
@@ -29,20 +29,31 @@ use Rattle.messagepack.specs.Laws.Walk as w
 -- prints
 
 module _ (s : List ℕ) (a m : ℕ) (le : a + m ≤ length s) where
+  -- bytes inside a part are read as in the whole
+  loads-part : (k i : ℕ) → i + k ≤ m → loads k (take m (drop a s)) i ≡ loads k s (a + i)
+  loads-part zero i h = refl
+  loads-part (suc k) i h =
+      let b : getD (take m (drop a s)) (i + k) 0 ≡ getD s (a + i + k) 0 = getD-take m (drop a s) (i + k) 0 (omega arith) ∙ getD-drop a s (i + k) 0 ∙ ap (λ (j : ℕ). getD s j 0) (sym (add-assoc a i k)) in
+      rw (loads-part k i (omega arith), b)
+
+  last-part : (k : ℕ) → k ≤ m → unsignedAt k (take m (drop a s)) (m - k) ≡ unsignedAt k s (a + m - k)
+  last-part k h =
+      let i : a + (m - k) ≡ a + m - k = omega arith in
+      unsignedAt-loads k (take m (drop a s)) (m - k) (rw (part-length s a m le) (omega arith)) ∙ loads-part k (m - k) (omega arith) ∙ rw i (sym (unsignedAt-loads k s (a + m - k) (omega arith)))
+
+  pub print-four : 4 ≤ m → printOf (take m (drop a s)) ≡ (m % 65536 * 65536 + unsignedAt 4 s (a + m - 4)) % 4294967296
+  unfolding printOf
+  print-four h = rw (part-length s a m le, le-leb 4 m h, last-part 4 h)
+
+  pub print-two : m < 4 → 2 ≤ m → printOf (take m (drop a s)) ≡ (m % 65536 * 65536 + unsignedAt 2 s (a + m - 2)) % 4294967296
+  unfolding printOf
+  print-two l h = rw (part-length s a m le, lt-leb 4 m l, last-part 2 h)
+
   pub print-short : m < 2 → printOf (take m (drop a s)) ≡ m % 65536 * 65536
   unfolding printOf
-  print-short lt = rw (part-length s a m le, unsignedAt-out 2 (take m (drop a s)) (m - 2) (rw (part-length s a m le) (omega arith))) (add-zero (m % 65536 * 65536))
-
-  in-part : (i : ℕ) → i < m → getD (take m (drop a s)) i 0 ≡ getD s (a + i) 0
-  in-part i lt = getD-take m (drop a s) i 0 lt ∙ getD-drop a s i 0
-
-  pub print-long : 2 ≤ m → printOf (take m (drop a s)) ≡ m % 65536 * 65536 + unsignedAt 2 s (a + m - 2)
-  unfolding printOf
-  print-long two =
-      let l : length (take m (drop a s)) ≡ m = part-length s a m le in
-      let i : a + (m - 2 + 0) ≡ a + m - 2 + 0 = omega arith in
-      let j : a + (m - 2 + 1) ≡ a + m - 2 + 1 = omega arith in
-      rw (l, unsignedAt-loads 2 (take m (drop a s)) (m - 2) (rw l (omega arith)), unsignedAt-loads 2 s (a + m - 2) (omega arith), in-part (m - 2 + 0) (omega arith), in-part (m - 2 + 1) (omega arith), i, j)
+  print-short l =
+      let z : unsignedAt 2 (take m (drop a s)) (m - 2) ≡ 0 = unsignedAt-out 2 (take m (drop a s)) (m - 2) (rw (part-length s a m le) (omega arith)) in
+      rw (part-length s a m le, lt-leb 4 m (omega arith), z) (mod-eq-of-lt (omega arith) ∙ add-zero (m % 65536 * 65536))
 
 -- rows, counted from the first
 
