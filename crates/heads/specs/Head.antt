@@ -33,6 +33,7 @@ abbrev pub headNumber : List ℕ → ℕ → ℕ → ℕ → ℕ
 headNumber s b zero p = heldBy b
 headNumber s b (suc k) p = numberOf (take (suc k) (drop p s))
 
+-- a head with k bytes after its lead byte b, from the place p after that
 abbrev pub headFrom : List ℕ → ℕ → ℕ → ℕ → Head
 headFrom s b k p = cond (ltb (length s - p) k) Head.Cut (Head.At (headNumber s b k p) (p + k))
 

@@ -13,6 +13,7 @@ pub record Row : Type 0 where
   pub kind : Kind
   pub more : ℕ
 
+-- a row by its four parts
 abbrev pub row : ℕ → ℕ → Kind → ℕ → Row
 row f t k m = record { from = f; to = t; kind = k; more = m }
 
@@ -44,13 +45,13 @@ leadBytes =
     ∷ []
 
 -- is b among the lead bytes of a row?
-abbrev pub among : ℕ → Row → Bool
-among b r = leb (r .from) b && leb b (r .to)
+abbrev pub inRow : ℕ → Row → Bool
+inRow b r = leb (r .from) b && leb b (r .to)
 
 -- the first of the rows that has b, or one that says that b is in none
 abbrev pub rowIn : ℕ → List Row → Row
 rowIn b [] = row b b Kind.Outside 0
-rowIn b (r ∷ rs) = cond (among b r) r (rowIn b rs)
+rowIn b (r ∷ rs) = cond (inRow b r) r (rowIn b rs)
 
 -- the kind of a lead byte
 unfoldable pub kindOf : ℕ → Kind

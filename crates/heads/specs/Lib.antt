@@ -1,4 +1,5 @@
 pub mod Lead
 pub mod Head
 pub mod Table
+pub mod Span
 pub mod Laws

@@ -10,7 +10,7 @@ use Rattle.heads.specs.Lead.{kindOf, moreOf, heldBy}
 use Rattle.heads.specs.declared.Kind.{Kind}
 use Rattle.heads.specs.declared.Head.{Head}
 
--- a kind's number in the table
+-- a kind's number in the table; `Missing`, which is no lead byte's, never stands in it
 abbrev pub kindNumber : Kind → ℕ
 kindNumber Kind.Unsigned = 1
 kindNumber Kind.Signed = 2
@@ -31,7 +31,7 @@ kindFrom n =
     (cond (eqb n 4) Kind.Str
     (cond (eqb n 5) Kind.Bin (cond (eqb n 6) Kind.Array (cond (eqb n 7) Kind.Map Kind.Outside))))))
 
--- the row of a lead byte: eight times its kind's number, and the size of its head
+-- the row of a lead byte: eight times its kind's number, plus the size of its head
 abbrev pub rowNumber : ℕ → ℕ
 rowNumber b = kindNumber (kindOf b) * 8 + (moreOf b + 1)
 
@@ -54,6 +54,7 @@ sizedNumber s b at size =
     cond (eqb size 1) (heldBy b)
     (cond (eqb size 2) (unsignedAt 1 s (at + 1)) (cond (eqb size 3) (unsignedAt 2 s (at + 1)) (unsignedAt 4 s (at + 1))))
 
+-- a head of some size, whose lead byte b is at a place
 abbrev pub sizedHead : List ℕ → ℕ → ℕ → ℕ → Head
 sizedHead s b at size = cond (ltb (length s - at) size) Head.Cut (Head.At (sizedNumber s b at size) (at + size))
 

@@ -145,7 +145,7 @@ fn wide32(x: u32) -> usize
     x as usize
 }
 
-// Eight times the kind and the head size of each lead byte. Kinds: 1 unsigned, 2 signed, 3 float, 4 string, 5 binary, 6 array, 7 map, and
+// For each lead byte, eight times its kind plus its head size. Kinds: 1 unsigned, 2 signed, 3 float, 4 string, 5 binary, 6 array, 7 map, and
 // 0 for a byte that is not in the subset.
 const LEADS: [u8; 256] = [
     9,

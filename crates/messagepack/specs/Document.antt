@@ -13,7 +13,8 @@ use Rattle.heads.specs.Head.{HeadOf}
 use Rattle.heads.specs.declared.Kind.{Kind}
 
 -- a document is one value: an integer, a float's 32 bits, the bytes of a string or of a binary, an array's values in order, or a map's keys
--- and values in order
+-- and values in order. What it must keep besides is `Keeps` of Rules.antt; that strings hold bytes and floats 32 bits follows from the heads and
+-- the bytes of a file that is its writing
 mutual
   pub data Document : Type 0 where
     integer : ℤ → Document
@@ -41,7 +42,7 @@ unfoldable pub size : Entries → ℕ
 size empty = zero
 size (entry k d es) = suc (size es)
 
--- the integer of a signed head that holds n: -32 to -1 in the lead byte e0 to ff itself, two's complement in the k bytes after another
+-- the integer of a signed head that holds n: -32 to -1 in a lead byte e0 to ff itself, two's complement in the k bytes after any other
 abbrev pub signedValue : ℕ → ℕ → ℤ
 signedValue zero n = negsuc (31 - n)
 signedValue (suc k) n = cond (ltb n (2 ^ (8 * suc k - 1))) (pos n) (negsuc (2 ^ (8 * suc k) - 1 - n))

@@ -7,3 +7,4 @@ pub mod Refused
 pub mod Container
 pub mod Tables
 pub mod Quick
+pub mod Worked

@@ -1,5 +1,5 @@
 -- The document that bytes are a writing of, read back with no rule tested: what is asked of a file after its container is defined on it.
--- That it is the document is `documentOf-is` of Laws/Unique.antt. No acceptance is defined by it, and no lemma stands here. Assumes nothing.
+-- That it is the document is `documentOf-is` of Laws/Unique.antt. No file's acceptance is defined by it, and no lemma stands here. Assumes nothing.
 use mathlib.Core.List.{List, [], _∷_}
 use Prim.Native.Nat.{ℕ, zero, suc}
 use lib.IntN.{pos}
@@ -22,9 +22,9 @@ thenRead (read a r) f = f a r
 thenRead fault f = fault
 
 -- what a head says, and the bytes after it
-abbrev pub onHead : {A : Type 0} → List ℕ → Head → (ℕ → List ℕ → Read A) → Read A
-onHead s (Head.At n p) f = f n (drop p s)
-onHead s Head.Cut f = fault
+abbrev pub readHead : {A : Type 0} → List ℕ → Head → (ℕ → List ℕ → Read A) → Read A
+readHead s (Head.At n p) f = f n (drop p s)
+readHead s Head.Cut f = fault
 
 -- n documents one after another, each by f
 unfoldable pub readAll : (List ℕ → Read Document) → ℕ → List ℕ → Read Documents
@@ -35,24 +35,24 @@ readAll f (suc n) s = thenRead (f s) (λ d r. thenRead (readAll f n r) (λ ds q.
 unfoldable pub readEntries : (List ℕ → Read Document) → ℕ → List ℕ → Read Entries
 readEntries f zero s = read empty s
 readEntries f (suc n) s =
-    onHead s (headAt s 0) (λ m r. thenRead (f (drop m r)) (λ d q. thenRead (readEntries f n q) (λ es t. read (entry (take m r) d es) t)))
+    readHead s (headAt s 0) (λ m r. thenRead (f (drop m r)) (λ d q. thenRead (readEntries f n q) (λ es t. read (entry (take m r) d es) t)))
 
 -- a document by the kind and the number of its head, and the bytes after that
-abbrev pub byKind : List ℕ → (ℕ → List ℕ → Read Documents) → (ℕ → List ℕ → Read Entries) → Kind → ℕ → List ℕ → Read Document
-byKind s fa fm Kind.Unsigned n r = read (integer (pos n)) r
-byKind s fa fm Kind.Signed n r = read (integer (signedValue (moreOf (getD s 0 0)) n)) r
-byKind s fa fm Kind.Float n r = read (float n) r
-byKind s fa fm Kind.Str n r = read (string (take n r)) (drop n r)
-byKind s fa fm Kind.Bin n r = read (binary (take n r)) (drop n r)
-byKind s fa fm Kind.Array n r = thenRead (fa n r) (λ ds q. read (array ds) q)
-byKind s fa fm Kind.Map n r = thenRead (fm n r) (λ es q. read (map es) q)
-byKind s fa fm Kind.Outside n r = fault
-byKind s fa fm Kind.Missing n r = fault
+abbrev pub readKind : List ℕ → (ℕ → List ℕ → Read Documents) → (ℕ → List ℕ → Read Entries) → Kind → ℕ → List ℕ → Read Document
+readKind s fa fm Kind.Unsigned n r = read (integer (pos n)) r
+readKind s fa fm Kind.Signed n r = read (integer (signedValue (moreOf (getD s 0 0)) n)) r
+readKind s fa fm Kind.Float n r = read (float n) r
+readKind s fa fm Kind.Str n r = read (string (take n r)) (drop n r)
+readKind s fa fm Kind.Bin n r = read (binary (take n r)) (drop n r)
+readKind s fa fm Kind.Array n r = thenRead (fa n r) (λ ds q. read (array ds) q)
+readKind s fa fm Kind.Map n r = thenRead (fm n r) (λ es q. read (map es) q)
+readKind s fa fm Kind.Outside n r = fault
+readKind s fa fm Kind.Missing n r = fault
 
--- a document of fewer than d levels
+-- a document of fewer than so many levels
 unfoldable pub readValue : ℕ → List ℕ → Read Document
 readValue zero s = fault
-readValue (suc d) s = onHead s (headAt s 0) (byKind s (readAll (readValue d)) (readEntries (readValue d)) (kindAt s 0))
+readValue (suc d) s = readHead s (headAt s 0) (readKind s (readAll (readValue d)) (readEntries (readValue d)) (kindAt s 0))
 
 -- what was read, or an empty map
 abbrev pub documentIn : Read Document → Document

@@ -19,10 +19,12 @@ unfoldable mutual
   depth (array ds) = suc (depthAll ds)
   depth (map es) = suc (depthEntries es)
 
+  -- of the deepest of an array's values
   pub depthAll : Documents → ℕ
   depthAll none = 0
   depthAll (item d ds) = max (depth d) (depthAll ds)
 
+  -- of the deepest of a map's values
   pub depthEntries : Entries → ℕ
   depthEntries empty = 0
   depthEntries (entry k d es) = max (depth d) (depthEntries es)
@@ -52,10 +54,12 @@ unfoldable mutual
   Keeps (array ds) = KeepsAll ds
   Keeps (map es) = (size es ≤ entryLimit) × Distinct es × KeepsEntries es
 
+  -- each value of an array
   pub KeepsAll : Documents → Type 0
   KeepsAll none = Unit {0}
   KeepsAll (item d ds) = Keeps d × KeepsAll ds
 
+  -- each key and value of a map
   pub KeepsEntries : Entries → Type 0
   KeepsEntries empty = Unit {0}
   KeepsEntries (entry k d es) = Utf8 k × Keeps d × KeepsEntries es

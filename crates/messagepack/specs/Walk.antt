@@ -13,7 +13,6 @@ use Rattle.heads.specs.declared.Head.{Head}
 use Rattle.messagepack.specs.Limits.{fileLimit, nestingLimit, entryLimit, integerLimit}
 use Rattle.messagepack.specs.declared.Walk.{Walk}
 use Rattle.messagepack.specs.declared.Text.{Text}
-use Rattle.messagepack.specs.declared.Leaf.{Leaf}
 
 -- a head, or it is cut
 abbrev pub onHead : Head → (ℕ → ℕ → Walk) → Walk
@@ -34,19 +33,21 @@ onText (Text.Refused e) f = Walk.Refused e
 unfoldable pub bodyAt : List ℕ → ℕ → ℕ → Walk
 bodyAt s n p = cond (leb (p + n) (length s)) (Walk.End (p + n)) (Walk.Refused cutShort)
 
--- a string's head and body, and UTF-8 last
+-- a string's body, and UTF-8 last
 abbrev pub textBody : List ℕ → ℕ → ℕ → Walk → Text
 textBody s n p (Walk.End e) = cond (isUtf8 (take n (drop p s))) (Text.At p n) (Text.Refused stringNotUtf8)
 textBody s n p (Walk.Refused e) = Text.Refused e
 
+-- a string's head, and then its body
 abbrev pub textHead : List ℕ → Head → Text
 textHead s (Head.At n p) = textBody s n p (bodyAt s n p)
 textHead s Head.Cut = Text.Refused cutShort
 
+-- the string whose head is at a place
 unfoldable pub textAt : List ℕ → ℕ → Text
 textAt s at = textHead s (headAt s at)
 
--- a key: a string
+-- a key is a string
 abbrev pub keyOfKind : List ℕ → ℕ → Kind → Text
 keyOfKind s at Kind.Missing = Text.Refused cutShort
 keyOfKind s at Kind.Outside = Text.Refused leadByteUnknown
@@ -58,6 +59,7 @@ keyOfKind s at Kind.Bin = Text.Refused keyNotString
 keyOfKind s at Kind.Array = Text.Refused keyNotString
 keyOfKind s at Kind.Map = Text.Refused keyNotString
 
+-- the key at a place
 unfoldable pub keyAt : List ℕ → ℕ → Text
 keyAt s at = keyOfKind s at (kindAt s at)
 
@@ -97,9 +99,11 @@ integerAt s at = onHead (headAt s at) (λ n p. cond (leb n integerLimit) (Walk.E
 abbrev pub plainAt : List ℕ → ℕ → Walk
 plainAt s at = onHead (headAt s at) (λ n p. Walk.End p)
 
+-- a binary's head and body
 abbrev pub binaryAt : List ℕ → ℕ → Walk
 binaryAt s at = onHead (headAt s at) (λ n p. bodyAt s n p)
 
+-- a string
 abbrev pub stringAt : List ℕ → ℕ → Walk
 stringAt s at = onText (textAt s at) (λ p n. Walk.End (p + n))
 
@@ -114,25 +118,6 @@ byKind s at fa fm Kind.Bin = binaryAt s at
 byKind s at fa fm Kind.Str = stringAt s at
 byKind s at fa fm Kind.Array = fa (headAt s at)
 byKind s at fa fm Kind.Map = fm (headAt s at)
-
-abbrev pub leafOf : Walk → Leaf
-leafOf (Walk.End p) = Leaf.End p
-leafOf (Walk.Refused n) = Leaf.Refused n
-
--- a value that holds no others, by its kind; or that it holds others
-abbrev pub leafByKind : List ℕ → ℕ → Kind → Leaf
-leafByKind s at Kind.Missing = Leaf.Refused cutShort
-leafByKind s at Kind.Outside = Leaf.Refused leadByteUnknown
-leafByKind s at Kind.Unsigned = leafOf (integerAt s at)
-leafByKind s at Kind.Signed = leafOf (plainAt s at)
-leafByKind s at Kind.Float = leafOf (plainAt s at)
-leafByKind s at Kind.Bin = leafOf (binaryAt s at)
-leafByKind s at Kind.Str = leafOf (stringAt s at)
-leafByKind s at Kind.Array = Leaf.Array
-leafByKind s at Kind.Map = Leaf.Map
-
-unfoldable pub leafAt : List ℕ → ℕ → Leaf
-leafAt s at = leafByKind s at (kindAt s at)
 
 -- the value at a place, with d more levels of arrays and maps
 unfoldable pub valueAt : List ℕ → ℕ → ℕ → Walk
@@ -157,6 +142,6 @@ outer s Kind.Str = outerNotMap
 outer s Kind.Bin = outerNotMap
 outer s Kind.Array = outerNotMap
 
--- the number of a whole file
+-- the container's number of a file: 1 to 11, or 0
 unfoldable pub containerNumber : List ℕ → ℕ
 containerNumber s = cond (leb (length s) fileLimit) (outer s (kindAt s 0)) fileOverLimit

@@ -9,10 +9,9 @@ ghost use lib.ListN.{length, getD, take, drop};
 ghost use Rattle.heads.specs.Table.{leadTable};
 ghost use Rattle.messagepack.specs.Limits.{fileLimit, nestingLimit, entryLimit};
 ghost use Rattle.messagepack.specs.Rules.{Container};
-ghost use Rattle.messagepack.specs.Walk.{leafOf, leafAt, bodyAt, textAt, keyAt, integerAt, plainAt, binaryAt, stringAt, equal, among, manyAt, entriesAt, valueAt, ended, containerNumber};
+ghost use Rattle.messagepack.specs.Walk.{bodyAt, textAt, keyAt, integerAt, plainAt, binaryAt, stringAt, equal, among, manyAt, entriesAt, valueAt, ended, containerNumber};
 ghost use Rattle.messagepack.specs.Keys.{printOf, keyBytes, keysIn, KeyThere, tableLength, Free, Walked, Rows, Sought, Noted};
-ghost use Rattle.messagepack.specs.Quick.{QuickSays, ShortSays, RunSays};
-
+ghost use Rattle.messagepack.specs.Quick.{leafOf, leafAt, QuickSays, ShortSays, RunSays};
 use heads::Head;
 use heads::Kind;
 
@@ -25,7 +24,7 @@ pub const NESTING_LIMIT: usize = 12;
 // The most entries of a map.
 pub const ENTRY_LIMIT: usize = 256;
 
-// The largest integer.
+// The largest integer; the smallest is one further from 0.
 pub const INTEGER_LIMIT: usize = 2_147_483_647;
 
 // Where a value ends, or the number of its refusal.

@@ -5,7 +5,6 @@ ghost use mathlib.Core.Logic.{_↔_};
 ghost use Rattle.messagepack.specs.Rules.{Container};
 ghost use Rattle.messagepack.specs.Walk.{containerNumber};
 ghost use Rattle.mmtf.specs.Calls.{ViewCall};
-
 use views::Place;
 
 // The refusal of a file as a container, 1 to 11, or 0.

@@ -1,16 +1,18 @@
--- Values that stand one after another in a file, and the part that shows one: what the functions inside this crate say. No lemma stands here. Assumes nothing.
+-- Values that stand one after another in a file, the part that shows one, and the search for a key: what the functions inside this crate say. No lemma stands here. Assumes nothing.
 use mathlib.Core.Path.{_≡_}
 use mathlib.Core.Bool.{Bool, true, false, cond}
 use mathlib.Core.List.{List, _++_}
 use Prim.Native.Nat.{ℕ, zero, suc, _+_, _-_, _≤_, _<_}
 use lib.Dec.{leb}
 use lib.ListN.{length, drop}
-use Rattle.messagepack.specs.Document.{Document, Writes}
+use Rattle.messagepack.specs.Document.{Document, Entries, size, Writes, WritesEntries}
+use Rattle.messagepack.specs.Rules.{Container}
 use Rattle.refusal.specs.Table.{noSuchField}
+use Rattle.heads.specs.Head.{HeadOf}
 use Rattle.heads.specs.declared.Kind.{Kind}
 use Rattle.heads.specs.declared.Head.{Head}
-use Rattle.heads.specs.Laws.Span.{Span}
-use Rattle.views.specs.View.{shown}
+use Rattle.heads.specs.Span.{Span}
+use Rattle.views.specs.View.{shown, hasKey}
 use Rattle.views.specs.declared.Place.{Place}
 use Rattle.views.specs.declared.Over.{Over}
 
@@ -41,10 +43,11 @@ abbrev pub ShowsAt : List ℕ → ℕ → Place → Type 0
 ShowsAt s at r =
     (x : Document) (w v : List ℕ) → Writes x w → drop at s ≡ w ++ v → r ≡ Place.At (at + (length w - length (shown x w))) (length (shown x w))
 
--- a step over n bytes from p on in a file of some length; a step to n keys and their values
+-- a step over n bytes from p on in a file of some length
 abbrev pub pastOver : ℕ → ℕ → ℕ → Over
 pastOver size n p = cond (leb (p + n) size) (Over.On (p + n) 0) Over.Stop
 
+-- a step to n keys and their values
 abbrev pub pairsOver : ℕ → ℕ → ℕ → Over
 pairsOver size n p = cond (leb (p + (n + n)) size) (Over.On p (n + n)) Over.Stop
 
@@ -52,3 +55,18 @@ pairsOver size n p = cond (leb (p + (n + n)) size) (Over.On p (n + n)) Over.Stop
 pub data Stepped (s : List ℕ) (p : ℕ) : Over → Type 0 where
   on : {q k : ℕ} → p < q → q ≤ length s → ((n e : ℕ) → Standing s (suc n) p e → Standing s (k + n) q e) → Stepped s p (Over.On q k)
   stop : ((n e : ℕ) → Standing s (suc n) p e → ⊥) → Stepped s p Over.Stop
+
+-- a search for a name among a container's entries: the entries before have another key; those from here on are to be looked at
+pub record Looking (s name : List ℕ) (left p : ℕ) : Type 0 where
+  pub container : Container s
+  pub before : Entries
+  pub after : Entries
+  pub h : List ℕ
+  pub u : List ℕ
+  pub head : HeadOf Kind.Map (size before + size after) h
+  pub earlier : WritesEntries before u
+  pub others : hasKey name before ≡ false
+  pub later : WritesEntries after (drop p s)
+  pub is : s ≡ h ++ (u ++ drop p s)
+  pub place : p ≡ length h + length u
+  pub counts : size after ≡ left

@@ -6,10 +6,8 @@ ghost use lib.ListN.{length};
 ghost use Rattle.heads.specs.Table.{leadTable};
 ghost use Rattle.heads.specs.Head.{headAt};
 ghost use Rattle.views.specs.View.{Viewable, viewNumber, Placed, Viewed};
-ghost use Rattle.views.specs.Skip.{Standing, isText, bodyPlace, ShowsAt, pastOver, pairsOver, Stepped};
-ghost use Rattle.views.specs.Laws.View.{Looking};
+ghost use Rattle.views.specs.Skip.{Standing, isText, bodyPlace, ShowsAt, pastOver, pairsOver, Stepped, Looking};
 ghost use Rattle.views.specs.declared.Place.{Place};
-
 use heads::Head;
 use heads::Kind;
 

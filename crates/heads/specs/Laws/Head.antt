@@ -16,7 +16,8 @@ use Rattle.heads.specs.Lead.{kindOf, moreOf, heldBy}
 use Rattle.heads.specs.Head.{Holds, HeadOf, kindAt, headNumber, headFrom, headAt}
 use Rattle.heads.specs.declared.Kind.{Kind}
 use Rattle.heads.specs.declared.Head.{Head}
-use Rattle.heads.specs.Laws.Span.{Span, part-length, span-join, span-one, span-part, starts, holds, fits}
+use Rattle.heads.specs.Span.{Span}
+use Rattle.heads.specs.Laws.Span.{part-length, span-join, span-one, span-part, starts, holds, fits}
 
 module _ (s : List ℕ) (at : ℕ) where
   -- within s, the kind is that of the byte there

@@ -8,11 +8,7 @@ use native.Mathlib.Nat.{add-zero}
 use native.Mathlib.Numerals.{add-one}
 use lib.ListN.{length, getD, take, drop, length-append, length-take, length-drop, take-append-drop}
 use lib.Seq.{drop-cons, drop-drop, drop-at, take-at}
-
--- the bytes w of s stand from a up to b
-pub record Span (s : List ℕ) (a b : ℕ) (w : List ℕ) : Type 0 where
-  pub is : drop a s ≡ w ++ drop b s
-  pub ends : b ≡ a + length w
+use Rattle.heads.specs.Span.{Span}
 
 pub part-length : (s : List ℕ) (p k : ℕ) → p + k ≤ length s → length (take k (drop p s)) ≡ k
 part-length s p k le = simp (length-take, length-drop) (omega arith)

@@ -12,7 +12,7 @@ use lib.ListN.{length, getD, take, drop}
 use borrow.Author.Tests.{leb-true, eqb-true, ltb-true, ltb-false, lt-ltb, le-ltb}
 use Rattle.numbers.specs.BigEndian.{Bytes, unsignedAt}
 use Rattle.numbers.specs.Laws.BigEndian.{unsignedAt-in, byte-at}
-use Rattle.heads.specs.Lead.{Row, row, leadBytes, among, rowIn, kindOf, moreOf, heldBy}
+use Rattle.heads.specs.Lead.{Row, row, leadBytes, inRow, rowIn, kindOf, moreOf, heldBy}
 use Rattle.heads.specs.Head.{kindAt, headNumber, headFrom, headAt}
 use Rattle.heads.specs.Table.{kindNumber, kindFrom, rowNumber, valuesFrom, leadTable, kindBy, sizedNumber, sizedHead, headBy}
 use Rattle.heads.specs.declared.Kind.{Kind}
@@ -36,7 +36,7 @@ every test (r ∷ rs) = test r && every test rs
 
 row-passes : (test : Row → Bool) (b : ℕ) (rs : List Row) → test (row b b Kind.Outside 0) ≡ true → every test rs ≡ true → test (rowIn b rs) ≡ true
 row-passes test b [] o h = o
-row-passes test b (r ∷ rs) o h = go (test r) refl (among b r) h (row-passes test b rs o)
+row-passes test b (r ∷ rs) o h = go (test r) refl (inRow b r) h (row-passes test b rs o)
   where
     go : (t : Bool) → test r ≡ t → (c : Bool) → t && every test rs ≡ true → (every test rs ≡ true → test (rowIn b rs) ≡ true) → test (cond c r (rowIn b rs)) ≡ true
     go true e true k rest = e

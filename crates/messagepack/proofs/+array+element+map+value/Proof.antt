@@ -13,7 +13,7 @@ use Rattle.messagepack.specs.Walk.{valueAt, manyAt, entriesAt, onHead}
 use Rattle.messagepack.specs.Keys.{Free, Kept, Walked}
 use Rattle.messagepack.specs.declared.Walk.{Walk}
 use Rattle.messagepack.specs.Laws.Walk as w
-use Rattle.messagepack.specs.Laws.Quick.{quick-ends}
+use Rattle.messagepack.specs.Laws.Quick.{leaf-ends, leaf-refuses, quick-ends}
 use Rattle.messagepack.specs.Laws.Tables.{kept-all, kept-then, walked-as, walked-in, walked-more, noted-as, free-less, free-kept, Going, going-first, going-last, going-rows, going-key, going-free, going-value, going-next}
 use Rattle.messagepack.proofs.array.Reads as array
 use Rattle.messagepack.proofs.array.Kinds as array-kinds
@@ -307,10 +307,10 @@ element-value-requires-2 : (t : ℕ) → element-lts.Need-value-requires-2 (elem
 element-value-requires-2 t c κs = (search needs, c .before .before .before .before .before .before .before .before .before .pre .1)
 
 element-returns-2 : (t : ℕ) → element-lts.Need-returns-2 (element-claims t) (element-at t) element.Post
-element-returns-2 t c = unchanged (c .before .before .before .before .before .before .before .before .pre .1) (w.leaf-ends _ _ _ (sym (c .before .before .before .leaf-at .ensures) ∙ c .before .p2 .given .1))
+element-returns-2 t c = unchanged (c .before .before .before .before .before .before .before .before .pre .1) (leaf-ends _ _ _ (sym (c .before .before .before .leaf-at .ensures) ∙ c .before .p2 .given .1))
 
 element-returns-3 : (t : ℕ) → element-lts.Need-returns-3 (element-claims t) (element-at t) element.Post
-element-returns-3 t c = unchanged (c .before .before .before .before .before .before .before .before .pre .1) (w.leaf-refuses _ _ _ (sym (c .before .before .before .leaf-at .ensures) ∙ c .before .e .given .1))
+element-returns-3 t c = unchanged (c .before .before .before .before .before .before .before .before .pre .1) (leaf-refuses _ _ _ (sym (c .before .before .before .leaf-at .ensures) ∙ c .before .e .given .1))
 
 pub +array+element+map+value-spec : {M : Type 1} → statement M
 +array+element+map+value-spec =

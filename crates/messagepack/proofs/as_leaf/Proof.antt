@@ -1,7 +1,7 @@
 -- Each case is a case of the definition.
 use mathlib.Core.Path.{sym, ap, _∙_}
 use borrow.Author.Needs.{needs}
-use Rattle.messagepack.specs.Walk.{leafOf}
+use Rattle.messagepack.specs.Quick.{leafOf}
 use Rattle.messagepack.proofs.as_leaf.Statement.{statement}
 use Rattle.messagepack.proofs.as_leaf.Tie as tie
 

@@ -1,8 +1,8 @@
 -- Each kind is a case of the definition.
 use mathlib.Core.Path.{sym, ap, _∙_}
 use borrow.Author.Needs.{needs}
-use Rattle.messagepack.specs.Walk.{leafOf}
-use Rattle.messagepack.specs.Laws.Walk.{leaf-by}
+use Rattle.messagepack.specs.Quick.{leafOf}
+use Rattle.messagepack.specs.Laws.Quick.{leaf-by}
 use Rattle.messagepack.proofs.leaf_at.Statement.{statement}
 use Rattle.messagepack.proofs.leaf_at.Tie as tie
 

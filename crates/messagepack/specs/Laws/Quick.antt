@@ -1,4 +1,4 @@
--- The quick looks at a value: an integer in its lead byte, and a short string of bytes below 80.
+-- Values that hold no others, and the quick looks at them: an integer in its lead byte, and a short string of bytes below 80.
 -- Assumes nothing.
 use mathlib.Core.Path.{_≡_, refl, sym, ap, subst, _∙_}
 use mathlib.Core.Bool.{true}
@@ -17,14 +17,76 @@ use Rattle.heads.specs.declared.Head.{Head}
 use Rattle.heads.specs.Laws.Head.{kind-in, head-held}
 use Rattle.heads.specs.Laws.Table.{low-lead, string-lead}
 use Rattle.messagepack.specs.Limits.{integerLimit}
-use Rattle.messagepack.specs.Walk.{textAt, keyAt, leafAt, manyAt, valueAt}
-use Rattle.messagepack.specs.Quick.{QuickSays, ends, other, ShortSays, found, another, RunSays}
+use Rattle.messagepack.specs.Walk.{textAt, keyAt, manyAt, integerAt, plainAt, binaryAt, stringAt, valueAt}
+use Rattle.messagepack.specs.Quick.{leafOf, leafByKind, leafAt, QuickSays, ends, other, ShortSays, found, another, RunSays}
 use Rattle.messagepack.specs.declared.Walk.{Walk}
 use Rattle.messagepack.specs.declared.Text.{Text}
 use Rattle.messagepack.specs.declared.Leaf.{Leaf}
 use Rattle.messagepack.specs.declared.Quick.{Quick}
 use Rattle.messagepack.specs.declared.Short.{Short}
 use Rattle.messagepack.specs.Laws.Walk as w
+
+-- leaves
+module _ (s : List ℕ) where
+  pub leaf-by : (at : ℕ) {k : Kind} → kindAt s at ≡ k → leafAt s at ≡ leafByKind s at k
+  unfolding leafAt
+  leaf-by at e = rw e
+
+  -- what a leaf says of the value, with any levels left
+  pub data LeafSays (at : ℕ) : Leaf → Type 0 where
+    leaf-end : {p : ℕ} → ((d : ℕ) → valueAt s d at ≡ Walk.End p) → LeafSays at (Leaf.End p)
+    refuses : {e : ℕ} → ((d : ℕ) → valueAt s d at ≡ Walk.Refused e) → LeafSays at (Leaf.Refused e)
+    is-array : kindAt s at ≡ Kind.Array → LeafSays at Leaf.Array
+    is-map : kindAt s at ≡ Kind.Map → LeafSays at Leaf.Map
+
+  says-walk : (at : ℕ) (v : Walk) → ((d : ℕ) → valueAt s d at ≡ v) → LeafSays at (leafOf v)
+  says-walk at (Walk.End p) h = leaf-end h
+  says-walk at (Walk.Refused e) h = refuses h
+
+  pub leaf-says : (at : ℕ) → LeafSays at (leafAt s at)
+  unfolding leafAt
+  leaf-says at = go (kindAt s at) refl
+    where
+      go : (k : Kind) → kindAt s at ≡ k → LeafSays at (leafByKind s at k)
+      go Kind.Missing e = refuses (λ d. w.value-missing s d at e)
+      go Kind.Outside e = refuses (λ d. w.value-outside s d at e)
+      go Kind.Unsigned e = says-walk at (integerAt s at) (λ d. w.value-unsigned s d at e)
+      go Kind.Signed e = says-walk at (plainAt s at) (λ d. w.value-signed s d at e)
+      go Kind.Float e = says-walk at (plainAt s at) (λ d. w.value-float s d at e)
+      go Kind.Bin e = says-walk at (binaryAt s at) (λ d. w.value-bin s d at e)
+      go Kind.Str e = says-walk at (stringAt s at) (λ d. w.value-str s d at e)
+      go Kind.Array e = is-array e
+      go Kind.Map e = is-map e
+
+  -- the same by an answer's case
+  says : {l : Leaf} (at : ℕ) → leafAt s at ≡ l → LeafSays at l
+  says at e = subst (λ (l : Leaf). LeafSays at l) e (leaf-says at)
+
+  pub leaf-ends : (at d : ℕ) {p : ℕ} → leafAt s at ≡ Leaf.End p → Walk.End p ≡ valueAt s d at
+  leaf-ends at d {p} e = go (says at e)
+    where
+      go : LeafSays at (Leaf.End p) → Walk.End p ≡ valueAt s d at
+      go (leaf-end h) = sym (h d)
+
+  pub leaf-refuses : (at d : ℕ) {n : ℕ} → leafAt s at ≡ Leaf.Refused n → Walk.Refused n ≡ valueAt s d at
+  leaf-refuses at d {n} e = go (says at e)
+    where
+      go : LeafSays at (Leaf.Refused n) → Walk.Refused n ≡ valueAt s d at
+      go (refuses h) = sym (h d)
+
+  pub leaf-array : (at : ℕ) → leafAt s at ≡ Leaf.Array → kindAt s at ≡ Kind.Array
+  leaf-array at e = go (says at e)
+    where
+      go : LeafSays at Leaf.Array → kindAt s at ≡ Kind.Array
+      go (is-array h) = h
+
+  pub leaf-map : (at : ℕ) → leafAt s at ≡ Leaf.Map → kindAt s at ≡ Kind.Map
+  leaf-map at e = go (says at e)
+    where
+      go : LeafSays at Leaf.Map → kindAt s at ≡ Kind.Map
+      go (is-map h) = h
+
+-- quick looks
 
 module _ (s : List ℕ) (at : ℕ) (inside : at < length s) where
   -- an integer in its lead byte
@@ -74,7 +136,7 @@ module _ {s : List ℕ} {at : ℕ} where
 
 -- a leaf that ends, by its case
 pub leaf-quick : (s : List ℕ) (at : ℕ) {p : ℕ} → leafAt s at ≡ Leaf.End p → QuickSays s at (Quick.End p)
-leaf-quick s at e = ends (λ d. sym (w.leaf-ends s at d e))
+leaf-quick s at e = ends (λ d. sym (leaf-ends s at d e))
 
 pub quick-as : {s : List ℕ} {at : ℕ} {q : Quick} {p : ℕ} → QuickSays s at q → q ≡ Quick.End p → QuickSays s at (Quick.End p)
 quick-as {s} {at} x e = subst (QuickSays s at) e x

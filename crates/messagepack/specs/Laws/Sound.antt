@@ -18,7 +18,8 @@ use Rattle.heads.specs.Lead.{kindOf, moreOf}
 use Rattle.heads.specs.Head.{HeadOf, kindAt, headAt}
 use Rattle.heads.specs.declared.Kind.{Kind}
 use Rattle.heads.specs.declared.Head.{Head}
-use Rattle.heads.specs.Laws.Span.{Span, part-length, span-none, span-join, span-part}
+use Rattle.heads.specs.Span.{Span}
+use Rattle.heads.specs.Laws.Span.{part-length, span-none, span-join, span-part}
 use Rattle.heads.specs.Laws.Table.{moreOf-bound}
 use Rattle.heads.specs.Laws.Head.{Found, kind-in, head-found}
 use Rattle.messagepack.specs.Limits.{entryLimit, integerLimit}

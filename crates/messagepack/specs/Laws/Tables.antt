@@ -80,9 +80,9 @@ unfolding Stored
 stored-more s starts prints j at q h k key p old i lt = ⊎-elim
     (λ (e : i ≡ j). record { key = rw (e, getD-set-same starts j at 0 h) key; print = rw (e, getD-set-same starts j at 0 h, getD-set-same prints j q 0 k) p })
     (λ (l : i < j).
-      let ne : i ≢ j = omega arith in
-      let o = old i l in
-      record { key = rw (getD-set-other starts j i at 0 ne) (o .key); print = rw (getD-set-other starts j i at 0 ne, getD-set-other prints j i q 0 ne) (o .print) })
+    let ne : i ≢ j = omega arith in
+    let o = old i l in
+    record { key = rw (getD-set-other starts j i at 0 ne) (o .key); print = rw (getD-set-other starts j i at 0 ne, getD-set-other prints j i q 0 ne) (o .print) })
     (eq-or-lt-of-le (le-of-suc-le-suc lt))
 
 -- rows from base on
@@ -321,7 +321,7 @@ module _ {leads s : List ℕ} (f : ℕ → Walk) {n at depth : ℕ} where
             prints-kept = kept-past _ (g .prints-kept) (v .prints-kept);
             stored = rw (v .starts-kept .same, v .prints-kept .same) (noted-stored x);
             goes =
-              g .goes
-              ∙ w.entries-end s f (depth * entryLimit + n - row) p (keysIn s starts (depth * entryLimit) row) (omega arith) (x .key) b (sym (v .answer))
-              ∙ rw (v .starts-kept .same, noted-keys x, d);
+                g .goes
+                ∙ w.entries-end s f (depth * entryLimit + n - row) p (keysIn s starts (depth * entryLimit) row) (omega arith) (x .key) b (sym (v .answer))
+                ∙ rw (v .starts-kept .same, noted-keys x, d);
           }

@@ -20,7 +20,7 @@ use Rattle.numbers.specs.BigEndian.{bytesOf}
 use Rattle.messagepack.specs.Document.{Document, Documents, Entries, integer, float, string, binary, array, map, none, item, empty, entry, count, size, signedValue, UnsignedOf, SignedOf, TextOf, Writes, WritesAll, WritesEntries}
 use Rattle.messagepack.specs.Limits.{nestingLimit}
 use Rattle.messagepack.specs.Rules.{depth, depthAll, depthEntries}
-use Rattle.messagepack.specs.Read.{Read, read, fault, thenRead, onHead, readAll, readEntries, byKind, readValue, documentIn, documentOf}
+use Rattle.messagepack.specs.Read.{Read, read, fault, thenRead, readHead, readAll, readEntries, readKind, readValue, documentIn, documentOf}
 
 -- a head that is written first is read, and what follows it
 record First (k : Kind) (n b : ℕ) (s t : List ℕ) : Type 0 where
@@ -45,7 +45,7 @@ first {k} {n} {h} t x =
 past : (w h v t : List ℕ) → w ≡ h ++ v → w ++ t ≡ h ++ (v ++ t)
 past w h v t e = ap (λ (x : List ℕ). x ++ t) e ∙ append-assoc h v t
 
-value-by : (d : ℕ) {k : Kind} {n b : ℕ} {s t : List ℕ} → First k n b s t → readValue (suc d) s ≡ byKind s (readAll (readValue d)) (readEntries (readValue d)) k n t
+value-by : (d : ℕ) {k : Kind} {n b : ℕ} {s t : List ℕ} → First k n b s t → readValue (suc d) s ≡ readKind s (readAll (readValue d)) (readEntries (readValue d)) k n t
 unfolding readValue
 value-by d f = rw (f .head, f .kind, f .rest)
 
@@ -94,7 +94,7 @@ pub same-document : (x y : Document) (u v p q : List ℕ) → Writes x u → Wri
 same-document x y u v p q a b e =
     read-inj (sym (reads x u (max (depth x) (depth y)) p a (omega arith)) ∙ ap (readValue (suc (max (depth x) (depth y)))) e ∙ reads y v (max (depth x) (depth y)) q b (omega arith))
 
--- paper 00, demand 3: no bytes, accepted or not, are writings of two different documents
+-- demand 3: no bytes, accepted or not, are writings of two different documents
 pub no-two-documents : (x y : Document) (bytes : List ℕ) → Writes x bytes → Writes y bytes → x ≡ y
 no-two-documents x y bytes a b = same-document x y bytes bytes [] [] a b refl .0
 

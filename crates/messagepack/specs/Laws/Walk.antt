@@ -16,10 +16,9 @@ use Rattle.heads.specs.Head.{kindAt, headAt}
 use Rattle.heads.specs.declared.Kind.{Kind}
 use Rattle.heads.specs.declared.Head.{Head}
 use Rattle.messagepack.specs.Limits.{fileLimit, entryLimit, integerLimit}
-use Rattle.messagepack.specs.Walk.{onHead, onWalk, onText, bodyAt, textBody, textHead, textAt, keyOfKind, keyAt, among, manyAt, entriesFrom, entriesAt, integerAt, plainAt, binaryAt, stringAt, leafOf, leafByKind, leafAt, valueAt, outer, containerNumber}
+use Rattle.messagepack.specs.Walk.{onHead, onWalk, onText, bodyAt, textBody, textHead, textAt, keyOfKind, keyAt, among, manyAt, entriesFrom, entriesAt, integerAt, plainAt, binaryAt, stringAt, valueAt, outer, containerNumber}
 use Rattle.messagepack.specs.declared.Walk.{Walk}
 use Rattle.messagepack.specs.declared.Text.{Text}
-use Rattle.messagepack.specs.declared.Leaf.{Leaf}
 
 -- an array's values, one at a time
 module _ (f : ℕ → Walk) where
@@ -188,66 +187,6 @@ module _ (s : List ℕ) where
   pub deep-map : (d at : ℕ) → d ≡ 0 → kindAt s at ≡ Kind.Map → valueAt s d at ≡ Walk.Refused nestedTooDeep
   unfolding valueAt
   deep-map d at h k = rw (h, k)
-
--- leaves
-module _ (s : List ℕ) where
-  pub leaf-by : (at : ℕ) {k : Kind} → kindAt s at ≡ k → leafAt s at ≡ leafByKind s at k
-  unfolding leafAt
-  leaf-by at e = rw e
-
-  -- what a leaf says of the value, with any levels left
-  pub data LeafSays (at : ℕ) : Leaf → Type 0 where
-    ends : {p : ℕ} → ((d : ℕ) → valueAt s d at ≡ Walk.End p) → LeafSays at (Leaf.End p)
-    refuses : {e : ℕ} → ((d : ℕ) → valueAt s d at ≡ Walk.Refused e) → LeafSays at (Leaf.Refused e)
-    is-array : kindAt s at ≡ Kind.Array → LeafSays at Leaf.Array
-    is-map : kindAt s at ≡ Kind.Map → LeafSays at Leaf.Map
-
-  says-walk : (at : ℕ) (v : Walk) → ((d : ℕ) → valueAt s d at ≡ v) → LeafSays at (leafOf v)
-  says-walk at (Walk.End p) h = ends h
-  says-walk at (Walk.Refused e) h = refuses h
-
-  pub leaf-says : (at : ℕ) → LeafSays at (leafAt s at)
-  unfolding leafAt
-  leaf-says at = go (kindAt s at) refl
-    where
-      go : (k : Kind) → kindAt s at ≡ k → LeafSays at (leafByKind s at k)
-      go Kind.Missing e = refuses (λ d. value-missing s d at e)
-      go Kind.Outside e = refuses (λ d. value-outside s d at e)
-      go Kind.Unsigned e = says-walk at (integerAt s at) (λ d. value-unsigned s d at e)
-      go Kind.Signed e = says-walk at (plainAt s at) (λ d. value-signed s d at e)
-      go Kind.Float e = says-walk at (plainAt s at) (λ d. value-float s d at e)
-      go Kind.Bin e = says-walk at (binaryAt s at) (λ d. value-bin s d at e)
-      go Kind.Str e = says-walk at (stringAt s at) (λ d. value-str s d at e)
-      go Kind.Array e = is-array e
-      go Kind.Map e = is-map e
-
-  -- the same by an answer's case
-  says : {l : Leaf} (at : ℕ) → leafAt s at ≡ l → LeafSays at l
-  says at e = subst (λ (l : Leaf). LeafSays at l) e (leaf-says at)
-
-  pub leaf-ends : (at d : ℕ) {p : ℕ} → leafAt s at ≡ Leaf.End p → Walk.End p ≡ valueAt s d at
-  leaf-ends at d {p} e = go (says at e)
-    where
-      go : LeafSays at (Leaf.End p) → Walk.End p ≡ valueAt s d at
-      go (ends h) = sym (h d)
-
-  pub leaf-refuses : (at d : ℕ) {n : ℕ} → leafAt s at ≡ Leaf.Refused n → Walk.Refused n ≡ valueAt s d at
-  leaf-refuses at d {n} e = go (says at e)
-    where
-      go : LeafSays at (Leaf.Refused n) → Walk.Refused n ≡ valueAt s d at
-      go (refuses h) = sym (h d)
-
-  pub leaf-array : (at : ℕ) → leafAt s at ≡ Leaf.Array → kindAt s at ≡ Kind.Array
-  leaf-array at e = go (says at e)
-    where
-      go : LeafSays at Leaf.Array → kindAt s at ≡ Kind.Array
-      go (is-array h) = h
-
-  pub leaf-map : (at : ℕ) → leafAt s at ≡ Leaf.Map → kindAt s at ≡ Kind.Map
-  leaf-map at e = go (says at e)
-    where
-      go : LeafSays at Leaf.Map → kindAt s at ≡ Kind.Map
-      go (is-map h) = h
 
 -- a map's entries, one at a time
 module _ (s : List ℕ) (f : ℕ → Walk) where

@@ -8,8 +8,9 @@ use borrow.Author.Needs.{needs}
 use Rattle.numbers.specs.Laws.BigEndian.{bytes-of}
 use Rattle.messagepack.specs.Walk.{equal}
 use Rattle.views.specs.View.{Placed}
+use Rattle.views.specs.Skip.{Looking}
 use Rattle.views.specs.Laws.Skip.{stands-one}
-use Rattle.views.specs.Laws.View.{Looking, Next, looking-next, looking-last, next-read, next-there, next-same}
+use Rattle.views.specs.Laws.View.{Next, looking-next, looking-last, next-read, next-there, next-same}
 use Rattle.views.proofs.entry.Statement.{statement}
 use Rattle.views.proofs.entry.Tie as tie
 

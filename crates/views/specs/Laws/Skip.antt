@@ -16,7 +16,8 @@ use Rattle.heads.specs.Lead.{moreOf}
 use Rattle.heads.specs.Head.{HeadOf, kindAt, headAt}
 use Rattle.heads.specs.declared.Kind.{Kind}
 use Rattle.heads.specs.declared.Head.{Head}
-use Rattle.heads.specs.Laws.Span.{Span, span-join, follows, fits}
+use Rattle.heads.specs.Span.{Span}
+use Rattle.heads.specs.Laws.Span.{span-join, follows, fits}
 use Rattle.heads.specs.Laws.Head.{Told, head-told, head-inside}
 use Rattle.messagepack.specs.Document.{Document, Documents, Entries, integer, float, string, binary, array, map, none, item, empty, entry, count, size, UnsignedOf, SignedOf, TextOf, Writes, WritesAll, WritesEntries}
 use Rattle.refusal.specs.Table.{noSuchField}

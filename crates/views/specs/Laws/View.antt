@@ -17,7 +17,8 @@ use Rattle.numbers.specs.BigEndian.{Bytes}
 use Rattle.heads.specs.Head.{HeadOf, kindAt, headAt}
 use Rattle.heads.specs.declared.Kind.{Kind}
 use Rattle.heads.specs.declared.Head.{Head}
-use Rattle.heads.specs.Laws.Span.{Span, follows, holds, fits}
+use Rattle.heads.specs.Span.{Span}
+use Rattle.heads.specs.Laws.Span.{follows, holds, fits}
 use Rattle.heads.specs.Laws.Head.{Told, head-told}
 use Rattle.messagepack.specs.Document.{Document, Entries, integer, float, string, binary, array, map, empty, entry, size, TextOf, Writes, WritesEntries}
 use Rattle.messagepack.specs.Rules.{depth, Container}
@@ -27,13 +28,13 @@ use Rattle.messagepack.specs.Laws.Keys.{equal-true, equal-refl}
 use Rattle.messagepack.specs.Laws.Unique.{no-two-documents, documentOf-is}
 use Rattle.messagepack.specs.Laws.Container.{container-exactly}
 use Rattle.views.specs.View.{EntryIn, shown, Viewable, startOf, hasKey, entriesOf, viewNumber, Placed, placed, refused, Viewed, viewed, nothing}
-use Rattle.views.specs.Skip.{Standing}
+use Rattle.views.specs.Skip.{Standing, Looking}
 use Rattle.views.specs.Laws.Skip.{writes-long}
 use Rattle.views.specs.declared.Place.{Place}
 
 -- entries after entries
 
-abbrev join : Entries → Entries → Entries
+abbrev pub join : Entries → Entries → Entries
 join empty fs = fs
 join (entry k x es) fs = entry k x (join es fs)
 
@@ -73,7 +74,7 @@ unfolding Writes
 writes-map es h v s hd wr e = record { h = h; v = v; head = hd; body = wr; is = e }
 
 -- a file with an entry is a writing of a map that has the key
-entry-map : {s name w : List ℕ} {x : Document} (i : EntryIn s name x w) → Writes (map (join (i .before) (entry name x (i .after)))) s
+pub entry-map : {s name w : List ℕ} {x : Document} (i : EntryIn s name x w) → Writes (map (join (i .before) (entry name x (i .after)))) s
 unfolding size WritesEntries
 entry-map {s} {name} {w} {x} i =
     writes-map (join (i .before) (entry name x (i .after))) (i .h) (i .u ++ (i .a ++ (w ++ i .v))) s
@@ -89,7 +90,7 @@ module _ {s : List ℕ} (c : Container s) where
   document-is : documentOf s ≡ map (c .entries)
   document-is = documentOf-is (map (c .entries)) s (c .writes) (c .nested)
 
-  same-entries : (es : Entries) → Writes (map es) s → c .entries ≡ es
+  pub same-entries : (es : Entries) → Writes (map es) s → c .entries ≡ es
   same-entries es wr = map-inj (no-two-documents (map (c .entries)) (map es) s (c .writes) wr)
 
   number-is : Bytes s → (name : List ℕ) → viewNumber s name ≡ cond (hasKey name (c .entries)) accepted noSuchField
@@ -117,21 +118,6 @@ unfolding viewNumber
 refused-number s name h = rw (ne-eqb (containerNumber s) accepted h)
 
 -- the search
-
--- the entries before have another key; those from here on are to be looked at
-pub record Looking (s name : List ℕ) (left p : ℕ) : Type 0 where
-  pub container : Container s
-  pub before : Entries
-  pub after : Entries
-  pub h : List ℕ
-  pub u : List ℕ
-  pub head : HeadOf Kind.Map (size before + size after) h
-  pub earlier : WritesEntries before u
-  pub others : hasKey name before ≡ false
-  pub later : WritesEntries after (drop p s)
-  pub is : s ≡ h ++ (u ++ drop p s)
-  pub place : p ≡ length h + length u
-  pub counts : size after ≡ left
 
 -- the search begins after the outer map's head
 pub looking-first : {s : List ℕ} (name : List ℕ) {n p : ℕ} → Container s → headAt s 0 ≡ Head.At n p → Looking s name n p
@@ -220,27 +206,27 @@ module _ {s name : List ℕ} {left p : ℕ} (l : Looking s name left p) where
         writes = wr .first;
         value = d;
         found = λ b.
-          let view : Viewable s name = record {
-            container = l .container;
-            x = x;
-            w = wr .u;
-            entry-is = record {
-              before = l .before;
-              after = es;
-              h = l .h;
-              u = l .u;
-              a = wr .a;
-              v = wr .v;
-              head = hd;
-              earlier = l .earlier;
-              key = subst (λ (y : List ℕ). TextOf Kind.Str y (wr .a)) (equal-true k name b) (wr .key);
-              value = wr .first;
-              later = wr .rest;
-              is = whole;
-            };
-          } in
-          let e : from + length k + (length (wr .u) - length (shown x (wr .u))) ≡ startOf view = omega (arith, l .place, la) in
-          subst (λ (i : ℕ). Placed s name (Place.At i (length (shown x (wr .u))))) (sym e) (placed view);
+            let view : Viewable s name = record {
+              container = l .container;
+              x = x;
+              w = wr .u;
+              entry-is = record {
+                before = l .before;
+                after = es;
+                h = l .h;
+                u = l .u;
+                a = wr .a;
+                v = wr .v;
+                head = hd;
+                earlier = l .earlier;
+                key = subst (λ (y : List ℕ). TextOf Kind.Str y (wr .a)) (equal-true k name b) (wr .key);
+                value = wr .first;
+                later = wr .rest;
+                is = whole;
+              };
+            } in
+            let e : from + length k + (length (wr .u) - length (shown x (wr .u))) ≡ startOf view = omega (arith, l .place, la) in
+            subst (λ (i : ℕ). Placed s name (Place.At i (length (shown x (wr .u))))) (sym e) (placed view);
         others = λ b. record {
           container = l .container;
           before = join (l .before) (entry k x empty);
