@@ -11,7 +11,7 @@
  * - A pointer with a length is valid for that many bytes, and nothing writes to them while the call runs. Where the length
  *   is 0 nothing is read through the pointer, and it may be null.
  * - An out parameter points to an object of its type, which is no other out parameter and no part of the file or the name.
- * - There is room on the stack: the tables of keys take less than 40 KiB, and arrays and maps nest at most twelve levels deep.
+ * - There is room on the stack: 40 KiB are enough for a call. At twelve levels, the most, 29 KiB were measured.
  */
 #ifndef MMTF_H
 #define MMTF_H
