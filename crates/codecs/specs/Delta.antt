@@ -1,0 +1,34 @@
+-- Delta (paper 01: sums): each result is the one before plus the delta, modulo 2 ^ 32 into the signed range. No lemma stands here:
+-- the laws are in Laws/Delta.antt. Assumes nothing.
+use mathlib.Core.Bool.{Bool, true, false}
+use mathlib.Core.List.{List, [], _∷_}
+use Prim.Native.Nat.{ℕ, _+_, _-_, _*_, _%_, _^_}
+use lib.IntN.{ℤ, pos}
+use mir.Syntax.{w32}
+use mir.Val.{toZ, ofZ}
+
+-- a + d and x - a, modulo 2 ^ 32 into the signed range: the sum and the difference of their bits
+abbrev pub plusDelta : ℤ → ℤ → ℤ
+plusDelta a d = toZ w32 ((ofZ w32 a + ofZ w32 d) % 2 ^ 32)
+
+abbrev pub minusDelta : ℤ → ℤ → ℤ
+minusDelta x a = toZ w32 ((ofZ w32 x + (2 ^ 32 - ofZ w32 a)) % 2 ^ 32)
+
+-- the sums of deltas, from a on
+unfoldable pub sumsFrom : ℤ → List ℤ → List ℤ
+sumsFrom a [] = []
+sumsFrom a (d ∷ ds) = plusDelta a d ∷ sumsFrom (plusDelta a d) ds
+
+-- the deltas of results, from a on
+unfoldable pub deltasFrom : ℤ → List ℤ → List ℤ
+deltasFrom a [] = []
+deltasFrom a (x ∷ xs) = minusDelta x a ∷ deltasFrom x xs
+
+-- the same where a codec has the step, and nothing where it has not
+abbrev pub sumsIf : Bool → List ℤ → List ℤ
+sumsIf true ds = sumsFrom (pos 0) ds
+sumsIf false ds = ds
+
+abbrev pub deltasIf : Bool → List ℤ → List ℤ
+deltasIf true xs = deltasFrom (pos 0) xs
+deltasIf false xs = xs

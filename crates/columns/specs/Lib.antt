@@ -1,0 +1,5 @@
+pub mod Table
+pub mod Header
+pub mod Decode
+pub mod Encode
+pub mod Laws

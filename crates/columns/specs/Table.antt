@@ -1,0 +1,87 @@
+-- The sixteen codecs as one table: kind, form of the payload, whether delta follows, and what the parameter is. The range of a
+-- codec's values is its form's (`rangeOf`). No lemma stands here: the laws are in Laws/Table.antt. Assumes nothing.
+use mathlib.Core.Bool.{Bool, true, false, _&&_}
+use mathlib.Core.List.{List, [], _∷_}
+use Prim.Native.Nat.{ℕ, _*_, _%_}
+use lib.ListN.{getD}
+use lib.Dec.{eqb, leb}
+use Rattle.codecs.specs.declared.Size.the-variants.{One, Two, Four}
+use Rattle.codecs.specs.declared.Range.the-variants as range
+use Rattle.codecs.specs.declared.Form.{Form}
+use Rattle.codecs.specs.declared.Form.the-variants.{Plain, Packed, Runs, Names}
+use Rattle.codecs.specs.Width.{sizeOf}
+use Rattle.columns.specs.declared.Kind.{Kind}
+use Rattle.columns.specs.declared.Kind.the-variants as kind
+use Rattle.columns.specs.declared.Wanted.{Wanted}
+use Rattle.columns.specs.declared.Wanted.the-variants.{Only, Real, Any}
+use Rattle.columns.specs.declared.Parameter.{Parameter}
+use Rattle.columns.specs.declared.Parameter.the-variants.{Unused, Divisor, NameSize}
+use Rattle.columns.specs.declared.Codec.{Codec}
+use Rattle.columns.specs.declared.Codec.the-variants.{Known, Unknown}
+
+-- the rows 0 to 16; there is no codec 0
+abbrev pub table : List Codec
+table =
+    Unknown
+    ∷ Known kind.Float32 (Plain Four) false Unused
+    ∷ Known kind.Int8 (Plain One) false Unused
+    ∷ Known kind.Int16 (Plain Two) false Unused
+    ∷ Known kind.Int32 (Plain Four) false Unused
+    ∷ Known kind.Strings Names false NameSize
+    ∷ Known kind.Chars (Runs range.Ascii) false Unused
+    ∷ Known kind.Int32 (Runs range.Int32) false Unused
+    ∷ Known kind.Int32 (Runs range.Int32) true Unused
+    ∷ Known kind.FixedPoint (Runs range.Int32) false Divisor
+    ∷ Known kind.FixedPoint (Packed Two) true Divisor
+    ∷ Known kind.FixedPoint (Plain Two) false Divisor
+    ∷ Known kind.FixedPoint (Packed Two) false Divisor
+    ∷ Known kind.FixedPoint (Packed One) false Divisor
+    ∷ Known kind.Int32 (Packed Two) false Unused
+    ∷ Known kind.Int32 (Packed One) false Unused
+    ∷ Known kind.Int8 (Runs range.Int8) false Unused
+    ∷ []
+
+-- the codec of a number
+unfoldable pub codecOf : ℕ → Codec
+codecOf c = getD table c Unknown
+
+-- kinds by number, to tell them apart
+abbrev pub kindNumber : Kind → ℕ
+kindNumber kind.Float32 = 0
+kindNumber kind.FixedPoint = 1
+kindNumber kind.Int8 = 2
+kindNumber kind.Int16 = 3
+kindNumber kind.Int32 = 4
+kindNumber kind.Strings = 5
+kindNumber kind.Chars = 6
+
+-- Whether a kind is the one asked for. Paper 01's real columns are float32 and fixed point: both may be asked for as floats.
+abbrev pub suits : Wanted → Kind → Bool
+suits (Only k) j = eqb (kindNumber k) (kindNumber j)
+suits Real j = leb (kindNumber j) 1
+suits Any j = true
+
+-- the most results of a column
+abbrev pub lengthLimit : ℕ
+lengthLimit = 16777216
+
+-- a divisor is at least 1 (and a signed 32-bit number), a name's size 1 to 255; an unused parameter is not read
+abbrev pub parameterOk : Parameter → ℕ → Bool
+parameterOk Unused m = true
+parameterOk Divisor m = leb 1 m && leb m 2147483647
+parameterOk NameSize m = leb 1 m && leb m 255
+
+-- the elements of a column of n results with the parameter m: a name has m
+abbrev pub elements : Form → ℕ → ℕ → ℕ
+elements (Plain z) n m = n
+elements (Packed z) n m = n
+elements (Runs r) n m = n
+elements Names n m = n * m
+
+-- Whether a payload of b bytes has the right size: plain numbers and names fill the length exactly, packed numbers are whole, and runs
+-- are whole pairs of 32-bit numbers.
+abbrev pub sizeRight : Form → ℕ → ℕ → ℕ → Bool
+sizeRight (Plain z) n m b = eqb b (n * sizeOf z)
+sizeRight (Packed z) n m b = eqb (b % sizeOf z) 0
+sizeRight (Runs r) n m b = eqb (b % 8) 0
+sizeRight Names n m b = eqb b (n * m)

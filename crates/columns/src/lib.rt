@@ -1,0 +1,248 @@
+// Columns: the table of the sixteen codecs, and a column's header with its refusals 14 to 17. specs/ has what a column decodes to
+// and what its cells encode to, once for all codecs.
+ghost use mathlib.Core.Path.{_≡_};
+ghost use Prim.Native.Nat.{_≤_};
+ghost use Rattle.columns.specs.Table.{codecOf, kindNumber, suits, parameterOk, sizeRight};
+ghost use Rattle.columns.specs.Header.{judged, headerOf};
+use codecs::Form;
+use codecs::Range;
+use codecs::Size;
+
+// The most results of a column.
+pub const LENGTH_LIMIT: u32 = 16777216;
+
+// The kinds of columns (paper 01: real by codec 1, real by codecs 9 to 13, small, short, whole, names, letters).
+pub enum Kind {
+    Float32,
+    FixedPoint,
+    Int8,
+    Int16,
+    Int32,
+    Strings,
+    Chars,
+}
+
+// What a caller asks for: one kind, real columns of either kind, or any.
+pub enum Wanted {
+    Only(Kind),
+    Real,
+    Any,
+}
+
+// What the header's parameter is.
+pub enum Parameter {
+    Unused,
+    Divisor,
+    NameSize,
+}
+
+// A row of the table: kind, form of the payload, whether delta follows, and what the parameter is.
+pub enum Codec {
+    Known(Kind, Form, bool, Parameter),
+    Unknown,
+}
+
+// A header that passes, with length, parameter, kind, form and delta; or its refusal.
+pub enum Header {
+    Good(usize, u32, Kind, Form, bool),
+    Refused(u8),
+}
+
+// The header of a column of the kind that is wanted, with the refusals 14 to 17.
+pub fn read_header(column: &[u8], wanted: Wanted) -> Header
+    ensures { λ r. ⌜ r ≡ headerOf wanted (now (column .entry)) ⌝ }
+{
+    if column.len() < 12 {
+        return Header::Refused(refusal::COLUMN_SHORT);
+    }
+    let codec = numbers::read_u32(column, 0);
+    let length = numbers::read_u32(column, 4);
+    let parameter = numbers::read_u32(column, 8);
+    judge(
+        codec_of(codec),
+        length,
+        parameter,
+        column.len() - 12,
+        wanted,
+    )
+}
+
+// The codec of a number.
+pub fn codec_of(number: u32) -> Codec
+    ensures { λ r. ⌜ r ≡ codecOf number ⌝ }
+{
+    match number {
+        1 => Codec::Known(
+            Kind::Float32,
+            Form::Plain(Size::Four),
+            false,
+            Parameter::Unused,
+        ),
+        2 => Codec::Known(Kind::Int8, Form::Plain(Size::One), false, Parameter::Unused),
+        3 => Codec::Known(
+            Kind::Int16,
+            Form::Plain(Size::Two),
+            false,
+            Parameter::Unused,
+        ),
+        4 => Codec::Known(
+            Kind::Int32,
+            Form::Plain(Size::Four),
+            false,
+            Parameter::Unused,
+        ),
+        5 => Codec::Known(Kind::Strings, Form::Names, false, Parameter::NameSize),
+        6 => Codec::Known(
+            Kind::Chars,
+            Form::Runs(Range::Ascii),
+            false,
+            Parameter::Unused,
+        ),
+        7 => Codec::Known(
+            Kind::Int32,
+            Form::Runs(Range::Int32),
+            false,
+            Parameter::Unused,
+        ),
+        8 => Codec::Known(
+            Kind::Int32,
+            Form::Runs(Range::Int32),
+            true,
+            Parameter::Unused,
+        ),
+        9 => Codec::Known(
+            Kind::FixedPoint,
+            Form::Runs(Range::Int32),
+            false,
+            Parameter::Divisor,
+        ),
+        10 => Codec::Known(
+            Kind::FixedPoint,
+            Form::Packed(Size::Two),
+            true,
+            Parameter::Divisor,
+        ),
+        11 => Codec::Known(
+            Kind::FixedPoint,
+            Form::Plain(Size::Two),
+            false,
+            Parameter::Divisor,
+        ),
+        12 => Codec::Known(
+            Kind::FixedPoint,
+            Form::Packed(Size::Two),
+            false,
+            Parameter::Divisor,
+        ),
+        13 => Codec::Known(
+            Kind::FixedPoint,
+            Form::Packed(Size::One),
+            false,
+            Parameter::Divisor,
+        ),
+        14 => Codec::Known(
+            Kind::Int32,
+            Form::Packed(Size::Two),
+            false,
+            Parameter::Unused,
+        ),
+        15 => Codec::Known(
+            Kind::Int32,
+            Form::Packed(Size::One),
+            false,
+            Parameter::Unused,
+        ),
+        16 => Codec::Known(
+            Kind::Int8,
+            Form::Runs(Range::Int8),
+            false,
+            Parameter::Unused,
+        ),
+        _ => Codec::Unknown,
+    }
+}
+
+// Whether a kind is the one that is wanted.
+pub fn is_wanted(wanted: Wanted, kind: Kind) -> bool
+    ensures { λ r. ⌜ r ≡ suits wanted kind ⌝ }
+{
+    let number = kind_number(kind);
+    match wanted {
+        Wanted::Only(k) => kind_number(k) == number,
+        Wanted::Real => number <= 1,
+        Wanted::Any => true,
+    }
+}
+
+// Whether a parameter is one that the codec may have.
+pub fn parameter_ok(parameter: Parameter, value: u32) -> bool
+    ensures { λ r. ⌜ r ≡ parameterOk parameter value ⌝ }
+{
+    match parameter {
+        Parameter::Unused => true,
+        Parameter::Divisor => {
+            if value < 1 {
+                return false;
+            }
+            value <= 2147483647
+        }
+        Parameter::NameSize => {
+            if value < 1 {
+                return false;
+            }
+            value <= 255
+        }
+    }
+}
+
+// The rules 15 to 17 of a header.
+fn judge(codec: Codec, length: u32, parameter: u32, bytes: usize, wanted: Wanted) -> Header
+    ensures { λ r. ⌜ r ≡ judged wanted codec length parameter bytes ⌝ }
+{
+    match codec {
+        Codec::Unknown => Header::Refused(refusal::CODEC_UNKNOWN),
+        Codec::Known(kind, form, delta, p) => {
+            if !is_wanted(wanted, kind) {
+                return Header::Refused(refusal::CODEC_UNKNOWN);
+            }
+            if LENGTH_LIMIT < length {
+                return Header::Refused(refusal::HEADER_RANGE);
+            }
+            if !parameter_ok(p, parameter) {
+                return Header::Refused(refusal::HEADER_RANGE);
+            }
+            if !size_ok(form, length as usize, parameter as usize, bytes) {
+                return Header::Refused(refusal::PAYLOAD_SIZE);
+            }
+            Header::Good(length as usize, parameter, kind, form, delta)
+        }
+    }
+}
+
+// Whether a payload has the right size.
+fn size_ok(form: Form, length: usize, parameter: usize, bytes: usize) -> bool
+    requires { ⌜ (length ≤ 16777216) × (parameter ≤ 4294967295) ⌝ }
+    ensures { λ r. ⌜ r ≡ sizeRight form length parameter bytes ⌝ }
+{
+    match form {
+        Form::Plain(size) => bytes == length * codecs::bytes(size),
+        Form::Packed(size) => bytes % codecs::bytes(size) == 0,
+        Form::Runs(_) => bytes % 8 == 0,
+        Form::Names => bytes == length * parameter,
+    }
+}
+
+// Kinds by number.
+fn kind_number(kind: Kind) -> u8
+    ensures { λ r. ⌜ r ≡ kindNumber kind ⌝ }
+{
+    match kind {
+        Kind::Float32 => 0,
+        Kind::FixedPoint => 1,
+        Kind::Int8 => 2,
+        Kind::Int16 => 3,
+        Kind::Int32 => 4,
+        Kind::Strings => 5,
+        Kind::Chars => 6,
+    }
+}
