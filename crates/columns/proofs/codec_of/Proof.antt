@@ -1,94 +1,34 @@
+-- Each arm is the table's row; what is left is beyond the table (`past-four`, four rows at a time).
+use mathlib.Core.Path.{sym, ap}
+use Rattle.columns.specs.Table.{codecOf}
+use Rattle.columns.specs.Laws.Table.{codec-unknown, past-four}
 use Rattle.columns.proofs.codec_of.Statement.{statement}
 use Rattle.columns.proofs.codec_of.Tie as tie
-use Rattle.columns.proofs.codec_of.Reads as reads
-use Rattle.columns.proofs.codec_of.Lts as lts
 
--- src/lib.rt:65:1
-returns : tie.Need-returns
-returns c = ?
-
--- src/lib.rt:65:1
-returns-2 : tie.Need-returns-2
-returns-2 c = ?
-
--- src/lib.rt:65:1
-returns-3 : tie.Need-returns-3
-returns-3 c = ?
-
--- src/lib.rt:65:1
-returns-4 : tie.Need-returns-4
-returns-4 c = ?
-
--- src/lib.rt:65:1
-returns-5 : tie.Need-returns-5
-returns-5 c = ?
-
--- src/lib.rt:65:1
-returns-6 : tie.Need-returns-6
-returns-6 c = ?
-
--- src/lib.rt:65:1
-returns-7 : tie.Need-returns-7
-returns-7 c = ?
-
--- src/lib.rt:65:1
-returns-8 : tie.Need-returns-8
-returns-8 c = ?
-
--- src/lib.rt:65:1
-returns-9 : tie.Need-returns-9
-returns-9 c = ?
-
--- src/lib.rt:65:1
-returns-10 : tie.Need-returns-10
-returns-10 c = ?
-
--- src/lib.rt:65:1
-returns-11 : tie.Need-returns-11
-returns-11 c = ?
-
--- src/lib.rt:65:1
-returns-12 : tie.Need-returns-12
-returns-12 c = ?
-
--- src/lib.rt:65:1
-returns-13 : tie.Need-returns-13
-returns-13 c = ?
-
--- src/lib.rt:65:1
-returns-14 : tie.Need-returns-14
-returns-14 c = ?
-
--- src/lib.rt:65:1
-returns-15 : tie.Need-returns-15
-returns-15 c = ?
-
--- src/lib.rt:65:1
-returns-16 : tie.Need-returns-16
-returns-16 c = ?
-
--- src/lib.rt:65:1
-returns-17 : tie.Need-returns-17
-returns-17 c = ?
+unknown : tie.Need-returns-17
+unknown c =
+    let n = c .before .args .number in
+    sym (codec-unknown n (λ h. past-four n 12 (past-four n 8 (past-four n 4 (past-four n 0 h (c .match .rest .0 .0 .0 .0 .0 .0 .0 .0 .0 .0 .0 .0 .0 .0 .0 .1) (c .match .rest .0 .0 .0 .0 .0 .0 .0 .0 .0 .0 .0 .0 .0 .0 .1) (c .match .rest .0 .0 .0 .0 .0 .0 .0 .0 .0 .0 .0 .0 .0 .1) (c .match .rest .0 .0 .0 .0 .0 .0 .0 .0 .0 .0 .0 .0 .1)) (c .match .rest .0 .0 .0 .0 .0 .0 .0 .0 .0 .0 .0 .1) (c .match .rest .0 .0 .0 .0 .0 .0 .0 .0 .0 .0 .1) (c .match .rest .0 .0 .0 .0 .0 .0 .0 .0 .0 .1) (c .match .rest .0 .0 .0 .0 .0 .0 .0 .0 .1)) (c .match .rest .0 .0 .0 .0 .0 .0 .0 .1) (c .match .rest .0 .0 .0 .0 .0 .0 .1) (c .match .rest .0 .0 .0 .0 .0 .1) (c .match .rest .0 .0 .0 .0 .1)) (c .match .rest .0 .0 .0 .1) (c .match .rest .0 .0 .1) (c .match .rest .0 .1) (c .match .rest .1)))
 
 pub codec-of-spec : {M : Type 1} → statement M
+unfolding codecOf
 codec-of-spec =
     tie.close
     (tie.spec
-    returns
-    returns-2
-    returns-3
-    returns-4
-    returns-5
-    returns-6
-    returns-7
-    returns-8
-    returns-9
-    returns-10
-    returns-11
-    returns-12
-    returns-13
-    returns-14
-    returns-15
-    returns-16
-    returns-17)
+    (λ c. ap codecOf (sym (c .match .keys1)))
+    (λ c. ap codecOf (sym (c .match .keys2)))
+    (λ c. ap codecOf (sym (c .match .keys3)))
+    (λ c. ap codecOf (sym (c .match .keys4)))
+    (λ c. ap codecOf (sym (c .match .keys5)))
+    (λ c. ap codecOf (sym (c .match .keys6)))
+    (λ c. ap codecOf (sym (c .match .keys7)))
+    (λ c. ap codecOf (sym (c .match .keys8)))
+    (λ c. ap codecOf (sym (c .match .keys9)))
+    (λ c. ap codecOf (sym (c .match .keys10)))
+    (λ c. ap codecOf (sym (c .match .keys11)))
+    (λ c. ap codecOf (sym (c .match .keys12)))
+    (λ c. ap codecOf (sym (c .match .keys13)))
+    (λ c. ap codecOf (sym (c .match .keys14)))
+    (λ c. ap codecOf (sym (c .match .keys15)))
+    (λ c. ap codecOf (sym (c .match .keys16)))
+    unknown)

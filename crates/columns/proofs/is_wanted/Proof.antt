@@ -1,51 +1,32 @@
+-- Each arm is the definition's clause.
+use mathlib.Core.Path.{sym, ap, ap₂, _∙_}
+use Prim.Native.Nat.{ℕ}
+use lib.Dec.{eqb, leb}
 use borrow.Author.Needs.{needs}
+use Rattle.columns.specs.declared.Wanted.{Wanted}
+use Rattle.columns.specs.Table.{suits}
 use Rattle.columns.proofs.is_wanted.Statement.{statement}
 use Rattle.columns.proofs.is_wanted.Tie as tie
-use Rattle.columns.proofs.is_wanted.Reads as reads
-use Rattle.columns.proofs.is_wanted.Lts as lts
-use Rattle.columns.proofs.kind_number.Reads as kind-number-reads
 
--- src/lib.rt:93:9
-kind-number-requires : tie.Need-kind-number-requires
-kind-number-requires c κs = search needs
-
--- src/lib.rt:95:22
-enum-known-wanted : tie.Need-enum-known-wanted
-enum-known-wanted c = search needs
-
--- src/lib.rt:95:28
-kind-number-requires-2 : tie.Need-kind-number-requires-2
-kind-number-requires-2 c κs = search needs
-
--- src/lib.rt:96:25
-enum-told : tie.Need-enum-told
-enum-told c = search needs
-
--- src/lib.rt:97:24
-enum-told-2 : tie.Need-enum-told-2
-enum-told-2 c = search needs
-
--- src/lib.rt:90:1
 returns : tie.Need-returns
-returns c = ?
+returns c =
+    let a = c .before .before .before .before .before .args in
+    ap₂ eqb (c .kind-number2 .ensures) (c .before .before .before .before .kind-number .ensures) ∙ ap (λ (w : Wanted). suits w (a .kind)) (sym (c .before .before .wanted .given .1))
 
--- src/lib.rt:90:1
 returns-2 : tie.Need-returns-2
-returns-2 c = ?
-
--- src/lib.rt:90:1
-returns-3 : tie.Need-returns-3
-returns-3 c = search needs
+returns-2 c =
+    let a = c .before .before .before .args in
+    ap (λ (n : ℕ). leb n 1) (c .before .before .kind-number .ensures) ∙ ap (λ (w : Wanted). suits w (a .kind)) (sym (c .enum-told .given .1))
 
 pub is-wanted-spec : {M : Type 1} → statement M
 is-wanted-spec =
     tie.close
     (tie.spec
-    kind-number-requires
-    enum-known-wanted
-    kind-number-requires-2
-    enum-told
-    enum-told-2
+    (λ c κs. search needs)
+    (λ c. search needs)
+    (λ c κs. search needs)
+    (λ c. search needs)
+    (λ c. search needs)
     returns
     returns-2
-    returns-3)
+    (λ c. search needs))

@@ -1,68 +1,83 @@
+-- Each refusal is one rule of the definition (`judged-long` and the others).
+use mathlib.Core.Path.{_≡_, refl, sym, ap, _∙_}
+use mathlib.Core.Bool.{Bool, true, false, not}
+use Prim.Native.Nat.{ℕ}
+use native.Mathlib.Omega.{arith}
 use borrow.Author.Needs.{needs}
+use Rattle.columns.specs.declared.Codec.{Codec}
+use Rattle.columns.specs.Header.{judged}
+use Rattle.columns.specs.Laws.Table.{judged-unwanted, judged-long, judged-parameter, judged-size, judged-good}
 use Rattle.columns.proofs.judge.Statement.{statement}
 use Rattle.columns.proofs.judge.Tie as tie
-use Rattle.columns.proofs.judge.Reads as reads
-use Rattle.columns.proofs.judge.Lts as lts
-use Rattle.columns.proofs.is_wanted.Reads as is-wanted-reads
-use Rattle.columns.proofs.parameter_ok.Reads as parameter-ok-reads
-use Rattle.columns.proofs.size_ok.Reads as size-ok-reads
 
--- src/lib.rt:127:27
-enum-told : tie.Need-enum-told
-enum-told c = search needs
+not-true : (b : Bool) → not b ≡ true → b ≡ false
+not-true false e = refl
+not-true true e = let y : _≡_ {A = ℕ} 0 1 = cc in absurd (omega arith)
 
--- src/lib.rt:128:22
-enum-known-codec : tie.Need-enum-known-codec
-enum-known-codec c = search needs
+not-false : (b : Bool) → not b ≡ false → b ≡ true
+not-false true e = refl
+not-false false e = let y : _≡_ {A = ℕ} 0 1 = cc in absurd (omega arith)
 
--- src/lib.rt:129:17
-is-wanted-requires : tie.Need-is-wanted-requires
-is-wanted-requires c κs = search needs
-
--- src/lib.rt:130:17
 returns : tie.Need-returns
-returns c = ?
+returns c =
+    let a = c .before .before .before .before .before .args in
+    let k = c .before .before .before .codec .given in
+    sym (ap (λ (x : Codec). judged (a .wanted) x (a .length) (a .parameter) (a .bytes)) (k .1)
+    ∙ judged-unwanted (a .wanted) (k .0 .0) (k .0 .1 .0) (k .0 .1 .1 .0) (k .0 .1 .1 .1 .0) (a .length) (a .parameter) (a .bytes)
+    (sym (c .before .is-wanted .ensures) ∙ not-true _ (c .if1 .taken)))
 
--- src/lib.rt:133:17
 returns-2 : tie.Need-returns-2
-returns-2 c = ?
+returns-2 c =
+    let a = c .before .before .before .before .before .before .args in
+    let k = c .before .before .before .before .codec .given in
+    sym (ap (λ (x : Codec). judged (a .wanted) x (a .length) (a .parameter) (a .bytes)) (k .1)
+    ∙ judged-long (a .wanted) (k .0 .0) (k .0 .1 .0) (k .0 .1 .1 .0) (k .0 .1 .1 .1 .0) (a .length) (a .parameter) (a .bytes)
+    (sym (c .before .before .is-wanted .ensures) ∙ not-false _ (c .before .if1 .left)) (c .if2 .taken))
 
--- src/lib.rt:135:17
-parameter-ok-requires : tie.Need-parameter-ok-requires
-parameter-ok-requires c κs = search needs
-
--- src/lib.rt:136:17
 returns-3 : tie.Need-returns-3
-returns-3 c = ?
+returns-3 c =
+    let a = c .before .before .before .before .before .before .before .before .args in
+    let k = c .before .before .before .before .before .before .codec .given in
+    sym (ap (λ (x : Codec). judged (a .wanted) x (a .length) (a .parameter) (a .bytes)) (k .1)
+    ∙ judged-parameter (a .wanted) (k .0 .0) (k .0 .1 .0) (k .0 .1 .1 .0) (k .0 .1 .1 .1 .0) (a .length) (a .parameter) (a .bytes)
+    (sym (c .before .before .before .before .is-wanted .ensures) ∙ not-false _ (c .before .before .before .if1 .left)) (c .before .before .if2 .left)
+    (sym (c .before .parameter-ok .ensures) ∙ not-true _ (c .if3 .taken)))
 
--- src/lib.rt:138:17
-size-ok-requires : tie.Need-size-ok-requires
-size-ok-requires c κs = search needs
-
--- src/lib.rt:139:17
 returns-4 : tie.Need-returns-4
-returns-4 c = ?
+returns-4 c =
+    let a = c .before .before .before .before .before .before .before .before .before .before .args in
+    let k = c .before .before .before .before .before .before .before .before .codec .given in
+    sym (ap (λ (x : Codec). judged (a .wanted) x (a .length) (a .parameter) (a .bytes)) (k .1)
+    ∙ judged-size (a .wanted) (k .0 .0) (k .0 .1 .0) (k .0 .1 .1 .0) (k .0 .1 .1 .1 .0) (a .length) (a .parameter) (a .bytes)
+    (sym (c .before .before .before .before .before .before .is-wanted .ensures) ∙ not-false _ (c .before .before .before .before .before .if1 .left)) (c .before .before .before .before .if2 .left)
+    (sym (c .before .before .before .parameter-ok .ensures) ∙ not-false _ (c .before .before .if3 .left)) (sym (c .before .size-ok .ensures) ∙ not-true _ (c .if4 .taken)))
 
--- src/lib.rt:123:1
-returns-5 : tie.Need-returns-5
-returns-5 c = ?
-
--- src/lib.rt:123:1
 returns-6 : tie.Need-returns-6
-returns-6 c = ?
+returns-6 c =
+    let a = c .before .before .before .before .before .before .before .before .before .before .args in
+    let k = c .before .before .before .before .before .before .before .before .codec .given in
+    sym (ap (λ (x : Codec). judged (a .wanted) x (a .length) (a .parameter) (a .bytes)) (k .1)
+    ∙ judged-good (a .wanted) (k .0 .0) (k .0 .1 .0) (k .0 .1 .1 .0) (k .0 .1 .1 .1 .0) (a .length) (a .parameter) (a .bytes)
+    (sym (c .before .before .before .before .before .before .is-wanted .ensures) ∙ not-false _ (c .before .before .before .before .before .if1 .left)) (c .before .before .before .before .if2 .left)
+    (sym (c .before .before .before .parameter-ok .ensures) ∙ not-false _ (c .before .before .if3 .left)) (sym (c .before .size-ok .ensures) ∙ not-false _ (c .if4 .left)))
+
+returns-5 : tie.Need-returns-5
+returns-5 c =
+    let a = c .before .before .args in
+    sym (ap (λ (x : Codec). judged (a .wanted) x (a .length) (a .parameter) (a .bytes)) (c .enum-told .given .1))
 
 pub judge-spec : {M : Type 1} → statement M
 judge-spec =
     tie.close
     (tie.spec
-    enum-told
-    enum-known-codec
-    is-wanted-requires
+    (λ c. search needs)
+    (λ c. search needs)
+    (λ c κs. search needs)
     returns
     returns-2
-    parameter-ok-requires
+    (λ c κs. search needs)
     returns-3
-    size-ok-requires
+    (λ c κs. search needs)
     returns-4
     returns-5
     returns-6)

@@ -1,42 +1,44 @@
+-- The two tests are the two halves of the definition.
+use mathlib.Core.Path.{_≡_, sym, ap, _∙_}
+use mathlib.Core.Bool.{Bool, true, false}
+use Prim.Native.Nat.{ℕ, _<_, _≤_}
+use lib.Dec.{leb}
 use borrow.Author.Needs.{needs}
+use borrow.Author.Tests.{le-leb, lt-leb}
+use Rattle.columns.specs.declared.Parameter.{Parameter}
+use Rattle.columns.specs.Table.{parameterOk}
 use Rattle.columns.proofs.parameter_ok.Statement.{statement}
 use Rattle.columns.proofs.parameter_ok.Tie as tie
-use Rattle.columns.proofs.parameter_ok.Reads as reads
-use Rattle.columns.proofs.parameter_ok.Lts as lts
 
--- src/lib.rt:106:30
-enum-told : tie.Need-enum-told
-enum-told c = search needs
-
--- src/lib.rt:108:16
-enum-told-2 : tie.Need-enum-told-2
-enum-told-2 c = search needs
-
--- src/lib.rt:109:17
 returns : tie.Need-returns
-returns c = ?
+returns c =
+    let a = c .before .before .before .args in
+    sym (ap (λ (p : Parameter). parameterOk p (a .value)) (c .before .enum-told2 .given .1) ∙ rw (lt-leb 1 (a .value) (c .if1 .taken)))
 
--- src/lib.rt:114:16
-enum-told-3 : tie.Need-enum-told-3
-enum-told-3 c = search needs
-
--- src/lib.rt:115:17
 returns-2 : tie.Need-returns-2
-returns-2 c = ?
+returns-2 c =
+    let a = c .before .before .before .args in
+    sym (ap (λ (p : Parameter). parameterOk p (a .value)) (c .before .enum-told3 .given .1) ∙ rw (lt-leb 1 (a .value) (c .if2 .taken)))
 
--- src/lib.rt:102:1
-returns-3 : tie.Need-returns-3
-returns-3 c = search needs
-
--- src/lib.rt:102:1
 returns-4 : tie.Need-returns-4
-returns-4 c = ?
+returns-4 c =
+    let a = c .before .before .before .args in
+    sym (ap (λ (p : Parameter). parameterOk p (a .value)) (c .before .enum-told2 .given .1) ∙ rw (le-leb 1 (a .value) (c .if1 .left)))
 
--- src/lib.rt:102:1
 returns-5 : tie.Need-returns-5
-returns-5 c = ?
+returns-5 c =
+    let a = c .before .before .before .args in
+    sym (ap (λ (p : Parameter). parameterOk p (a .value)) (c .before .enum-told3 .given .1) ∙ rw (le-leb 1 (a .value) (c .if2 .left)))
 
 pub parameter-ok-spec : {M : Type 1} → statement M
 parameter-ok-spec =
     tie.close
-    (tie.spec enum-told enum-told-2 returns enum-told-3 returns-2 returns-3 returns-4 returns-5)
+    (tie.spec
+    (λ c. search needs)
+    (λ c. search needs)
+    returns
+    (λ c. search needs)
+    returns-2
+    (λ c. search needs)
+    returns-4
+    returns-5)
