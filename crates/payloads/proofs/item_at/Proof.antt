@@ -1,0 +1,52 @@
+-- Each arm is the reader of its form; at the end there is nothing.
+use mathlib.Core.Path.{sym, subst}
+use native.Mathlib.Omega.{arith}
+use borrow.Author.Needs.{needs}
+use Rattle.codecs.specs.declared.Form.{Form}
+use Rattle.payloads.specs.Items.{Gives}
+use Rattle.payloads.specs.Laws.Items.{read-end}
+use Rattle.payloads.proofs.item_at.Statement.{statement}
+use Rattle.payloads.proofs.item_at.Tie as tie
+
+returns : tie.Need-returns
+returns c =
+    let a = c .before .before .args in
+    read-end (a .form) (a .payload .now) (a .at) (c .if1 .taken)
+
+returns-2 : tie.Need-returns-2
+returns-2 c =
+    let a = c .before .before .before .before .before .before .args in
+    subst (λ (f : Form). Gives f (a .payload .now) (a .at) (c .plain-item .result)) (sym (c .before .before .form .given .1)) (c .plain-item .ensures)
+
+returns-3 : tie.Need-returns-3
+returns-3 c =
+    let a = c .before .before .before .before .before .before .args in
+    subst (λ (f : Form). Gives f (a .payload .now) (a .at) (c .packed-item .result)) (sym (c .before .before .form2 .given .1)) (c .packed-item .ensures)
+
+returns-4 : tie.Need-returns-4
+returns-4 c =
+    let a = c .before .before .before .before .before .before .args in
+    subst (λ (f : Form). Gives f (a .payload .now) (a .at) (c .run-item .result)) (sym (c .before .before .form3 .given .1)) (c .run-item .ensures)
+
+returns-5 : tie.Need-returns-5
+returns-5 c =
+    let a = c .before .before .before .before .before .args in
+    subst (λ (f : Form). Gives f (a .payload .now) (a .at) (c .name-item .result)) (sym (c .before .enum-told .given .1)) (c .name-item .ensures)
+
+pub item-at-spec : {M : Type 1} → statement M
+item-at-spec =
+    tie.close
+    (tie.spec
+    returns
+    (λ c. search needs)
+    (λ c κs. search needs)
+    (λ c. search needs)
+    (λ c κs. search needs)
+    (λ c. search needs)
+    (λ c κs. search needs)
+    (λ c. search needs)
+    (λ c κs. search needs)
+    returns-2
+    returns-3
+    returns-4
+    returns-5)

@@ -1,0 +1,81 @@
+-- Each arm scans the payload of its form, and what is read is what is held (`scan-held`).
+use mathlib.Core.Path.{sym, ap, _∙_}
+use mathlib.Core.Bool.{Bool}
+use native.Mathlib.Omega.{arith}
+use borrow.Author.Needs.{needs}
+use Rattle.numbers.specs.Laws.BigEndian.{bytes-of}
+use Rattle.codecs.specs.declared.Size.the-variants.{One, Two, Four}
+use Rattle.codecs.specs.declared.Form.the-variants.{Plain, Packed, Runs, Names}
+use Rattle.payloads.specs.Scan.{scanOf}
+use Rattle.payloads.specs.Items.{readIn}
+use Rattle.payloads.specs.Laws.Scan.{scan-held}
+use Rattle.payloads.proofs.scan.Statement.{statement}
+use Rattle.payloads.proofs.scan.Tie as tie
+
+returns : tie.Need-returns
+returns c =
+    let a = c .before .before .before .before .before .before .args in
+    let b = bytes-of (a .payload .now) (λ i. omega (arith, c .before .before .before .before .before .shared-slice-known .given i)) in
+    scan-held (Plain (c .before .before .before .form .given .0 .0)) (a .form) (a .delta) (a .length) (a .index) (a .payload .now) (c .scan-items .result) b (c .before .before .before .form .given .1) (c .scan-items .ensures)
+
+returns-2 : tie.Need-returns-2
+returns-2 c =
+    let a = c .before .before .before .before .before .before .args in
+    let b = bytes-of (a .payload .now) (λ i. omega (arith, c .before .before .before .before .before .shared-slice-known .given i)) in
+    scan-held (Plain (c .before .before .before .form .given .0 .0)) (a .form) (a .delta) (a .length) (a .index) (a .payload .now) (c .scan-plain .result) b (c .before .before .before .form .given .1) (c .scan-plain .ensures ∙ ap (λ (d : Bool). scanOf (Plain (c .before .before .before .form .given .0 .0)) d (a .length) (a .index) (readIn (Plain (c .before .before .before .form .given .0 .0)) (a .payload .now))) (sym (c .before .if1 .left)))
+
+returns-3 : tie.Need-returns-3
+returns-3 c =
+    let a = c .before .before .before .before .before .before .before .args in
+    let b = bytes-of (a .payload .now) (λ i. omega (arith, c .before .before .before .before .before .before .shared-slice-known .given i)) in
+    scan-held (Packed One) (a .form) (a .delta) (a .length) (a .index) (a .payload .now) (c .scan-items2 .result) b (c .before .before .before .before .form2 .given .1 ∙ ap Packed (c .before .enum-told .given .1)) (c .scan-items2 .ensures)
+
+returns-4 : tie.Need-returns-4
+returns-4 c =
+    let a = c .before .before .before .before .before .before .before .args in
+    let b = bytes-of (a .payload .now) (λ i. omega (arith, c .before .before .before .before .before .before .shared-slice-known .given i)) in
+    scan-held (Packed Two) (a .form) (a .delta) (a .length) (a .index) (a .payload .now) (c .scan-items3 .result) b (c .before .before .before .before .form2 .given .1 ∙ ap Packed (c .before .enum-told2 .given .1)) (c .scan-items3 .ensures)
+
+returns-5 : tie.Need-returns-5
+returns-5 c =
+    let a = c .before .before .before .before .before .before .before .args in
+    let b = bytes-of (a .payload .now) (λ i. omega (arith, c .before .before .before .before .before .before .shared-slice-known .given i)) in
+    scan-held (Packed Four) (a .form) (a .delta) (a .length) (a .index) (a .payload .now) (c .scan-items4 .result) b (c .before .before .before .before .form2 .given .1 ∙ ap Packed (c .before .enum-told3 .given .1)) (c .scan-items4 .ensures)
+
+returns-6 : tie.Need-returns-6
+returns-6 c =
+    let a = c .before .before .before .before .before .args in
+    let b = bytes-of (a .payload .now) (λ i. omega (arith, c .before .before .before .before .shared-slice-known .given i)) in
+    scan-held (Runs (c .before .before .form3 .given .0 .0)) (a .form) (a .delta) (a .length) (a .index) (a .payload .now) (c .scan-items5 .result) b (c .before .before .form3 .given .1) (c .scan-items5 .ensures)
+
+returns-7 : tie.Need-returns-7
+returns-7 c =
+    let a = c .before .before .before .before .args in
+    let b = bytes-of (a .payload .now) (λ i. omega (arith, c .before .before .before .shared-slice-known .given i)) in
+    scan-held Names (a .form) (a .delta) (a .length) (a .index) (a .payload .now) (c .scan-items6 .result) b (c .before .enum-told4 .given .1) (c .scan-items6 .ensures)
+
+pub scan-spec : {M : Type 1} → statement M
+scan-spec =
+    tie.close
+    (tie.spec
+    (λ c. search needs)
+    (λ c κs. search needs)
+    returns
+    (λ c κs. search needs)
+    (λ c. search needs)
+    (λ c. search needs)
+    (λ c κs. search needs)
+    (λ c. search needs)
+    (λ c κs. search needs)
+    (λ c. search needs)
+    (λ c κs. search needs)
+    (λ c. search needs)
+    (λ c κs. search needs)
+    (λ c. search needs)
+    (λ c κs. search needs)
+    returns-2
+    returns-3
+    returns-4
+    returns-5
+    returns-6
+    returns-7)

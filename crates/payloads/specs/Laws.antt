@@ -1,0 +1,4 @@
+pub mod Held
+pub mod Items
+pub mod Scan
+pub mod Plain

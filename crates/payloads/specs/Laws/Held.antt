@@ -1,0 +1,145 @@
+-- Laws of the values that a payload holds: plain and packed numbers are in range by themselves. Assumes nothing.
+use mathlib.Core.Path.{_≡_, refl, sym, ap, ap₂, subst, _∙_}
+use mathlib.Core.Bool.{Bool, true, false, cond, not, _&&_}
+use mathlib.Core.Option.{Option, none, some, Option·map}
+use mathlib.Core.List.{List, [], _∷_, _++_}
+use Prim.Native.Nat.{ℕ, zero, suc, _+_, _-_, _*_, _/_, _^_, _<_, _≤_}
+use native.Mathlib.Nat.{div-mul-le-self}
+use native.Mathlib.Omega.{arith}
+use lib.ListN.{length, take, drop, replicate, length-take, length-drop}
+use lib.Seq.{take-all}
+use lib.IntN.{ℤ, pos, negsuc, natAbs, _+ℤ_}
+use lib.Signed.{mag, ltZ, leZ}
+use lib.Dec.{leb, ltb}
+use mir.Syntax.{w8, w16, w32}
+use mir.Val.{toZ, ofZ, SFits}
+use mir.Facts.{sfits-toZ}
+use borrow.Author.Tests.{le-leb, lt-leb, leb-true, leb-false, lt-ltb, le-ltb, ltb-true, ltb-false}
+use Rattle.numbers.specs.BigEndian.{Bytes, numberOf}
+use Rattle.numbers.specs.Laws.BigEndian.{numberOf-bound, part-bytes}
+use Rattle.codecs.specs.declared.Size.{Size}
+use Rattle.codecs.specs.declared.Size.the-variants.{One, Two, Four}
+use Rattle.codecs.specs.declared.Range.{Range}
+use Rattle.codecs.specs.declared.Range.the-variants.{Int8, Int16, Int32, Ascii}
+use Rattle.codecs.specs.declared.Form.{Form}
+use Rattle.codecs.specs.declared.Form.the-variants.{Plain, Packed, Runs, Names}
+use Rattle.codecs.specs.Width.{widthOf, sizeOf, upper, lower}
+use Rattle.codecs.specs.Numbers.{firstNumbers, numbersIn}
+use Rattle.codecs.specs.Packing.{isLimit, in32, unpackFrom, unpack}
+use Rattle.codecs.specs.Payload.{valuesIn, inRange, allIn, rangeOf}
+use Rattle.payloads.specs.Held.{within, heldIn, exact, allExact}
+use Rattle.payloads.specs.Items.{readIn}
+
+-- Ranges of widths
+
+in-width : (k : ℕ) (y : ℤ) → mag y < suc k → (leZ (negsuc k) y && leZ y (pos k)) ≡ true
+in-width k (pos n) h = rw (le-leb n k (omega arith))
+in-width k (negsuc n) h = rw (le-leb n k (omega arith))
+
+pub fits-in : (z : Size) (x : ℤ) → SFits (widthOf z) x → inRange (rangeOf (Plain z)) x ≡ true
+fits-in One x f = in-width 127 x (f .sfits)
+fits-in Two x f = in-width 32767 x (f .sfits)
+fits-in Four x f = in-width 2147483647 x (f .sfits)
+
+-- the number of a size's bytes fits
+part-fits : (z : Size) (s : List ℕ) → Bytes s → sizeOf z ≤ length s → SFits (widthOf z) (toZ (widthOf z) (numberOf (take (sizeOf z) s)))
+part-fits z s b h = by-size z h
+  where
+    l : (k : ℕ) → k ≤ length s → length (take k s) ≡ k
+    l k h = let e = length-take k s in omega arith
+
+    bound : (k : ℕ) → k ≤ length s → numberOf (take k s) < 256 ^ k
+    bound k h = subst (λ (n : ℕ). numberOf (take k s) < 256 ^ n) (l k h) (numberOf-bound (take k s) (part-bytes s 0 k (omega arith) b))
+
+    by-size : (z : Size) → sizeOf z ≤ length s → SFits (widthOf z) (toZ (widthOf z) (numberOf (take (sizeOf z) s)))
+    by-size One h = sfits-toZ {w = w8} (record { fits = bound 1 h })
+    by-size Two h = sfits-toZ {w = w16} (record { fits = bound 2 h })
+    by-size Four h = sfits-toZ {w = w32} (record { fits = bound 4 h })
+
+-- Every number of a payload fits its size
+
+unfoldable pub Every : (ℤ → Type 0) → List ℤ → Type 0
+Every P [] = Unit
+Every P (x ∷ xs) = P x × Every P xs
+
+drop-bytes : (s : List ℕ) (k : ℕ) → k ≤ length s → Bytes s → Bytes (drop k s)
+drop-bytes s k h b =
+    let e : take (length s - k) (drop k s) ≡ drop k s = take-all (length s - k) (drop k s) (let l = length-drop k s in omega arith) in
+    subst Bytes e (part-bytes s k (length s - k) (omega arith) b)
+
+first-fit : (z : Size) (n : ℕ) (s : List ℕ) → Bytes s → n * sizeOf z ≤ length s → Every (SFits (widthOf z)) (firstNumbers z n s)
+unfolding Every firstNumbers
+first-fit z zero s b h = tt
+first-fit z (suc n) s b h =
+    let e : suc n * sizeOf z ≡ n * sizeOf z + sizeOf z = omega arith in
+    let l = length-drop (sizeOf z) s in
+    (part-fits z s b (omega arith), first-fit z n (drop (sizeOf z) s) (drop-bytes s (sizeOf z) (omega arith) b) (omega arith))
+
+pub numbers-fit : (z : Size) (s : List ℕ) → Bytes s → Every (SFits (widthOf z)) (numbersIn z s)
+unfolding numbersIn
+numbers-fit z s b = first-fit z (length s / sizeOf z) s b (div-mul-le-self (length s) (sizeOf z))
+
+pub every-in : (r : Range) (P : ℤ → Type 0) → ((x : ℤ) → P x → inRange r x ≡ true) → (xs : List ℤ) → Every P xs → allIn r xs ≡ true
+unfolding Every allIn
+every-in r P h [] e = refl
+every-in r P h (x ∷ xs) e = rw (h x (e .0), every-in r P h xs (e .1))
+
+pub every-exact : (P : ℤ → Type 0) → ((x : ℤ) → P x → exact x ≡ true) → (xs : List ℤ) → Every P xs → allExact xs ≡ true
+unfolding Every allExact
+every-exact P h [] e = refl
+every-exact P h (x ∷ xs) e = rw (h x (e .0), every-exact P h xs (e .1))
+
+-- Results of unpacking are 32-bit numbers
+
+in-int32 : (x : ℤ) → mag x < 2147483648 → inRange Int32 x ≡ true
+in-int32 x h = in-width 2147483647 x h
+
+unpacked-in : (p q : ℕ) (sum : ℤ) (begun : Bool) (xs l : List ℤ) → unpackFrom p q sum begun xs ≡ some l → allIn Int32 l ≡ true
+unfolding unpackFrom allIn
+unpacked-in p q sum true [] l e = let y : _≡_ {A = ℕ} 0 1 = cc in absurd (omega arith)
+unpacked-in p q sum false [] l e = let z : [] ≡ l = cc in ap (allIn Int32) (sym z)
+unpacked-in p q sum begun (x ∷ xs) l e =
+    by (λ h. unpacked-in p q (sum +ℤ x) true xs l h) (λ t h. unpacked-in p q (pos 0) false xs t h) (in32 (sum +ℤ x)) refl (isLimit p q x) (unpackFrom p q (pos 0) false xs) refl e
+  where
+    by : (unpackFrom p q (sum +ℤ x) true xs ≡ some l → allIn Int32 l ≡ true) → ((t : List ℤ) → unpackFrom p q (pos 0) false xs ≡ some t → allIn Int32 t ≡ true)
+        → (t : Bool) → in32 (sum +ℤ x) ≡ t → (u : Bool) (o : Option (List ℤ)) → unpackFrom p q (pos 0) false xs ≡ o
+        → cond t (cond u (unpackFrom p q (sum +ℤ x) true xs) (Option·map (λ (l : List ℤ). (sum +ℤ x) ∷ l) o)) none ≡ some l → allIn Int32 l ≡ true
+    by more done false a u o k h = let y : _≡_ {A = ℕ} 0 1 = cc in absurd (omega arith)
+    by more done true a true o k h = more h
+    by more done true a false none k h = let y : _≡_ {A = ℕ} 0 1 = cc in absurd (omega arith)
+    by more done true a false (some t) k h =
+        let z : (sum +ℤ x) ∷ t ≡ l = cc in
+        let i = done t k in
+        ap (allIn Int32) (sym z) ∙ rw (in-int32 (sum +ℤ x) (ltb-true (mag (sum +ℤ x)) 2147483648 a), i)
+
+within-all : (r : Range) (o : Option (List ℤ)) → ((l : List ℤ) → o ≡ some l → allIn r l ≡ true) → within r o ≡ o
+within-all r none h = refl
+within-all r (some l) h = rw (h l refl)
+
+-- what is read is what is held
+pub held-read : (f : Form) (s : List ℕ) → Bytes s → heldIn f s ≡ readIn f s
+unfolding heldIn readIn valuesIn
+held-read (Plain z) s b = within-all (rangeOf (Plain z)) (some (numbersIn z s)) (λ l e. let q : numbersIn z s ≡ l = cc in ap (allIn (rangeOf (Plain z))) (sym q) ∙ every-in (rangeOf (Plain z)) (SFits (widthOf z)) (fits-in z) (numbersIn z s) (numbers-fit z s b))
+held-read (Packed z) s b = within-all Int32 (unpack z (numbersIn z s)) (λ l e. unpacked-in (upper z) (lower z) (pos 0) false (numbersIn z s) l e)
+held-read (Runs r) s b = refl
+held-read Names s b = refl
+
+-- Plain numbers of one and two bytes are exact
+
+small-exact : (k : ℕ) (x : ℤ) → k ≤ 16777216 → mag x < k → exact x ≡ true
+small-exact k (pos n) h m = le-leb n 16777216 (omega arith)
+small-exact k (negsuc n) h m = le-leb (suc n) 16777216 (omega arith)
+
+pub plain-exact : (z : Size) (s : List ℕ) → Bytes s → (z ≡ Four → ⊥) → allExact (numbersIn z s) ≡ true
+plain-exact One s b h = every-exact (SFits w8) (λ x f. small-exact 128 x (omega arith) (f .sfits)) (numbersIn One s) (numbers-fit One s b)
+plain-exact Two s b h = every-exact (SFits w16) (λ x f. small-exact 32768 x (omega arith) (f .sfits)) (numbersIn Two s) (numbers-fit Two s b)
+plain-exact Four s b h = absurd (h refl)
+
+-- the two tests of the code
+pub exact-below : (z : ℤ) → ltZ z (negsuc 16777215) ≡ true → exact z ≡ false
+exact-below (pos n) e = let y : _≡_ {A = ℕ} 0 1 = cc in absurd (omega arith)
+exact-below (negsuc n) e = lt-leb (suc n) 16777216 (omega (arith, ltb-true 16777215 n e))
+
+pub exact-above : (z : ℤ) → ltZ z (negsuc 16777215) ≡ false → exact z ≡ leZ z (pos 16777216)
+exact-above (pos n) e = refl
+exact-above (negsuc n) e = le-leb (suc n) 16777216 (omega (arith, ltb-false 16777215 n e))

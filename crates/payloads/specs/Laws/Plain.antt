@@ -1,0 +1,72 @@
+-- Laws of scans of plain numbers: their count is the payload's size, and each stands at its place. Assumes nothing.
+use mathlib.Core.Path.{_≡_, refl, sym, ap, ap₂, _∙_}
+use mathlib.Core.Bool.{Bool, true, false, _&&_}
+use mathlib.Core.List.{List}
+use Prim.Native.Nat.{ℕ, zero, suc, _+_, _*_, _/_, _<_, _≤_}
+use native.Mathlib.Nat.{div-mul-le-self, mul-le-mul-right}
+use native.Mathlib.Omega.{arith}
+use lib.ListN.{length, drop, getD, List·getD-eq-default}
+use lib.IntN.{ℤ, pos}
+use borrow.Author.Tests.{eq-eqb, ne-eqb}
+use Rattle.refusal.specs.Table.{lengthDiffers}
+use Rattle.numbers.specs.BigEndian.{Bytes, signedAt}
+use Rattle.codecs.specs.declared.Size.{Size}
+use Rattle.codecs.specs.declared.Size.the-variants.{One, Two, Four}
+use Rattle.codecs.specs.declared.Form.the-variants.{Plain}
+use Rattle.codecs.specs.Width.{widthOf, sizeOf}
+use Rattle.codecs.specs.Numbers.{numbersIn}
+use Rattle.codecs.specs.Laws.Numbers.{size-pos, numbers-step, length-numbers}
+use Rattle.payloads.specs.declared.Outcome.the-variants.{Fine, Refused}
+use Rattle.payloads.specs.Held.{allExact}
+use Rattle.payloads.specs.Scan.{judgesExact, scanOf}
+use Rattle.payloads.specs.Items.{readIn}
+use Rattle.payloads.specs.Laws.Held.{plain-exact}
+
+-- the number at i, counted from the place j
+number-from : (z : Size) (s : List ℕ) (i j : ℕ) → j + suc i * sizeOf z ≤ length s → getD (numbersIn z (drop j s)) i (pos 0) ≡ signedAt (widthOf z) s (j + i * sizeOf z)
+number-from z s zero j h =
+    let a : suc 0 * sizeOf z ≡ sizeOf z = omega arith in
+    let b : j + 0 * sizeOf z ≡ j = omega arith in
+    rw b (ap (λ (l : List ℤ). getD l 0 (pos 0)) (numbers-step z s j (omega arith)))
+number-from z s (suc i) j h =
+    let a : suc (suc i) * sizeOf z ≡ sizeOf z + suc i * sizeOf z = omega arith in
+    let b : suc i * sizeOf z ≡ sizeOf z + i * sizeOf z = omega arith in
+    let e : j + suc i * sizeOf z ≡ j + sizeOf z + i * sizeOf z = omega arith in
+    rw e (ap (λ (l : List ℤ). getD l (suc i) (pos 0)) (numbers-step z s j (omega arith)) ∙ number-from z s i (j + sizeOf z) (omega arith))
+
+-- a place before the end of n numbers
+pub place-in : (z : Size) (b n i : ℕ) → b / sizeOf z ≡ n → i < n → suc i * sizeOf z ≤ b
+place-in z b n i e h =
+    let a : suc i * sizeOf z ≤ n * sizeOf z = mul-le-mul-right (sizeOf z) h in
+    let c : b / sizeOf z * sizeOf z ≤ b = div-mul-le-self b (sizeOf z) in
+    let d : b / sizeOf z * sizeOf z ≡ n * sizeOf z = ap (λ (k : ℕ). k * sizeOf z) e in
+    omega arith
+
+pub number-at-place : (z : Size) (s : List ℕ) (n i : ℕ) → length s / sizeOf z ≡ n → i < n → getD (numbersIn z s) i (pos 0) ≡ signedAt (widthOf z) s (i * sizeOf z)
+number-at-place z s n i e h =
+    let a : 0 + i * sizeOf z ≡ i * sizeOf z = omega arith in
+    let b = place-in z (length s) n i e h in
+    number-from z s i 0 (omega arith) ∙ ap (signedAt (widthOf z) s) a
+
+-- whether they are exact
+plain-judged : (z : Size) (s : List ℕ) → Bytes s → (judgesExact (Plain z) false && allExact (numbersIn z s)) ≡ judgesExact (Plain z) false
+plain-judged One s b = plain-exact One s b (λ e. let y : _≡_ {A = ℕ} 0 1 = cc in absurd (omega arith))
+plain-judged Two s b = plain-exact Two s b (λ e. let y : _≡_ {A = ℕ} 0 1 = cc in absurd (omega arith))
+plain-judged Four s b = refl
+
+module _ (z : Size) (s : List ℕ) (n i : ℕ) where
+  pub plain-other : (length s / sizeOf z ≡ n → ⊥) → scanOf (Plain z) false n i (readIn (Plain z) s) ≡ Refused lengthDiffers
+  unfolding readIn
+  plain-other h = rw (ne-eqb (length (numbersIn z s)) n (λ e. h (sym (length-numbers z s) ∙ e)))
+
+  plain-right : Bytes s → length s / sizeOf z ≡ n → scanOf (Plain z) false n i (readIn (Plain z) s) ≡ Fine (judgesExact (Plain z) false) (getD (numbersIn z s) i (pos 0))
+  unfolding readIn
+  plain-right b e = rw (eq-eqb (length (numbersIn z s)) n (length-numbers z s ∙ e), plain-judged z s b)
+
+  pub plain-fine : Bytes s → length s / sizeOf z ≡ n → i < n → scanOf (Plain z) false n i (readIn (Plain z) s) ≡ Fine (judgesExact (Plain z) false) (signedAt (widthOf z) s (i * sizeOf z))
+  plain-fine b e h = plain-right b e ∙ ap (Fine (judgesExact (Plain z) false)) (number-at-place z s n i e h)
+
+  pub plain-beyond : Bytes s → length s / sizeOf z ≡ n → n ≤ i → scanOf (Plain z) false n i (readIn (Plain z) s) ≡ Fine (judgesExact (Plain z) false) (pos 0)
+  plain-beyond b e h =
+      let l = length-numbers z s ∙ e in
+      plain-right b e ∙ ap (Fine (judgesExact (Plain z) false)) (List·getD-eq-default (numbersIn z s) (pos 0) {n = i} (omega arith))

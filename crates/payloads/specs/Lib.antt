@@ -1,0 +1,4 @@
+pub mod Held
+pub mod Scan
+pub mod Items
+pub mod Laws

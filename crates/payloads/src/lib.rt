@@ -1,0 +1,300 @@
+// A column's payload, read in one pass: whether its numbers are allowed (18) and as many as the header says (19), whether its results
+// are exact in single precision, and one result of it. A run of any length costs one turn, so that time is linear in the bytes.
+ghost use mathlib.Core.Path.{_≡_};
+ghost use mathlib.Core.Bool.{true, false, _&&_, _||_};
+ghost use Prim.Native.Nat.{_-_, _≤_, _<_};
+ghost use lib.ListN.{length};
+ghost use Rattle.payloads.specs.Held.{heldIn, exact};
+ghost use Rattle.payloads.specs.Scan.{scanOf, judgesExact};
+ghost use Rattle.payloads.specs.Items.{readIn, Gives, plusTimes, afterRun, cellAfter, passRun, finished};
+use codecs::Form;
+use codecs::Range;
+use codecs::Size;
+use codecs::Turn;
+
+// What a scan answers: whether the results are exact, and the one that was asked for; or the refusal.
+pub enum Outcome {
+    Fine(bool, i32),
+    Refused(u8),
+}
+
+// A value, how many times it stands there, and where the rest starts.
+pub enum Item {
+    Run(i32, usize, usize),
+    Wrong,
+    End,
+}
+
+// A scan between two items: the results still to come, whether there were too many; those still to come before the one asked for,
+// whether it was met; the last result, whether all were exact, and the one asked for.
+pub struct Tally {
+    pub left: usize,
+    pub over: bool,
+    pub wait: usize,
+    pub found: bool,
+    pub sum: i32,
+    pub exact: bool,
+    pub cell: i32,
+}
+
+// Scans a payload that should have `length` results, for the result at `index`.
+pub fn scan(payload: &[u8], form: Form, delta: bool, length: usize, index: usize) -> Outcome
+    ensures { λ r. ⌜ r ≡ scanOf form delta length index (heldIn form (now (payload .entry))) ⌝ }
+{
+    match form {
+        Form::Plain(size) => {
+            if delta {
+                return scan_items(payload, form, delta, length, index);
+            }
+            scan_plain(payload, size, length, index)
+        }
+        Form::Packed(size) => match size {
+            Size::One => scan_items(payload, Form::Packed(Size::One), delta, length, index),
+            Size::Two => scan_items(payload, Form::Packed(Size::Two), delta, length, index),
+            Size::Four => scan_items(payload, Form::Packed(Size::Four), delta, length, index),
+        },
+        Form::Runs(range) => scan_items(payload, Form::Runs(range), delta, length, index),
+        Form::Names => scan_items(payload, Form::Names, delta, length, index),
+    }
+}
+
+// Whether a number is exact in single precision.
+pub fn is_exact(number: i32) -> bool
+    ensures { λ r. ⌜ r ≡ exact number ⌝ }
+{
+    if number < -16777216 {
+        return false;
+    }
+    number <= 16777216
+}
+
+// The item at a place of a payload.
+pub fn item_at(payload: &[u8], at: usize, form: Form) -> Item
+    ensures { λ r. ⌜ Gives form (now (payload .entry)) at r ⌝ }
+{
+    if payload.len() <= at {
+        return Item::End;
+    }
+    match form {
+        Form::Plain(size) => plain_item(payload, at, size),
+        Form::Packed(size) => packed_item(payload, at, size),
+        Form::Runs(range) => run_item(payload, at, range),
+        Form::Names => name_item(payload, at),
+    }
+}
+
+// The same for plain numbers: their count is the payload's size.
+fn scan_plain(payload: &[u8], size: Size, length: usize, index: usize) -> Outcome
+    ensures { λ r. ⌜ r ≡ scanOf (Form.Plain size) false length index (readIn (Form.Plain size) (now (payload .entry))) ⌝ }
+{
+    let k = codecs::bytes(size);
+    if payload.len() / k != length {
+        return Outcome::Refused(refusal::LENGTH_DIFFERS);
+    }
+    let exact = judges_exact(Form::Plain(size), false);
+    if index < length {
+        return Outcome::Fine(exact, codecs::number_at(payload, index * k, size));
+    }
+    Outcome::Fine(exact, 0)
+}
+
+// The same, item by item.
+fn scan_items(payload: &[u8], form: Form, delta: bool, length: usize, index: usize) -> Outcome
+    ensures { λ r. ⌜ r ≡ scanOf form delta length index (readIn form (now (payload .entry))) ⌝ }
+{
+    let mut at: usize = 0;
+    let mut tally = Tally {
+        left: length,
+        over: false,
+        wait: index,
+        found: false,
+        sum: 0,
+        exact: judges_exact(form, delta),
+        cell: 0,
+    };
+    loop {
+        match item_at(payload, at, form) {
+            Item::Run(value, count, next) => {
+                tally = pass_run(tally, value, count, delta);
+                at = next;
+            }
+            Item::Wrong => {
+                return Outcome::Refused(refusal::NUMBER_NOT_ALLOWED);
+            }
+            Item::End => {
+                return finish(tally);
+            }
+        }
+    }
+}
+
+// What a tally says at the payload's end.
+fn finish(tally: Tally) -> Outcome
+    ensures { λ r. ⌜ r ≡ finished tally ⌝ }
+{
+    if tally.over {
+        return Outcome::Refused(refusal::LENGTH_DIFFERS);
+    }
+    if tally.left != 0 {
+        return Outcome::Refused(refusal::LENGTH_DIFFERS);
+    }
+    Outcome::Fine(tally.exact, tally.cell)
+}
+
+// The tally with a run more.
+fn pass_run(tally: Tally, value: i32, count: usize, delta: bool) -> Tally
+    ensures { λ r. ⌜ r ≡ passRun delta tally value count ⌝ }
+{
+    let sum = after_run(tally.sum, value, count, delta);
+    let cell = cell_after(tally, value, count, delta);
+    Tally {
+        left: less(tally.left, count),
+        over: either(tally.over, tally.left < count),
+        wait: less(tally.wait, count),
+        found: either(tally.found, tally.wait < count),
+        sum,
+        exact: both(tally.exact, is_exact(sum)),
+        cell,
+    }
+}
+
+// The result that was asked for, where it is met by the end of a run.
+fn cell_after(tally: Tally, value: i32, count: usize, delta: bool) -> i32
+    ensures { λ r. ⌜ r ≡ cellAfter delta tally value count ⌝ }
+{
+    if tally.found {
+        return tally.cell;
+    }
+    if tally.wait < count {
+        return after_run(tally.sum, value, tally.wait + 1, delta);
+    }
+    tally.cell
+}
+
+// The result after `count` values, where `sum` was the one before.
+fn after_run(sum: i32, value: i32, count: usize, delta: bool) -> i32
+    ensures { λ r. ⌜ r ≡ afterRun delta sum value count ⌝ }
+{
+    if delta {
+        return add_times(sum, value, count);
+    }
+    value
+}
+
+// sum + count * value, modulo 2^32 into the signed range.
+fn add_times(sum: i32, value: i32, count: usize) -> i32
+    ensures { λ r. ⌜ r ≡ plusTimes sum value count ⌝ }
+{
+    let a = numbers::to_u32(sum) as u64;
+    let d = numbers::to_u32(value) as u64;
+    let k = (count % 4294967296) as u64;
+    numbers::to_i32(((a + k * d) % 4294967296) as u32)
+}
+
+// The forms whose results are judged to be exact.
+fn judges_exact(form: Form, delta: bool) -> bool
+    ensures { λ r. ⌜ r ≡ judgesExact form delta ⌝ }
+{
+    match form {
+        Form::Plain(size) => match size {
+            Size::One => !delta,
+            Size::Two => !delta,
+            Size::Four => false,
+        },
+        Form::Packed(_) => true,
+        Form::Runs(_) => !delta,
+        Form::Names => false,
+    }
+}
+
+// One plain number.
+fn plain_item(payload: &[u8], at: usize, size: Size) -> Item
+    requires { ⌜ at ≤ length (now payload) ⌝ }
+    ensures { λ r. ⌜ Gives (Form.Plain size) (now (payload .entry)) at r ⌝ }
+{
+    let k = codecs::bytes(size);
+    if payload.len() - at < k {
+        return Item::End;
+    }
+    Item::Run(codecs::number_at(payload, at, size), 1, at + k)
+}
+
+// One byte of a name.
+fn name_item(payload: &[u8], at: usize) -> Item
+    requires { ⌜ at < length (now payload) ⌝ }
+    ensures { λ r. ⌜ Gives Form.Names (now (payload .entry)) at r ⌝ }
+{
+    let value = codecs::number_at(payload, at, Size::One);
+    if codecs::is_in(value, Range::Ascii) {
+        return Item::Run(value, 1, at + 1);
+    }
+    Item::Wrong
+}
+
+// One packed result.
+fn packed_item(payload: &[u8], at: usize, size: Size) -> Item
+    requires { ⌜ at ≤ length (now payload) ⌝ }
+    ensures { λ r. ⌜ Gives (Form.Packed size) (now (payload .entry)) at r ⌝ }
+{
+    let k = codecs::bytes(size);
+    let mut i = at;
+    let mut sum: i32 = 0;
+    while k <= payload.len() - i {
+        let number = codecs::number_at(payload, i, size);
+        let j = i + k;
+        match codecs::unpack_one(sum, number, size) {
+            Turn::More(s) => {
+                sum = s;
+            }
+            Turn::Done(s) => {
+                return Item::Run(s, 1, j);
+            }
+            Turn::Wrong => {
+                return Item::Wrong;
+            }
+        }
+        i = j;
+    }
+    if at < i {
+        return Item::Wrong;
+    }
+    Item::End
+}
+
+// One run.
+fn run_item(payload: &[u8], at: usize, range: Range) -> Item
+    requires { ⌜ at ≤ length (now payload) ⌝ }
+    ensures { λ r. ⌜ Gives (Form.Runs range) (now (payload .entry)) at r ⌝ }
+{
+    if payload.len() - at < 8 {
+        return Item::End;
+    }
+    let value = numbers::read_i32(payload, at);
+    let count = numbers::read_i32(payload, at + 4);
+    if count < 1 {
+        return Item::Wrong;
+    }
+    if codecs::is_in(value, range) {
+        return Item::Run(value, numbers::to_u32(count) as usize, at + 8);
+    }
+    Item::Wrong
+}
+
+// a - b, and 0 where b is larger.
+fn less(a: usize, b: usize) -> usize
+    ensures { λ r. ⌜ r ≡ a - b ⌝ }
+{
+    if a < b { 0 } else { a - b }
+}
+
+fn either(a: bool, b: bool) -> bool
+    ensures { λ r. ⌜ r ≡ (a || b) ⌝ }
+{
+    if a { true } else { b }
+}
+
+fn both(a: bool, b: bool) -> bool
+    ensures { λ r. ⌜ r ≡ (a && b) ⌝ }
+{
+    if a { b } else { false }
+}
