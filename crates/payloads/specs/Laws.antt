@@ -2,3 +2,4 @@ pub mod Held
 pub mod Items
 pub mod Scan
 pub mod Plain
+pub mod Writing

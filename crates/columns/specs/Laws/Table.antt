@@ -1,11 +1,11 @@
 -- Laws of the table of codecs and of headers. Assumes nothing.
-use mathlib.Core.Path.{_≡_, refl, sym, ap, _∙_}
+use mathlib.Core.Path.{_≡_, refl, sym, ap, ap₂, subst, _∙_}
 use mathlib.Core.Bool.{Bool, true, false, cond, _&&_}
-use mathlib.Core.List.{List}
+use mathlib.Core.List.{List, [], _∷_}
 use Prim.Native.Nat.{ℕ, zero, suc, _+_, _-_, _*_, _<_, _≤_}
 use native.Mathlib.Nat.{mul-le-mul-right}
 use native.Mathlib.Omega.{arith}
-use lib.ListN.{length, List·getD-eq-default}
+use lib.ListN.{length, getD, List·getD-eq-default}
 use lib.Dec.{leb, ltb}
 use borrow.Author.Tests.{le-leb, lt-leb, leb-true, ltb-false}
 use Rattle.refusal.specs.Table.{columnShort, codecUnknown, headerRange, payloadSize}
@@ -56,3 +56,89 @@ module _ (w : Wanted) (k : Kind) (f : Form) (d : Bool) (p : Parameter) (n m b : 
 
   pub judged-good : suits w k ≡ true → n ≤ lengthLimit → parameterOk p m ≡ true → sizeRight f n m b ≡ true → judged w (Known k f d p) n m b ≡ Good n m k f d
   judged-good a l q s = rw (a, le-leb n lengthLimit l, q, s)
+
+-- a header that passes
+abbrev pub Passes : Wanted → List ℕ → ℕ → ℕ → Kind → Form → Bool → Type 0
+Passes w s n m k f d =
+    (12 ≤ length s) × (n ≤ lengthLimit) × (suits w k ≡ true)
+    × ((p : Parameter) × (codecOf (unsignedAt 4 s 0) ≡ Known k f d p) × (parameterOk p m ≡ true)) × (sizeRight f n m (length s - 12) ≡ true)
+    × (n ≡ unsignedAt 4 s 4) × (m ≡ unsignedAt 4 s 8)
+
+and-both : (a b : Bool) → (a && b) ≡ true → (a ≡ true) × (b ≡ true)
+and-both true b e = (refl, e)
+and-both false b e = let y : _≡_ {A = ℕ} 0 1 = cc in absurd (omega arith)
+
+pub header-passes : (w : Wanted) (s : List ℕ) (n m : ℕ) (k : Kind) (f : Form) (d : Bool) → headerOf w s ≡ Good n m k f d → Passes w s n m k f d
+unfolding headerOf
+header-passes w s n m k f d e = by-length (ltb (length s) 12) refl e
+  where
+    clash : {A : Type 0} (r : ℕ) → Refused r ≡ Good n m k f d → A
+    clash r q = let z : _≡_ {A = ℕ} 0 1 = cc in absurd (omega arith)
+
+    N : ℕ
+    N = unsignedAt 4 s 4
+
+    M : ℕ
+    M = unsignedAt 4 s 8
+
+    sized : {f′ : Form} {n′ m′ : ℕ} → f′ ≡ f → n′ ≡ n → m′ ≡ m → sizeRight f′ n′ m′ (length s - 12) ≡ true → sizeRight f n m (length s - 12) ≡ true
+    sized {f′} y a b z = sym (ap (λ (i : Form). sizeRight i n m (length s - 12)) y) ∙ sym (ap₂ (λ (i j : ℕ). sizeRight f′ i j (length s - 12)) a b) ∙ z
+
+    by-size : (k′ : Kind) (f′ : Form) (d′ : Bool) (p : Parameter) → 12 ≤ length s → codecOf (unsignedAt 4 s 0) ≡ Known k′ f′ d′ p → suits w k′ ≡ true
+        → N ≤ lengthLimit → parameterOk p M ≡ true → (t : Bool) → sizeRight f′ N M (length s - 12) ≡ t
+        → cond t (Good N M k′ f′ d′) (Refused payloadSize) ≡ Good n m k f d → Passes w s n m k f d
+    by-size k′ f′ d′ p l c u h g false z q = clash payloadSize q
+    by-size k′ f′ d′ p l c u h g true z q =
+        let a : N ≡ n = cc in
+        let b : M ≡ m = cc in
+        let x : k′ ≡ k = cc in
+        let y : f′ ≡ f = cc in
+        let v : d′ ≡ d = cc in (
+          l,
+          subst (λ (i : ℕ). i ≤ lengthLimit) a h,
+          subst (λ (i : Kind). suits w i ≡ true) x u,
+          (p, c ∙ (ap (λ (i : Kind). Known i f′ d′ p) x ∙ ap₂ (λ (i : Form) (j : Bool). Known k i j p) y v), subst (λ (i : ℕ). parameterOk p i ≡ true) b g),
+          sized y a b z,
+          sym a,
+          sym b,
+        )
+
+    by-range : (k′ : Kind) (f′ : Form) (d′ : Bool) (p : Parameter) → 12 ≤ length s → codecOf (unsignedAt 4 s 0) ≡ Known k′ f′ d′ p → suits w k′ ≡ true
+        → (t : Bool) → (leb N lengthLimit && parameterOk p M) ≡ t
+        → cond t (cond (sizeRight f′ N M (length s - 12)) (Good N M k′ f′ d′) (Refused payloadSize)) (Refused headerRange) ≡ Good n m k f d → Passes w s n m k f d
+    by-range k′ f′ d′ p l c u false z q = clash headerRange q
+    by-range k′ f′ d′ p l c u true z q =
+        let g = and-both (leb N lengthLimit) (parameterOk p M) z in
+        by-size k′ f′ d′ p l c u (leb-true N lengthLimit (g .0)) (g .1) (sizeRight f′ N M (length s - 12)) refl q
+
+    by-kind : (k′ : Kind) (f′ : Form) (d′ : Bool) (p : Parameter) → 12 ≤ length s → codecOf (unsignedAt 4 s 0) ≡ Known k′ f′ d′ p
+        → (t : Bool) → suits w k′ ≡ t
+        → cond t (cond (leb N lengthLimit && parameterOk p M) (cond (sizeRight f′ N M (length s - 12)) (Good N M k′ f′ d′) (Refused payloadSize)) (Refused headerRange)) (Refused codecUnknown) ≡ Good n m k f d
+        → Passes w s n m k f d
+    by-kind k′ f′ d′ p l c false u q = clash codecUnknown q
+    by-kind k′ f′ d′ p l c true u q = by-range k′ f′ d′ p l c u (leb N lengthLimit && parameterOk p M) refl q
+
+    by-codec : (x : Codec) → 12 ≤ length s → codecOf (unsignedAt 4 s 0) ≡ x → judged w x N M (length s - 12) ≡ Good n m k f d → Passes w s n m k f d
+    by-codec Unknown l c q = clash codecUnknown q
+    by-codec (Known k′ f′ d′ p) l c q = by-kind k′ f′ d′ p l c (suits w k′) refl q
+
+    by-length : (t : Bool) → ltb (length s) 12 ≡ t
+        → cond t (Refused columnShort) (judged w (codecOf (unsignedAt 4 s 0)) N M (length s - 12)) ≡ Good n m k f d → Passes w s n m k f d
+    by-length true t q = clash columnShort q
+    by-length false t q = by-codec (codecOf (unsignedAt 4 s 0)) (ltb-false (length s) 12 t) refl q
+
+-- Rows
+
+abbrev allRows : (Codec → Bool) → List Codec → Bool
+allRows t [] = true
+allRows t (r ∷ rs) = t r && allRows t rs
+
+-- a test that each row of the table passes is passed by every codec
+pub every-codec : (t : Codec → Bool) → t Unknown ≡ true → allRows t table ≡ true → (c : ℕ) → t (codecOf c) ≡ true
+unfolding codecOf
+every-codec t u h c = at table h c
+  where
+    at : (rows : List Codec) → allRows t rows ≡ true → (c : ℕ) → t (getD rows c Unknown) ≡ true
+    at [] h c = u
+    at (r ∷ rows) h zero = and-both (t r) (allRows t rows) h .0
+    at (r ∷ rows) h (suc c) = at rows (and-both (t r) (allRows t rows) h .1) c

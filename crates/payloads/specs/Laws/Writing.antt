@@ -1,0 +1,222 @@
+-- Laws of writing a payload's results into a buffer, once over the elements' type: a run of them, and run after run. Assumes nothing.
+use mathlib.Core.Path.{_≡_, refl, sym, ap, ap₂, subst, _∙_}
+use mathlib.Core.Bool.{Bool}
+use mathlib.Core.Option.{Option, none, some, Option·map}
+use mathlib.Core.List.{List, [], _∷_, _++_, append-nil, append-assoc, map}
+use Prim.Native.Nat.{ℕ, zero, suc, _+_, _-_, _<_, _≤_}
+use native.Mathlib.Omega.{arith}
+use native.Mathlib.Numerals.{add-one}
+use lib.ListN.{length, take, drop, set, getD, replicate, length-append, length-replicate, length-drop, take-append-drop, replicate-append-replicate}
+use lib.Seq.{drop-cons, drop-drop, set-at, length-take-le, take-at, drop-at}
+use lib.IntN.{ℤ, pos}
+use Rattle.codecs.specs.declared.Form.{Form}
+use Rattle.codecs.specs.Delta.{sumsIf}
+use Rattle.payloads.specs.Items.{readIn}
+use Rattle.payloads.specs.Laws.Scan.{advance, resultsFrom, lastFrom, results-if, length-results, results-append, last-append, map-both}
+
+-- Lists
+
+module _ {B : Type 0} (g : ℤ → B) where
+  pub map-append : (p q : List ℤ) → map g (p ++ q) ≡ map g p ++ map g q
+  map-append [] q = refl
+  map-append (x ∷ p) q = ap (λ (l : List B). g x ∷ l) (map-append p q)
+
+  pub length-map : (p : List ℤ) → length (map g p) ≡ length p
+  length-map [] = refl
+  length-map (x ∷ p) = ap suc (length-map p)
+
+-- l in place of what stands from o on
+abbrev pub paste : {B : Type 0} → List B → ℕ → List B → List B
+paste old o l = take o old ++ (l ++ drop (o + length l) old)
+
+module _ {B : Type 0} (old : List B) (o : ℕ) where
+  pub paste-none : paste old o [] ≡ old
+  paste-none = let e : o + 0 ≡ o = omega arith in rw e (take-append-drop o old)
+
+  pub paste-length : (l : List B) → o + length l ≤ length old → length (paste old o l) ≡ length old
+  paste-length l h =
+      let a = length-append (take o old) (l ++ drop (o + length l) old) in
+      let b = length-append l (drop (o + length l) old) in
+      let c = length-take-le o old (omega arith) in
+      let d = length-drop (o + length l) old in
+      omega arith
+
+  -- one element after those that are pasted
+  pub paste-set : (l : List B) (x e : B) → o + length l < length old → set (paste old o l) (o + length l) x ≡ paste old o (l ++ (x ∷ []))
+  paste-set l x e h =
+      let t : length (take o old) ≡ o = length-take-le o old (omega arith) in
+      let p : length (take o old ++ l) ≡ o + length l = length-append (take o old) l ∙ ap (λ (n : ℕ). n + length l) t in
+      let d : drop (o + length l) old ≡ getD old (o + length l) e ∷ drop (suc (o + length l)) old = drop-cons old (o + length l) e h in
+      let s : paste old o l ≡ (take o old ++ l) ++ (getD old (o + length l) e ∷ drop (suc (o + length l)) old) = sym (append-assoc (take o old) l (drop (o + length l) old)) ∙ ap (λ (r : List B). (take o old ++ l) ++ r) d in
+      let n : o + length (l ++ (x ∷ [])) ≡ suc (o + length l) = let a = length-append l (x ∷ []) in omega arith in
+      ap (λ (r : List B). set r (o + length l) x) s
+      ∙ set-at (take o old ++ l) (getD old (o + length l) e) (drop (suc (o + length l)) old) x (o + length l) p
+      ∙ rw n (append-assoc (take o old) l (x ∷ drop (suc (o + length l)) old) ∙ ap (λ (r : List B). take o old ++ r) (sym (append-assoc l (x ∷ []) (drop (suc (o + length l)) old))))
+
+-- after a list at the buffer's start, one more behind it
+pub paste-front : {B : Type 0} (old l m : List B) → length l + length m ≤ length old
+    → paste (l ++ drop (length l) old) (length l) m ≡ (l ++ m) ++ drop (length (l ++ m)) old
+paste-front old l m h =
+    let t = take-at l (drop (length l) old) (length l) refl in
+    let d : drop (length l + length m) (l ++ drop (length l) old) ≡ drop (length (l ++ m)) old =
+    sym (drop-drop (length m) (length l) (l ++ drop (length l) old)) ∙ ap (drop (length m)) (drop-at l (drop (length l) old) (length l) refl)
+    ∙ drop-drop (length m) (length l) old ∙ ap (λ (n : ℕ). drop n old) (sym (length-append l m)) in
+    rw (t, d) (sym (append-assoc l m (drop (length (l ++ m)) old)))
+
+-- A run
+
+-- one value more at the end of a run
+run-more : (d : Bool) (a v : ℤ) (n : ℕ) → resultsFrom d a (replicate (suc n) v) ≡ resultsFrom d a (replicate n v) ++ (advance d (lastFrom d a (replicate n v)) v ∷ [])
+unfolding resultsFrom lastFrom
+run-more d a v zero = refl
+run-more d a v (suc n) = ap (λ (l : List ℤ). advance d a v ∷ l) (run-more d (advance d a v) v n)
+
+last-more : (d : Bool) (a v : ℤ) (n : ℕ) → lastFrom d a (replicate (suc n) v) ≡ advance d (lastFrom d a (replicate n v)) v
+unfolding lastFrom
+last-more d a v zero = refl
+last-more d a v (suc n) = last-more d (advance d a v) v n
+
+module _ {B : Type 0} (g : ℤ → B) (d : Bool) (a v : ℤ) (old : List B) (from : ℕ) where
+  -- n values of a run are written from a place on, and x is the last result
+  abbrev pub Filled : ℕ → List B → ℤ → Type 0
+  Filled n new x = (new ≡ paste old from (map g (resultsFrom d a (replicate n v)))) × (x ≡ lastFrom d a (replicate n v))
+
+  pub filled-start : Filled 0 old a
+  unfolding resultsFrom lastFrom
+  filled-start = (sym (paste-none old from), refl)
+
+  filled-size : (n : ℕ) → length (map g (resultsFrom d a (replicate n v))) ≡ n
+  filled-size n = length-map g (resultsFrom d a (replicate n v)) ∙ length-results d a (replicate n v) ∙ length-replicate n v
+
+  pub filled-length : (n : ℕ) (new : List B) (x : ℤ) → from + n ≤ length old → Filled n new x → length new ≡ length old
+  filled-length n new x h w = let s = filled-size n in ap length (w .0) ∙ paste-length old from (map g (resultsFrom d a (replicate n v))) (omega arith)
+
+  pub filled-more : (n : ℕ) (new : List B) (x y : ℤ) (e : B) → from + n < length old → Filled n new x → y ≡ advance d x v → Filled (suc n) (set new (from + n) (g y)) y
+  filled-more n new x y e h w q =
+      let r = resultsFrom d a (replicate n v) in
+      let s = filled-size n in
+      let z : y ≡ advance d (lastFrom d a (replicate n v)) v = q ∙ ap (λ (t : ℤ). advance d t v) (w .1) in
+      let m : map g (resultsFrom d a (replicate (suc n) v)) ≡ map g (resultsFrom d a (replicate n v)) ++ (g y ∷ []) =
+      ap (map g) (run-more d a v n) ∙ map-append g (resultsFrom d a (replicate n v)) (advance d (lastFrom d a (replicate n v)) v ∷ []) ∙ ap (λ (t : ℤ). map g (resultsFrom d a (replicate n v)) ++ (g t ∷ [])) (sym z) in
+      let p : set new (from + n) (g y) ≡ set (paste old from (map g (resultsFrom d a (replicate n v)))) (from + length (map g (resultsFrom d a (replicate n v)))) (g y) =
+      ap₂ (λ (l : List B) (k : ℕ). set l (from + k) (g y)) (w .0) (sym s) in
+      (p ∙ paste-set old from (map g (resultsFrom d a (replicate n v))) (g y) e (omega arith) ∙ ap (paste old from) (sym m), z ∙ sym (last-more d a v n))
+
+-- Run after run
+
+-- whether a payload's results have room
+abbrev pub HasRoom : Form → List ℕ → ℕ → Type 0
+HasRoom f s room = (l : List ℤ) × (readIn f s ≡ some l) × (length l ≤ room)
+
+module _ {B : Type 0} (g : ℤ → B) (f : Form) (d : Bool) (s : List ℕ) (old : List B) (room : HasRoom f s (length old)) where
+  -- the values p stand before the place `at`, and their results at the buffer's start
+  abbrev pub Written : ℕ → ℕ → List B → ℤ → Type 0
+  Written at o new x =
+      (p : List ℤ) × (readIn f s ≡ Option·map (λ (l : List ℤ). p ++ l) (readIn f (drop at s))) × (o ≡ length p) × (x ≡ lastFrom d (pos 0) p)
+      × (new ≡ map g (resultsFrom d (pos 0) p) ++ drop (length p) old)
+
+  map-id : (o : Option (List ℤ)) → o ≡ Option·map (λ (l : List ℤ). l) o
+  map-id none = refl
+  map-id (some l) = refl
+
+  pub written-start : Written 0 0 old (pos 0)
+  unfolding resultsFrom lastFrom
+  written-start = ([], map-id (readIn f s), refl, refl, refl)
+
+  module _ (at o : ℕ) (new : List B) (x : ℤ) (w : Written at o new x) where
+    -- the rest of the values
+    rest : (r : List ℤ) × (readIn f (drop at s) ≡ some r) × (w .0 ++ r ≡ room .0)
+    rest = by (readIn f (drop at s)) refl
+      where
+        by : (y : Option (List ℤ)) → readIn f (drop at s) ≡ y → (r : List ℤ) × (readIn f (drop at s) ≡ some r) × (w .0 ++ r ≡ room .0)
+        by none e =
+            let q : none ≡ some (room .0) = sym (ap (Option·map (λ (l : List ℤ). w .0 ++ l)) e) ∙ sym (w .1) ∙ room .1 in
+            let z : _≡_ {A = ℕ} 0 1 = cc in absurd (omega arith)
+        by (some r) e =
+            let q : some (w .0 ++ r) ≡ some (room .0) = sym (ap (Option·map (λ (l : List ℤ). w .0 ++ l)) e) ∙ sym (w .1) ∙ room .1 in
+            (r, e, cc)
+
+    pub written-length : length new ≡ length old
+    written-length =
+        let a = length-append (w .0) (rest .0) in
+        let b = ap length (rest .2) in
+        let m = length-append (map g (resultsFrom d (pos 0) (w .0))) (drop (length (w .0)) old) in
+        let c = length-map g (resultsFrom d (pos 0) (w .0)) in
+        let e = length-results d (pos 0) (w .0) in
+        let k = length-drop (length (w .0)) old in
+        let h = room .2 in
+        let n = ap length (w .4) in
+        omega arith
+
+    module _ (v : ℤ) (k next : ℕ) (q : readIn f (drop at s) ≡ Option·map (λ (l : List ℤ). replicate k v ++ l) (readIn f (drop next s))) where
+      -- there is room for a run
+      pub written-room : o + k ≤ length new
+      written-room = by (readIn f (drop next s)) refl
+        where
+          by : (y : Option (List ℤ)) → readIn f (drop next s) ≡ y → o + k ≤ length new
+          by none e =
+              let z : none ≡ some (rest .0) = sym (ap (Option·map (λ (l : List ℤ). replicate k v ++ l)) e) ∙ sym q ∙ rest .1 in
+              let y : _≡_ {A = ℕ} 0 1 = cc in absurd (omega arith)
+          by (some t) e =
+              let z : some (replicate k v ++ t) ≡ some (rest .0) = sym (ap (Option·map (λ (l : List ℤ). replicate k v ++ l)) e) ∙ sym q ∙ rest .1 in
+              let y : replicate k v ++ t ≡ rest .0 = cc in
+              let a = ap length y in
+              let b = length-append (replicate k v) t in
+              let c = length-replicate k v in
+              let m = length-append (w .0) (rest .0) in
+              let i = ap length (rest .2) in
+              let h = room .2 in
+              let n = written-length in
+              let j = w .2 in
+              omega arith
+
+      -- a run more
+      pub written-run : (new′ : List B) (x′ : ℤ) → Filled g d x v new o k new′ x′ → Written next (o + k) new′ x′
+      written-run new′ x′ t =
+          let p = w .0 in
+          let a = w .1 ∙ ap (Option·map (λ (l : List ℤ). w .0 ++ l)) q ∙ map-both (λ (l : List ℤ). w .0 ++ l) (λ (l : List ℤ). replicate k v ++ l) (readIn f (drop next s)) in
+          let n = length-append (w .0) (replicate k v) in
+          let c = length-replicate k v in
+          let j = w .2 in
+          let r = written-room in
+          let z = t .1 ∙ ap (λ (y : ℤ). lastFrom d y (replicate k v)) (w .3) ∙ sym (last-append d (pos 0) (w .0) (replicate k v)) in
+          (w .0 ++ replicate k v, simp append-assoc a, omega arith, z, t .0 ∙ pasted)
+        where
+          P : List B
+          P = map g (resultsFrom d (pos 0) (w .0))
+
+          Q : List B
+          Q = map g (resultsFrom d x (replicate k v))
+
+          size : length P ≡ length (w .0)
+          size = length-map g (resultsFrom d (pos 0) (w .0)) ∙ length-results d (pos 0) (w .0)
+
+          whole : P ++ Q ≡ map g (resultsFrom d (pos 0) (w .0 ++ replicate k v))
+          whole = ap (λ (y : ℤ). P ++ map g (resultsFrom d y (replicate k v))) (w .3) ∙ sym (map-append g (resultsFrom d (pos 0) (w .0)) (resultsFrom d (lastFrom d (pos 0) (w .0)) (replicate k v))) ∙ ap (map g) (sym (results-append d (pos 0) (w .0) (replicate k v)))
+
+          all : length (P ++ Q) ≡ length (w .0 ++ replicate k v)
+          all = ap length whole ∙ length-map g (resultsFrom d (pos 0) (w .0 ++ replicate k v)) ∙ length-results d (pos 0) (w .0 ++ replicate k v)
+
+          fits : length P + length Q ≤ length old
+          fits =
+              let a = length-map g (resultsFrom d x (replicate k v)) ∙ length-results d x (replicate k v) ∙ length-replicate k v in
+              let r = written-room in
+              let n = written-length in
+              let j = w .2 in
+              omega (arith, size)
+
+          pasted : paste new o Q ≡ map g (resultsFrom d (pos 0) (w .0 ++ replicate k v)) ++ drop (length (w .0 ++ replicate k v)) old
+          pasted =
+              ap₂ (λ (l : List B) (i : ℕ). paste l i Q) (w .4 ∙ ap (λ (i : ℕ). P ++ drop i old) (sym size)) (w .2 ∙ sym size)
+              ∙ paste-front old P Q fits ∙ ap₂ (λ (l : List B) (i : ℕ). l ++ drop i old) whole all
+
+    -- where the reading ends all is written
+    pub written-end : readIn f (drop at s) ≡ some [] → (l : List ℤ) → readIn f s ≡ some l → new ≡ map g (sumsIf d l) ++ drop (length l) old
+    written-end q l e =
+        let a : some (w .0) ≡ some l = sym (w .1 ∙ ap (Option·map (λ (l : List ℤ). w .0 ++ l)) q ∙ ap some (append-nil (w .0))) ∙ e in
+        let p : w .0 ≡ l = cc in
+        w .4 ∙ ap (λ (t : List ℤ). map g (resultsFrom d (pos 0) t) ++ drop (length t) old) p ∙ ap (λ (t : List ℤ). map g t ++ drop (length l) old) (sym (results-if d l))
+
+    -- and it ends nowhere else
+    pub written-wrong : {A : Type 0} → readIn f (drop at s) ≡ none → A
+    written-wrong q = let z : none ≡ some (rest .0) = sym q ∙ rest .1 in let y : _≡_ {A = ℕ} 0 1 = cc in absurd (omega arith)
