@@ -1,0 +1,339 @@
+// Decoders of columns of numbers, characters and strings into a lent buffer, for any bytes and any buffer: one pass to check, one to
+// write. On success the buffer begins with the column and everything beyond is unchanged; on refusal nothing has changed.
+ghost use mathlib.Core.Path.{_≡_};
+ghost use mathlib.Core.Bool.{true, false};
+ghost use mathlib.Core.List.{_++_};
+ghost use Prim.Native.Nat.{_+_, _%_, _<_, _≤_};
+ghost use lib.ListN.{length, drop};
+ghost use lib.IntN.{pos};
+ghost use Rattle.codecs.specs.Numbers.{numbersIn};
+ghost use Rattle.codecs.specs.Payload.{paddedFrom};
+ghost use Rattle.columns.specs.Table.{suits};
+ghost use Rattle.columns.specs.Decode.{decode, judgedPayload};
+ghost use Rattle.payloads.specs.Laws.Scan.{advance};
+ghost use Rattle.payloads.specs.Laws.Writing.{Filled, HasRoom};
+ghost use Rattle.decoding.specs.Calls.{told, toldFixed, left, asNumber, asByte, countOf, isNames, Wrote, mayFollow};
+use codecs::Form;
+use codecs::Size;
+use columns::Header;
+use columns::Kind;
+use columns::Wanted;
+use payloads::Item;
+use payloads::Outcome;
+
+// How many elements were written, or the refusal.
+pub enum Decoded {
+    Count(usize),
+    Refused(u8),
+}
+
+// How many integers were written, and the divisor; or the refusal.
+pub enum Fixed {
+    Column(usize, i32),
+    Refused(u8),
+}
+
+// The integers of an int32 column (codecs 4, 7, 8, 14, 15).
+pub fn decode_int32(column: &[u8], buffer: &mut [i32]) -> Decoded
+    ensures answer { λ r. ⌜ r ≡ told (decode (Wanted.Only Kind.Int32) (now (column .entry))) (length (now (buffer .entry))) ⌝ }
+    ensures buffer { λ r. ⌜ now (buffer .exit) ≡ left asNumber (decode (Wanted.Only Kind.Int32) (now (column .entry))) (now (buffer .entry)) ⌝ }
+{
+    count_of(decode_integers(column, Wanted::Only(Kind::Int32), buffer))
+}
+
+// The integers of an int8 column (codecs 2, 16).
+pub fn decode_int8(column: &[u8], buffer: &mut [i32]) -> Decoded
+    ensures answer { λ r. ⌜ r ≡ told (decode (Wanted.Only Kind.Int8) (now (column .entry))) (length (now (buffer .entry))) ⌝ }
+    ensures buffer { λ r. ⌜ now (buffer .exit) ≡ left asNumber (decode (Wanted.Only Kind.Int8) (now (column .entry))) (now (buffer .entry)) ⌝ }
+{
+    count_of(decode_integers(column, Wanted::Only(Kind::Int8), buffer))
+}
+
+// The integers of an int16 column (codec 3).
+pub fn decode_int16(column: &[u8], buffer: &mut [i32]) -> Decoded
+    ensures answer { λ r. ⌜ r ≡ told (decode (Wanted.Only Kind.Int16) (now (column .entry))) (length (now (buffer .entry))) ⌝ }
+    ensures buffer { λ r. ⌜ now (buffer .exit) ≡ left asNumber (decode (Wanted.Only Kind.Int16) (now (column .entry))) (now (buffer .entry)) ⌝ }
+{
+    count_of(decode_integers(column, Wanted::Only(Kind::Int16), buffer))
+}
+
+// The integers and the divisor of a fixed point column (codecs 9 to 13).
+pub fn decode_fixed_point(column: &[u8], buffer: &mut [i32]) -> Fixed
+    ensures answer { λ r. ⌜ r ≡ toldFixed (decode (Wanted.Only Kind.FixedPoint) (now (column .entry))) (length (now (buffer .entry))) ⌝ }
+    ensures buffer { λ r. ⌜ now (buffer .exit) ≡ left asNumber (decode (Wanted.Only Kind.FixedPoint) (now (column .entry))) (now (buffer .entry)) ⌝ }
+{
+    decode_integers(column, Wanted::Only(Kind::FixedPoint), buffer)
+}
+
+// The characters of a column, a byte each (codec 6).
+pub fn decode_chars(column: &[u8], buffer: &mut [u8]) -> Decoded
+    ensures answer { λ r. ⌜ r ≡ told (decode (Wanted.Only Kind.Chars) (now (column .entry))) (length (now (buffer .entry))) ⌝ }
+    ensures buffer { λ r. ⌜ now (buffer .exit) ≡ left asByte (decode (Wanted.Only Kind.Chars) (now (column .entry))) (now (buffer .entry)) ⌝ }
+{
+    match columns::read_header(column, Wanted::Only(Kind::Chars)) {
+        Header::Refused(r) => Decoded::Refused(r),
+        Header::Good(n, m, kind, form, delta) => chars_in(&column[12..], n, m, kind, form, delta, buffer),
+    }
+}
+
+// The bytes of a column of strings, each of the header's size (codec 5).
+pub fn decode_strings(column: &[u8], buffer: &mut [u8]) -> Decoded
+    ensures answer { λ r. ⌜ r ≡ told (decode (Wanted.Only Kind.Strings) (now (column .entry))) (length (now (buffer .entry))) ⌝ }
+    ensures buffer { λ r. ⌜ now (buffer .exit) ≡ left asByte (decode (Wanted.Only Kind.Strings) (now (column .entry))) (now (buffer .entry)) ⌝ }
+{
+    match columns::read_header(column, Wanted::Only(Kind::Strings)) {
+        Header::Refused(r) => Decoded::Refused(r),
+        Header::Good(n, size, kind, _, _) => strings_in(&column[12..], n, size, kind, buffer),
+    }
+}
+
+// The count of an answer.
+fn count_of(answer: Fixed) -> Decoded
+    ensures { λ r. ⌜ r ≡ countOf answer ⌝ }
+{
+    match answer {
+        Fixed::Column(n, _) => Decoded::Count(n),
+        Fixed::Refused(r) => Decoded::Refused(r),
+    }
+}
+
+// The integers of a column that has no names, and its parameter.
+fn decode_integers(column: &[u8], wanted: Wanted, buffer: &mut [i32]) -> Fixed
+    requires { ⌜ suits wanted Kind.Strings ≡ false ⌝ }
+    ensures answer { λ r. ⌜ r ≡ toldFixed (decode wanted (now (column .entry))) (length (now (buffer .entry))) ⌝ }
+    ensures buffer { λ r. ⌜ now (buffer .exit) ≡ left asNumber (decode wanted (now (column .entry))) (now (buffer .entry)) ⌝ }
+{
+    match columns::read_header(column, wanted) {
+        Header::Refused(r) => Fixed::Refused(r),
+        Header::Good(n, m, kind, form, delta) => integers_in(&column[12..], n, m, kind, form, delta, buffer),
+    }
+}
+
+// The integers of a payload whose header passed.
+fn integers_in(payload: &[u8], n: usize, m: u32, kind: Kind, form: Form, delta: bool, buffer: &mut [i32]) -> Fixed
+    requires { ⌜ isNames form ≡ false ⌝ }
+    ensures answer { λ r. ⌜ r ≡ toldFixed (judgedPayload (Header.Good n m kind form delta) (now (payload .entry))) (length (now (buffer .entry))) ⌝ }
+    ensures buffer { λ r. ⌜ now (buffer .exit) ≡ left asNumber (judgedPayload (Header.Good n m kind form delta) (now (payload .entry))) (now (buffer .entry)) ⌝ }
+{
+    match payloads::scan(payload, form, delta, n, 0) {
+        Outcome::Refused(r) => Fixed::Refused(r),
+        Outcome::Fine(_, _) => {
+            if buffer.len() < n {
+                return Fixed::Refused(refusal::BUFFER_TOO_SMALL);
+            }
+            put_integers(payload, form, delta, buffer);
+            Fixed::Column(n, numbers::to_i32(m))
+        }
+    }
+}
+
+// Writes the results of a payload, by a loop of its form's own.
+fn put_integers(payload: &[u8], form: Form, delta: bool, buffer: &mut [i32])
+    requires { ⌜ HasRoom form (now payload) (length (now buffer)) ⌝ }
+    ensures { λ r. ⌜ Wrote asNumber form delta (now (payload .entry)) (now (buffer .entry)) (now (buffer .exit)) ⌝ }
+{
+    match form {
+        Form::Plain(size) => match size {
+            Size::One => write_integers(payload, Form::Plain(Size::One), delta, buffer),
+            Size::Two => write_integers(payload, Form::Plain(Size::Two), delta, buffer),
+            Size::Four => write_integers(payload, Form::Plain(Size::Four), delta, buffer),
+        },
+        Form::Packed(size) => match size {
+            Size::One => write_integers(payload, Form::Packed(Size::One), delta, buffer),
+            Size::Two => write_integers(payload, Form::Packed(Size::Two), delta, buffer),
+            Size::Four => write_integers(payload, Form::Packed(Size::Four), delta, buffer),
+        },
+        Form::Runs(range) => write_integers(payload, Form::Runs(range), delta, buffer),
+        Form::Names => write_integers(payload, Form::Names, delta, buffer),
+    }
+}
+
+// Writes the results of a payload, item by item.
+fn write_integers(payload: &[u8], form: Form, delta: bool, buffer: &mut [i32])
+    requires { ⌜ HasRoom form (now payload) (length (now buffer)) ⌝ }
+    ensures { λ r. ⌜ Wrote asNumber form delta (now (payload .entry)) (now (buffer .entry)) (now (buffer .exit)) ⌝ }
+{
+    let mut at: usize = 0;
+    let mut o: usize = 0;
+    let mut sum: i32 = 0;
+    loop {
+        match payloads::item_at(payload, at, form) {
+            Item::Run(value, count, next) => {
+                sum = fill_integers(buffer, o, count, sum, value, delta);
+                o += count;
+                at = next;
+            }
+            Item::Wrong => {
+                return;
+            }
+            Item::End => {
+                return;
+            }
+        }
+    }
+}
+
+// Writes the results of a run from a place on, and gives the last.
+fn fill_integers(buffer: &mut [i32], from: usize, count: usize, sum: i32, value: i32, delta: bool) -> i32
+    requires { ⌜ from + count ≤ length (now buffer) ⌝ }
+    ensures { λ r. ⌜ Filled asNumber delta sum value (now (buffer .entry)) from count (now (buffer .exit)) r ⌝ }
+{
+    let mut x = sum;
+    let mut n: usize = 0;
+    while n < count {
+        x = next_result(x, value, delta);
+        buffer[from + n] = x;
+        n += 1;
+    }
+    x
+}
+
+// The result after `sum`, by a value.
+fn next_result(sum: i32, value: i32, delta: bool) -> i32
+    ensures { λ r. ⌜ r ≡ advance delta sum value ⌝ }
+{
+    if delta {
+        return codecs::add_delta(sum, value);
+    }
+    value
+}
+
+// The characters of a payload whose header passed.
+fn chars_in(payload: &[u8], n: usize, m: u32, kind: Kind, form: Form, delta: bool, buffer: &mut [u8]) -> Decoded
+    requires { ⌜ isNames form ≡ false ⌝ }
+    ensures answer { λ r. ⌜ r ≡ told (judgedPayload (Header.Good n m kind form delta) (now (payload .entry))) (length (now (buffer .entry))) ⌝ }
+    ensures buffer { λ r. ⌜ now (buffer .exit) ≡ left asByte (judgedPayload (Header.Good n m kind form delta) (now (payload .entry))) (now (buffer .entry)) ⌝ }
+{
+    match payloads::scan(payload, form, delta, n, 0) {
+        Outcome::Refused(r) => Decoded::Refused(r),
+        Outcome::Fine(_, _) => {
+            if buffer.len() < n {
+                return Decoded::Refused(refusal::BUFFER_TOO_SMALL);
+            }
+            write_bytes(payload, form, delta, buffer);
+            Decoded::Count(n)
+        }
+    }
+}
+
+// Writes the results of a payload as bytes, item by item.
+fn write_bytes(payload: &[u8], form: Form, delta: bool, buffer: &mut [u8])
+    requires { ⌜ HasRoom form (now payload) (length (now buffer)) ⌝ }
+    ensures { λ r. ⌜ Wrote asByte form delta (now (payload .entry)) (now (buffer .entry)) (now (buffer .exit)) ⌝ }
+{
+    let mut at: usize = 0;
+    let mut o: usize = 0;
+    let mut sum: i32 = 0;
+    loop {
+        match payloads::item_at(payload, at, form) {
+            Item::Run(value, count, next) => {
+                sum = fill_bytes(buffer, o, count, sum, value, delta);
+                o += count;
+                at = next;
+            }
+            Item::Wrong => {
+                return;
+            }
+            Item::End => {
+                return;
+            }
+        }
+    }
+}
+
+// Writes the results of a run as bytes from a place on, and gives the last.
+fn fill_bytes(buffer: &mut [u8], from: usize, count: usize, sum: i32, value: i32, delta: bool) -> i32
+    requires { ⌜ from + count ≤ length (now buffer) ⌝ }
+    ensures { λ r. ⌜ Filled asByte delta sum value (now (buffer .entry)) from count (now (buffer .exit)) r ⌝ }
+{
+    let mut x = sum;
+    let mut n: usize = 0;
+    while n < count {
+        x = next_result(x, value, delta);
+        buffer[from + n] = low_byte(x);
+        n += 1;
+    }
+    x
+}
+
+// The lowest byte of a number.
+fn low_byte(number: i32) -> u8
+    ensures { λ r. ⌜ r ≡ asByte number ⌝ }
+{
+    (numbers::to_u32(number) % 256) as u8
+}
+
+// The bytes of a payload of strings whose header passed.
+fn strings_in(payload: &[u8], n: usize, size: u32, kind: Kind, buffer: &mut [u8]) -> Decoded
+    requires { ⌜ (0 < size) × (size ≤ 255) × (n ≤ 16777216) ⌝ }
+    ensures answer { λ r. ⌜ r ≡ told (judgedPayload (Header.Good n size kind Form.Names false) (now (payload .entry))) (length (now (buffer .entry))) ⌝ }
+    ensures buffer { λ r. ⌜ now (buffer .exit) ≡ left asByte (judgedPayload (Header.Good n size kind Form.Names false) (now (payload .entry))) (now (buffer .entry)) ⌝ }
+{
+    let m = size as usize;
+    if !is_padded(payload, m) {
+        return Decoded::Refused(refusal::NUMBER_NOT_ALLOWED);
+    }
+    match payloads::scan(payload, Form::Names, false, n * m, 0) {
+        Outcome::Refused(r) => Decoded::Refused(r),
+        Outcome::Fine(_, _) => {
+            if buffer.len() < payload.len() {
+                return Decoded::Refused(refusal::BUFFER_TOO_SMALL);
+            }
+            copy(payload, buffer);
+            Decoded::Count(payload.len())
+        }
+    }
+}
+
+// Whether names of a size are padded: after a 0 byte a name has only 0 bytes.
+fn is_padded(payload: &[u8], size: usize) -> bool
+    requires { ⌜ 0 < size ⌝ }
+    ensures { λ r. ⌜ r ≡ paddedFrom size 0 (pos 0) (numbersIn Size.One (now (payload .entry))) ⌝ }
+{
+    let mut before: u8 = 0;
+    let mut place: usize = 0;
+    let mut i: usize = 0;
+    while i < payload.len() {
+        let byte = payload[i];
+        if !may_follow(place, before, byte) {
+            return false;
+        }
+        place = next_place(place, size);
+        before = byte;
+        i += 1;
+    }
+    true
+}
+
+// Whether a byte may stand at a place of a name after the byte before.
+fn may_follow(place: usize, before: u8, byte: u8) -> bool
+    ensures { λ r. ⌜ r ≡ mayFollow place before byte ⌝ }
+{
+    if place == 0 {
+        return true;
+    }
+    if before != 0 {
+        return true;
+    }
+    byte == 0
+}
+
+// The place after a place of names of a size.
+fn next_place(place: usize, size: usize) -> usize
+    requires { ⌜ place < size ⌝ }
+    ensures { λ r. ⌜ r ≡ (place + 1) % size ⌝ }
+{
+    if place + 1 == size { 0 } else { place + 1 }
+}
+
+// Copies bytes to the buffer's start.
+fn copy(bytes: &[u8], buffer: &mut [u8])
+    requires { ⌜ length (now bytes) ≤ length (now buffer) ⌝ }
+    ensures { λ r. ⌜ now (buffer .exit) ≡ now (bytes .entry) ++ drop (length (now (bytes .entry))) (now (buffer .entry)) ⌝ }
+{
+    let mut i: usize = 0;
+    while i < bytes.len() {
+        buffer[i] = bytes[i];
+        i += 1;
+    }
+}
