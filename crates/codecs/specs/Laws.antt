@@ -6,3 +6,4 @@ pub mod NumbersBack
 pub mod RunLength
 pub mod Delta
 pub mod PackingBack
+pub mod PayloadBack

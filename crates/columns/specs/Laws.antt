@@ -1,1 +1,5 @@
 pub mod Table
+pub mod Rows
+pub mod Header
+pub mod Encode
+pub mod Decode
