@@ -3,3 +3,4 @@ pub mod Rows
 pub mod Header
 pub mod Encode
 pub mod Decode
+pub mod RoundTrip

@@ -109,8 +109,15 @@ fit-between z (x ∷ xs) f = (fits-between z x (f .0), fit-between z xs (f .1))
 
 -- Values, then numbers
 
+-- runs count their cells in 32 bits
+abbrev pub Countable : Form → ℕ → Type 0
+Countable (Runs r) n = n < 2147483648
+Countable (Plain z) n = Unit
+Countable (Packed z) n = Unit
+Countable Names n = Unit
+
 -- the numbers for values fit the payload
-pub numbersFor-fit : (f : Form) (xs : List ℤ) → allIn (rangeOf f) xs ≡ true → length xs < 2147483648 → AllFit (widthOf (numberSize f)) (numbersFor f xs)
+pub numbersFor-fit : (f : Form) (xs : List ℤ) → allIn (rangeOf f) xs ≡ true → Countable f (length xs) → AllFit (widthOf (numberSize f)) (numbersFor f xs)
 unfolding numbersFor
 numbersFor-fit (Plain One) xs e h = allIn-fit Int8 xs e
 numbersFor-fit (Plain Two) xs e h = allIn-fit Int16 xs e
@@ -128,7 +135,7 @@ numbersFor-form (Runs r) xs = runsOf-Longest xs
 numbersFor-form Names xs = tt
 
 -- values written and read
-pub valuesIn-bytesFor : (f : Form) (xs : List ℤ) → allIn (rangeOf f) xs ≡ true → length xs < 2147483648 → valuesIn f (bytesFor (numberSize f) (numbersFor f xs)) ≡ some xs
+pub valuesIn-bytesFor : (f : Form) (xs : List ℤ) → allIn (rangeOf f) xs ≡ true → Countable f (length xs) → valuesIn f (bytesFor (numberSize f) (numbersFor f xs)) ≡ some xs
 unfolding valuesIn numbersFor
 valuesIn-bytesFor f xs e h = by-form f (numbersIn-bytesFor (numberSize f) (numbersFor f xs) (numbersFor-fit f xs e h)) e
   where
