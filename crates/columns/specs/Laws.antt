@@ -4,3 +4,4 @@ pub mod Header
 pub mod Encode
 pub mod Decode
 pub mod RoundTrip
+pub mod Worked
