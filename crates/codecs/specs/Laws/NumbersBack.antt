@@ -1,13 +1,13 @@
 -- Numbers into bytes and back, once over their size. Assumes nothing.
-use mathlib.Core.Path.{_≡_, refl, sym, ap, ap₂, _∙_}
-use mathlib.Core.List.{List, [], _∷_, _++_}
-use Prim.Native.Nat.{ℕ, zero, suc, _+_, _-_, _*_, _/_, _%_, _^_, _<_, _≤_}
+use mathlib.Core.Path.{_≡_, refl, _∙_}
+use mathlib.Core.List.{List, [], _∷_}
+use Prim.Native.Nat.{ℕ, zero, suc, _+_, _*_, _/_, _%_, _^_, _<_, _≤_}
 use native.Mathlib.Nat.{zero-mul, mul-div-cancel, div-add-mod', div-mul-le-self}
 use native.Mathlib.Omega.{arith}
 use lib.ListN.{length, take, drop, length-append, length-drop}
 use lib.Seq.{getD-drop, take-at, drop-at, take-add, take-all, length-take-le}
 use lib.IntN.{ℤ}
-use mir.Val.{bits, Fits, toZ, ofZ, SFits}
+use mir.Val.{bits, Fits, toZ, ofZ}
 use mir.Facts.{toZ-ofZ, ofZ-toZ, fits-ofZ, sfits-toZ}
 use Rattle.numbers.specs.BigEndian.{Bytes, numberOf, bytesOf}
 use Rattle.numbers.specs.Laws.BigEndian.{part-bytes, length-bytesOf, numberOf-bound, numberOf-bytesOf, bytesOf-numberOf}

@@ -4,16 +4,16 @@ use mathlib.Core.Path.{_≡_, refl, sym, ap, _∙_}
 use mathlib.Core.Bool.{Bool, true, false, cond}
 use mathlib.Core.Option.{Option, none, some, Option·map}
 use mathlib.Core.List.{List, [], _∷_, _++_, append-assoc}
-use Prim.Native.Nat.{ℕ, zero, suc, _+_, _-_, _*_, _/_, _%_, _<_, _≤_}
+use Prim.Native.Nat.{ℕ, zero, suc, _+_, _*_, _/_, _%_, _<_, _≤_}
 use native.Mathlib.Nat.{div-add-mod', mod-lt, mul-add-div-right, mul-add-mod-self-right, mod-eq-of-lt, div-eq-of-lt}
 use native.Mathlib.Omega.{arith}
 use lib.ListN.{replicate}
 use lib.IntN.{ℤ, pos, negsuc, negℤ, _+ℤ_, negℤ-+ℤ, pos-ne-negsuc}
-use lib.Signed.{mag, leZ, _≤ℤ_}
+use lib.Signed.{leZ}
 use lib.Dec.{T, eqb, leb·zero, leb→le}
 use mir.Syntax.{w32}
 use mir.Val.{SFits}
-use borrow.Author.Tests.{lt-ltb, ltb-true, le-leb, eq-eqb, ne-eqb, eqb-true, eqb-false}
+use borrow.Author.Tests.{lt-ltb, eq-eqb, ne-eqb, eqb-true, eqb-false}
 use Rattle.codecs.specs.Fits.{AllFit, Between, AllBetween}
 use Rattle.codecs.specs.Packing.{isLimit, in32, unpackFrom, packOne, packAll}
 use Rattle.codecs.specs.WriterForm.{OwnSign}

@@ -1,9 +1,9 @@
 -- Values into payloads and back, once over the form. Assumes nothing.
-use mathlib.Core.Path.{_≡_, refl, sym, ap, _∙_}
+use mathlib.Core.Path.{_≡_, refl, ap, _∙_}
 use mathlib.Core.Bool.{true, _&&_, and-eq-true-iff}
-use mathlib.Core.Option.{Option, some}
+use mathlib.Core.Option.{some}
 use mathlib.Core.List.{List, [], _∷_}
-use Prim.Native.Nat.{ℕ, zero, suc, _/_, _%_, _<_}
+use Prim.Native.Nat.{ℕ, suc, _%_, _<_}
 use native.Mathlib.Omega.{arith}
 use lib.ListN.{length}
 use lib.IntN.{ℤ, pos, negsuc}
@@ -21,7 +21,7 @@ use Rattle.codecs.specs.declared.Form.{Form}
 use Rattle.codecs.specs.declared.Form.the-variants.{Plain, Packed, Runs, Names}
 use Rattle.codecs.specs.Width.{widthOf, sizeOf, upper, lower}
 use Rattle.codecs.specs.Numbers.{numbersIn, bytesFor}
-use Rattle.codecs.specs.RunLength.{expand, runsOf}
+use Rattle.codecs.specs.RunLength.{expand}
 use Rattle.codecs.specs.Packing.{unpack, pack}
 use Rattle.codecs.specs.Payload.{valuesIn, numberSize, numbersFor, inRange, allIn, rangeOf}
 use Rattle.codecs.specs.Fits.{AllFit, Between, AllBetween}

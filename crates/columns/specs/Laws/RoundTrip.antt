@@ -1,30 +1,28 @@
 -- Columns encoded and decoded, and columns in the writer's form decoded and encoded, once over the table. Assumes nothing.
 use mathlib.Core.Logic.{_↔_}
 use mathlib.Core.Path.{_≡_, refl, sym, ap, _∙_}
-use mathlib.Core.Bool.{Bool, true, false, _&&_, and-eq-true-iff}
-use mathlib.Core.Option.{Option, some}
-use mathlib.Core.List.{List, _++_}
-use Prim.Native.Nat.{ℕ, _+_, _-_, _*_, _/_, _%_, _<_, _≤_}
+use mathlib.Core.Bool.{Bool, true, false, and-eq-true-iff}
+use mathlib.Core.List.{List}
+use Prim.Native.Nat.{ℕ, _+_, _-_, _*_, _%_, _<_, _≤_}
 use native.Mathlib.Nat.{div-add-mod', mul-div-cancel, mul-mod-left}
 use native.Mathlib.Omega.{arith}
 use lib.ListN.{length, drop, length-drop}
 use lib.IntN.{ℤ, pos}
-use lib.Dec.{eqb, leb}
+use lib.Dec.{leb}
 use mir.Syntax.{w32}
 use borrow.Author.Tests.{eqb-true, eq-eqb, leb-true}
 use Rattle.numbers.specs.BigEndian.{Bytes, unsignedAt}
-use Rattle.codecs.specs.declared.Size.{Size}
-use Rattle.codecs.specs.declared.Size.the-variants.{One, Two, Four}
+use Rattle.codecs.specs.declared.Size.the-variants.{One, Four}
 use Rattle.codecs.specs.declared.Range.{Range}
 use Rattle.codecs.specs.declared.Range.the-variants as range
 use Rattle.codecs.specs.declared.Form.{Form}
 use Rattle.codecs.specs.declared.Form.the-variants.{Plain, Packed, Runs, Names}
-use Rattle.codecs.specs.Width.{sizeOf, widthOf}
+use Rattle.codecs.specs.Width.{sizeOf}
 use Rattle.codecs.specs.Numbers.{numbersIn, bytesFor}
 use Rattle.codecs.specs.RunLength.{runsOf}
 use Rattle.codecs.specs.Packing.{pack}
 use Rattle.codecs.specs.Delta.{sumsIf, deltasIf}
-use Rattle.codecs.specs.Payload.{valuesIn, numberSize, numbersFor, allIn, rangeOf, padded, allowed}
+use Rattle.codecs.specs.Payload.{numberSize, numbersFor, allIn, rangeOf, padded, allowed}
 use Rattle.codecs.specs.Fits.{AllFit}
 use Rattle.codecs.specs.WriterForm.{NumbersForm}
 use Rattle.codecs.specs.Laws.NumbersBack.{length-bytesFor, numbersIn-bytesFor, drop-bytes}
@@ -35,10 +33,8 @@ use Rattle.columns.specs.declared.Kind.{Kind}
 use Rattle.columns.specs.declared.Wanted.{Wanted}
 use Rattle.columns.specs.declared.Parameter.{Parameter}
 use Rattle.columns.specs.declared.Parameter.the-variants.{Unused, Divisor, NameSize}
-use Rattle.columns.specs.declared.Codec.{Codec}
-use Rattle.columns.specs.declared.Codec.the-variants.{Known, Unknown}
+use Rattle.columns.specs.declared.Codec.the-variants.{Known}
 use Rattle.columns.specs.Table.{codecOf, lengthLimit, parameterOk, elements, sizeRight}
-use Rattle.columns.specs.Header.{headerBytes}
 use Rattle.columns.specs.Decode.{column, decode}
 use Rattle.columns.specs.Encode.{bytes, results, wholeResults, written, payloadOf, encode}
 use Rattle.columns.specs.WriterForm.{ParameterForm, CodecForm, WriterForm}
