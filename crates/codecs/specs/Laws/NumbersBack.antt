@@ -39,7 +39,9 @@ first-of-bytes z (x ∷ xs) f =
     let n = ofZ (widthOf z) x in
     let l = length-bytesOf (sizeOf z) n in
     let b : n < 256 ^ sizeOf z = rw (pow-size z) (fits-ofZ {w = widthOf z} (f .0) .fits) in
-    rw (take-at (bytesOf (sizeOf z) n) (bytesFor z xs) (sizeOf z) l, drop-at (bytesOf (sizeOf z) n) (bytesFor z xs) (sizeOf z) l, numberOf-bytesOf (sizeOf z) n b, toZ-ofZ {w = widthOf z} (f .0), first-of-bytes z xs (f .1))
+    let t = take-at (bytesOf (sizeOf z) n) (bytesFor z xs) (sizeOf z) l in
+    let d = drop-at (bytesOf (sizeOf z) n) (bytesFor z xs) (sizeOf z) l in
+    rw (t, d, numberOf-bytesOf (sizeOf z) n b, toZ-ofZ {w = widthOf z} (f .0), first-of-bytes z xs (f .1))
 
 -- numbers that fit, written and read
 pub numbersIn-bytesFor : (z : Size) (xs : List ℤ) → AllFit (widthOf z) xs → numbersIn z (bytesFor z xs) ≡ xs

@@ -224,8 +224,10 @@ module _ (p q : ℕ) (p-pos : 0 < p) (q-pos : 0 < q) where
 
   pack-from : (ns : List ℤ) → AllBetween p q ns → Fresh ns × After pos p above ns × After minus q below ns
   unfolding AllBetween OwnSign unpackFrom packAll
-  pack-from [] f =
-      (λ l o u. let z : [] ≡ l = cc in rw (← z), λ j a e l o u. let y : _≡_ {A = ℕ} 0 1 = cc in absurd (omega arith), λ j a e l o u. let y : _≡_ {A = ℕ} 0 1 = cc in absurd (omega arith))
+  pack-from [] f = (λ l o u. let z : [] ≡ l = cc in rw (← z), λ j a e l o u. unfinished u, λ j a e l o u. unfinished u)
+    where
+      unfinished : {A : Type 0} {l : List ℤ} → none ≡ some l → A
+      unfinished u = let y : _≡_ {A = ℕ} 0 1 = cc in absurd (omega arith)
   pack-from (pos n ∷ ns) f =
       let i = pack-from ns (f .1) in
       let e : 0 ≡ 0 * p = omega arith in

@@ -110,4 +110,7 @@ module _ (w : Wanted) (s : List ℕ) (k : Kind) (m : ℕ) (xs : List ℤ) where
   pub decode-kept : Decoded w s k m xs → decode w s ≡ column k m xs
   unfolding decode headerOf
   decode-kept r =
-      rw (le-ltb (length s) 12 (r .long), r .known, r .suited, le-leb (unsignedAt 4 s 4) lengthLimit (r .few), r .parameter-read, r .parameter-right, r .size-right, r .values-read, r .held, eq-eqb (length (r .values)) (elements (r .form) (unsignedAt 4 s 4) m) (r .counted), r .summed)
+      let long = le-ltb (length s) 12 (r .long) in
+      let few = le-leb (unsignedAt 4 s 4) lengthLimit (r .few) in
+      let counted = eq-eqb (length (r .values)) (elements (r .form) (unsignedAt 4 s 4) m) (r .counted) in
+      rw (long, r .known, r .suited, few, r .parameter-read, r .parameter-right, r .size-right, r .values-read, r .held, counted, r .summed)

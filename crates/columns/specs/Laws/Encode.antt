@@ -73,4 +73,5 @@ module _ (w : Wanted) (c m : ℕ) (xs : List ℤ) (b : List ℕ) where
   pub encode-kept : Encoded w c m xs b → encode w c m xs ≡ bytes b
   unfolding encode
   encode-kept r =
-      rw (r .known, r .suited, r .parameter-right, r .whole, le-leb (results (r .form) m (length xs)) lengthLimit (r .few), r .held) (ap bytes (r .built))
+      let few = le-leb (results (r .form) m (length xs)) lengthLimit (r .few) in
+      rw (r .known, r .suited, r .parameter-right, r .whole, few, r .held) (ap bytes (r .built))

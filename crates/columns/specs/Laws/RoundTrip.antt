@@ -1,7 +1,7 @@
 -- Columns encoded and decoded, and columns in the writer's form decoded and encoded, once over the table. Assumes nothing.
 use mathlib.Core.Logic.{_↔_}
 use mathlib.Core.Path.{_≡_, refl, sym, ap, _∙_}
-use mathlib.Core.Bool.{Bool, true, false, and-eq-true-iff}
+use mathlib.Core.Bool.{Bool, true, false, _&&_, and-eq-true-iff}
 use mathlib.Core.List.{List}
 use Prim.Native.Nat.{ℕ, _+_, _-_, _*_, _%_, _<_, _≤_}
 use native.Mathlib.Nat.{div-add-mod', mul-div-cancel, mul-mod-left}
@@ -38,7 +38,7 @@ use Rattle.columns.specs.Table.{codecOf, lengthLimit, parameterOk, eleme
 use Rattle.columns.specs.Decode.{column, decode}
 use Rattle.columns.specs.Encode.{bytes, results, wholeResults, written, payloadOf, encode}
 use Rattle.columns.specs.WriterForm.{ParameterForm, CodecForm, WriterForm}
-use Rattle.columns.specs.Laws.Rows.{isWide, deltaWide, namesSized, row-wide, row-sized, row-small}
+use Rattle.columns.specs.Laws.Rows.{isWide, deltaWide, namesSized, wide-Int32, sized-NameSize, row-wide, row-sized, row-small}
 use Rattle.columns.specs.Laws.Header.{header-codec, header-length, header-parameter, drop-header, length-column, header-read}
 use Rattle.columns.specs.Laws.Encode.{Encoded, encode-rules, encode-kept}
 use Rattle.columns.specs.Laws.Decode.{Decoded, decode-rules, decode-kept}
@@ -72,9 +72,7 @@ elements-results : (f : Form) (p : Parameter) (m e : ℕ) → namesSized f p ≡
 elements-results (Plain z) p m e s h = refl
 elements-results (Packed z) p m e s h = refl
 elements-results (Runs r) p m e s h = refl
-elements-results Names NameSize m e s h = omega (arith, div-add-mod' e m, eqb-true (e % m) 0 h)
-elements-results Names Unused m e s h = let y : _≡_ {A = ℕ} 0 1 = cc in absurd (omega arith)
-elements-results Names Divisor m e s h = let y : _≡_ {A = ℕ} 0 1 = cc in absurd (omega arith)
+elements-results Names p m e s h = rw (sized-NameSize p s) (omega (arith, div-add-mod' e m, eqb-true (e % m) 0 h))
 
 -- and elements are whole results
 whole-elements : (f : Form) (m n : ℕ) → wholeResults f m (elements f n m) ≡ true
@@ -87,9 +85,9 @@ results-elements : (f : Form) (p : Parameter) (m n : ℕ) → namesSized f p ≡
 results-elements (Plain z) p m n s h = refl
 results-elements (Packed z) p m n s h = refl
 results-elements (Runs r) p m n s h = refl
-results-elements Names NameSize m n s h = mul-div-cancel n (leb-true 1 m (and-eq-true-iff (leb 1 m) (leb m 255) .0 h .0))
-results-elements Names Unused m n s h = let y : _≡_ {A = ℕ} 0 1 = cc in absurd (omega arith)
-results-elements Names Divisor m n s h = let y : _≡_ {A = ℕ} 0 1 = cc in absurd (omega arith)
+results-elements Names p m n s h =
+    let k : leb 1 m && leb m 255 ≡ true = rw (sized-NameSize p s) at h in
+    mul-div-cancel n (leb-true 1 m (and-eq-true-iff (leb 1 m) (leb m 255) .0 k .0))
 
 countable : (f : Form) (m e : ℕ) → results f m e ≤ lengthLimit → Countable f e
 countable (Plain z) m e h = tt
@@ -127,20 +125,12 @@ held-written : (f : Form) (p : Parameter) (m : ℕ) (xs : List ℤ) → namesSiz
 held-written (Plain z) p m xs s h = h
 held-written (Packed z) p m xs s h = h
 held-written (Runs r) p m xs s h = h
-held-written Names NameSize m xs s h = h
-held-written Names Unused m xs s h = let y : _≡_ {A = ℕ} 0 1 = cc in absurd (omega arith)
-held-written Names Divisor m xs s h = let y : _≡_ {A = ℕ} 0 1 = cc in absurd (omega arith)
+held-written Names p m xs s h = rw (sized-NameSize p s) h
 
 -- a form of the widest range may hold all 32-bit numbers
 held-wide : (f : Form) (m : ℕ) (xs : List ℤ) → isWide (rangeOf f) ≡ true → AllFit w32 xs → allowed f m xs ≡ true
-held-wide f m xs e g = and-eq-true-iff (allIn (rangeOf f) xs) (padded f m xs) .1 (rw (widest (rangeOf f) e) (allIn-Int32 xs g), no-names f e)
+held-wide f m xs e g = and-eq-true-iff (allIn (rangeOf f) xs) (padded f m xs) .1 (rw (wide-Int32 (rangeOf f) e) (allIn-Int32 xs g), no-names f e)
   where
-    widest : (r : Range) → isWide r ≡ true → r ≡ range.Int32
-    widest range.Int8 e = let y : _≡_ {A = ℕ} 0 1 = cc in absurd (omega arith)
-    widest range.Int16 e = let y : _≡_ {A = ℕ} 0 1 = cc in absurd (omega arith)
-    widest range.Int32 e = refl
-    widest range.Ascii e = let y : _≡_ {A = ℕ} 0 1 = cc in absurd (omega arith)
-
     no-names : (f : Form) → isWide (rangeOf f) ≡ true → padded f m xs ≡ true
     no-names (Plain z) e = refl
     no-names (Packed z) e = refl

@@ -19,6 +19,8 @@ use Rattle.columns.specs.declared.Codec.{Codec}
 use Rattle.columns.specs.declared.Codec.the-variants.{Known, Unknown}
 use Rattle.columns.specs.Table.{table, codecOf}
 
+-- What a row keeps
+
 -- whether a range is that of all 32-bit numbers
 abbrev pub isWide : Range → Bool
 isWide range.Int8 = false
@@ -39,6 +41,19 @@ namesSized Names Divisor = false
 namesSized (Plain z) p = true
 namesSized (Packed z) p = true
 namesSized (Runs r) p = true
+
+pub wide-Int32 : (r : Range) → isWide r ≡ true → r ≡ range.Int32
+wide-Int32 range.Int8 e = let y : _≡_ {A = ℕ} 0 1 = cc in absurd (omega arith)
+wide-Int32 range.Int16 e = let y : _≡_ {A = ℕ} 0 1 = cc in absurd (omega arith)
+wide-Int32 range.Int32 e = refl
+wide-Int32 range.Ascii e = let y : _≡_ {A = ℕ} 0 1 = cc in absurd (omega arith)
+
+pub sized-NameSize : (p : Parameter) → namesSized Names p ≡ true → p ≡ NameSize
+sized-NameSize Unused e = let y : _≡_ {A = ℕ} 0 1 = cc in absurd (omega arith)
+sized-NameSize Divisor e = let y : _≡_ {A = ℕ} 0 1 = cc in absurd (omega arith)
+sized-NameSize NameSize e = refl
+
+-- The table
 
 rowOk : Codec → Bool
 rowOk Unknown = true
