@@ -3,5 +3,6 @@ pub mod Rows
 pub mod Header
 pub mod Encode
 pub mod Decode
+pub mod Form
 pub mod RoundTrip
 pub mod Worked
