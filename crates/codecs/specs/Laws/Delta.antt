@@ -10,7 +10,7 @@ use lib.IntN.{ℤ, pos}
 use mir.Syntax.{w32}
 use mir.Val.{toZ, ofZ, Fits, SFits}
 use mir.Facts.{toZ-ofZ, ofZ-toZ, fits-ofZ, sfits-toZ}
-use Rattle.codecs.specs.Fits.{AllFit}
+use Rattle.codecs.specs.Fits.{Every, AllFit}
 use Rattle.codecs.specs.Delta.{plusDelta, minusDelta, sumsFrom, deltasFrom, sumsIf, deltasIf}
 
 -- One result
@@ -47,7 +47,7 @@ length-deltasFrom a [] = refl
 length-deltasFrom a (x ∷ xs) = ap suc (length-deltasFrom x xs)
 
 pub deltasFrom-fit : (a : ℤ) (xs : List ℤ) → AllFit w32 (deltasFrom a xs)
-unfolding deltasFrom AllFit
+unfolding deltasFrom Every
 deltasFrom-fit a [] = tt
 deltasFrom-fit a (x ∷ xs) = (minus-fits x a, deltasFrom-fit x xs)
 
@@ -59,19 +59,19 @@ length-sumsFrom a [] = refl
 length-sumsFrom a (d ∷ ds) = ap suc (length-sumsFrom (plusDelta a d) ds)
 
 pub sumsFrom-fit : (a : ℤ) (ds : List ℤ) → AllFit w32 (sumsFrom a ds)
-unfolding sumsFrom AllFit
+unfolding sumsFrom Every
 sumsFrom-fit a [] = tt
 sumsFrom-fit a (d ∷ ds) = (plus-fits a d, sumsFrom-fit (plusDelta a d) ds)
 
 -- There and back
 
 pub sumsFrom-deltasFrom : (a : ℤ) (xs : List ℤ) → SFits w32 a → AllFit w32 xs → sumsFrom a (deltasFrom a xs) ≡ xs
-unfolding sumsFrom deltasFrom AllFit
+unfolding sumsFrom deltasFrom Every
 sumsFrom-deltasFrom a [] f g = refl
 sumsFrom-deltasFrom a (x ∷ xs) f g = rw (plus-minus a x f (g .0), sumsFrom-deltasFrom x xs (g .0) (g .1))
 
 pub deltasFrom-sumsFrom : (a : ℤ) (ds : List ℤ) → SFits w32 a → AllFit w32 ds → deltasFrom a (sumsFrom a ds) ≡ ds
-unfolding sumsFrom deltasFrom AllFit
+unfolding sumsFrom deltasFrom Every
 deltasFrom-sumsFrom a [] f g = refl
 deltasFrom-sumsFrom a (d ∷ ds) f g = rw (minus-plus a d f (g .0), deltasFrom-sumsFrom (plusDelta a d) ds (plus-fits a d) (g .1))
 

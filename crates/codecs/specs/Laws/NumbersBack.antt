@@ -15,7 +15,7 @@ use Rattle.codecs.specs.declared.Size.{Size}
 use Rattle.codecs.specs.declared.Size.the-variants.{One, Two, Four}
 use Rattle.codecs.specs.Width.{widthOf, sizeOf}
 use Rattle.codecs.specs.Numbers.{firstNumbers, numbersIn, bytesFor}
-use Rattle.codecs.specs.Fits.{AllFit}
+use Rattle.codecs.specs.Fits.{Every, AllFit}
 use Rattle.codecs.specs.Laws.Numbers.{size-pos}
 
 -- the numbers of a size are those of its bytes
@@ -33,7 +33,7 @@ length-bytesFor z (x ∷ xs) =
     length-append (bytesOf (sizeOf z) (ofZ (widthOf z) x)) (bytesFor z xs) ∙ rw (length-bytesOf (sizeOf z) (ofZ (widthOf z) x), length-bytesFor z xs) (omega arith)
 
 first-of-bytes : (z : Size) (xs : List ℤ) → AllFit (widthOf z) xs → firstNumbers z (length xs) (bytesFor z xs) ≡ xs
-unfolding firstNumbers bytesFor AllFit
+unfolding firstNumbers bytesFor Every
 first-of-bytes z [] f = refl
 first-of-bytes z (x ∷ xs) f =
     let n = ofZ (widthOf z) x in
@@ -73,7 +73,7 @@ module _ (z : Size) where
   after n s k = (omega arith, rw length-drop (omega arith))
 
   first-fit : (n : ℕ) (s : List ℕ) → Bytes s → n * sizeOf z ≤ length s → AllFit (widthOf z) (firstNumbers z n s)
-  unfolding firstNumbers AllFit
+  unfolding firstNumbers Every
   first-fit zero s h k = tt
   first-fit (suc n) s h k =
       let a = after n s k in

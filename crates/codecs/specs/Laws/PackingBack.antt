@@ -14,7 +14,7 @@ use lib.Dec.{T, eqb, leb·zero, leb→le}
 use mir.Syntax.{w32}
 use mir.Val.{SFits}
 use borrow.Author.Tests.{lt-ltb, eq-eqb, ne-eqb, eqb-true, eqb-false}
-use Rattle.codecs.specs.Fits.{AllFit, Between, AllBetween}
+use Rattle.codecs.specs.Fits.{Every, AllFit, Between}
 use Rattle.codecs.specs.Packing.{isLimit, in32, unpackFrom, packOne, packAll}
 use Rattle.codecs.specs.WriterForm.{OwnSign}
 use Rattle.codecs.specs.Laws.RunLength.{replicate-one-more}
@@ -146,13 +146,13 @@ module _ (p q : ℕ) (p-pos : 0 < p) (q-pos : 0 < q) where
         let g = unpack-group 0 (n / b) (n % b) false ns (mod-lt n (side .limit-pos)) (λ c l. k c (omega arith)) in
         rw (side .packed n, append-assoc) (rw (side .origin, e) at g)
 
-    between-one : (n : ℕ) (ns : List ℤ) → AllBetween p q ns → AllBetween p q (packOne p q (sign n) ++ ns)
-    unfolding AllBetween
+    between-one : (n : ℕ) (ns : List ℤ) → Every (Between p q) ns → Every (Between p q) (packOne p q (sign n) ++ ns)
+    unfolding Every
     between-one n ns g =
         let h : n % b < b = mod-lt n (side .limit-pos) in
         rw (side .packed n, append-assoc) (group (n / b) (n % b) (omega arith))
       where
-        group : (j r : ℕ) → r ≤ b → AllBetween p q (replicate j (sign b) ++ sign r ∷ ns)
+        group : (j r : ℕ) → r ≤ b → Every (Between p q) (replicate j (sign b) ++ sign r ∷ ns)
         group zero r h = (side .between r h, g)
         group (suc j) r h = (side .between b (omega arith), group j r h)
 
@@ -194,7 +194,7 @@ module _ (p q : ℕ) (p-pos : 0 < p) (q-pos : 0 < q) where
   -- Numbers packed and unpacked
 
   pub unpack-packAll : (xs : List ℤ) → AllFit w32 xs → unpackFrom p q (pos 0) false (packAll p q xs) ≡ some xs
-  unfolding packAll AllFit unpackFrom
+  unfolding packAll Every unpackFrom
   unpack-packAll [] f = refl
   unpack-packAll (x ∷ xs) f = one x (f .0) ∙ ap (Option·map (λ (l : List ℤ). x ∷ l)) (unpack-packAll xs (f .1))
     where
@@ -207,8 +207,8 @@ module _ (p q : ℕ) (p-pos : 0 < p) (q-pos : 0 < q) where
           inside (suc c) h = lt-ltb c 2147483648 (omega (arith, f .sfits))
 
   -- what is packed stands between the limits
-  pub packAll-between : (xs : List ℤ) → AllBetween p q (packAll p q xs)
-  unfolding packAll AllBetween
+  pub packAll-between : (xs : List ℤ) → Every (Between p q) (packAll p q xs)
+  unfolding packAll Every
   packAll-between [] = tt
   packAll-between (pos n ∷ xs) = between-one pos p above n (packAll p q xs) (packAll-between xs)
   packAll-between (negsuc n ∷ xs) = between-one minus q below (suc n) (packAll p q xs) (packAll-between xs)
@@ -222,8 +222,8 @@ module _ (p q : ℕ) (p-pos : 0 < p) (q-pos : 0 < q) where
 
   -- Packed numbers unpacked and packed
 
-  pack-from : (ns : List ℤ) → AllBetween p q ns → Fresh ns × After pos p above ns × After minus q below ns
-  unfolding AllBetween OwnSign unpackFrom packAll
+  pack-from : (ns : List ℤ) → Every (Between p q) ns → Fresh ns × After pos p above ns × After minus q below ns
+  unfolding Every OwnSign unpackFrom packAll
   pack-from [] f = (λ l o u. let z : [] ≡ l = cc in rw (← z), λ j a e l o u. unfinished u, λ j a e l o u. unfinished u)
     where
       unfinished : {A : Type 0} {l : List ℤ} → none ≡ some l → A
@@ -244,5 +244,5 @@ module _ (p q : ℕ) (p-pos : 0 < p) (q-pos : 0 < q) where
       let turn = pack-turn minus q below (suc n) ns (f .0) (i .0) (i .2) in
       (λ l o u. turn 0 0 e false l o u, λ j a e l o u. absurd (o .0 refl .le), λ j a e l o u. turn j a e true l (o .2) u)
 
-  pub packAll-unpack : (ns l : List ℤ) → AllBetween p q ns → OwnSign p q ns → unpackFrom p q (pos 0) false ns ≡ some l → packAll p q l ≡ ns
+  pub packAll-unpack : (ns l : List ℤ) → Every (Between p q) ns → OwnSign p q ns → unpackFrom p q (pos 0) false ns ≡ some l → packAll p q l ≡ ns
   packAll-unpack ns l f = pack-from ns f .0 l

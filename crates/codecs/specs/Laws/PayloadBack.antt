@@ -3,7 +3,7 @@ use mathlib.Core.Path.{_≡_, refl, ap, _∙_}
 use mathlib.Core.Bool.{true, _&&_, and-eq-true-iff}
 use mathlib.Core.Option.{some}
 use mathlib.Core.List.{List, [], _∷_}
-use Prim.Native.Nat.{ℕ, suc, _%_, _<_}
+use Prim.Native.Nat.{ℕ, suc, _%_, _^_, _<_}
 use native.Mathlib.Omega.{arith}
 use lib.ListN.{length}
 use lib.IntN.{ℤ, pos, negsuc}
@@ -11,6 +11,7 @@ use lib.Signed.{mag, leZ}
 use lib.Dec.{T, leb}
 use mir.Syntax.{Width, w8, w16, w32}
 use mir.Val.{SFits, hbits}
+use mir.Facts.{sfits-widen}
 use borrow.Author.Tests.{leb-true, le-leb}
 use Rattle.numbers.specs.BigEndian.{Bytes}
 use Rattle.codecs.specs.declared.Size.{Size}
@@ -24,11 +25,11 @@ use Rattle.codecs.specs.Numbers.{numbersIn, bytesFor}
 use Rattle.codecs.specs.RunLength.{expand}
 use Rattle.codecs.specs.Packing.{unpack, pack}
 use Rattle.codecs.specs.Payload.{valuesIn, numberSize, numbersFor, inRange, allIn, rangeOf}
-use Rattle.codecs.specs.Fits.{AllFit, Between, AllBetween}
+use Rattle.codecs.specs.Fits.{Every, AllFit, Between}
 use Rattle.codecs.specs.WriterForm.{NumbersForm}
 use Rattle.codecs.specs.Laws.Numbers.{length-numbers}
 use Rattle.codecs.specs.Laws.Packing.{limits}
-use Rattle.codecs.specs.Laws.Fits.{fit-widen}
+use Rattle.codecs.specs.Laws.Fits.{every-map}
 use Rattle.codecs.specs.Laws.NumbersBack.{numbersIn-bytesFor, numbersIn-fit, bytesFor-numbersIn}
 use Rattle.codecs.specs.Laws.RunLength.{expand-runsOf, runsOf-fit, runsOf-Longest, runsOf-expand}
 use Rattle.codecs.specs.Laws.PackingBack.{unpack-packAll, packAll-between, packAll-OwnSign, packAll-unpack}
@@ -53,7 +54,7 @@ range-fits Ascii (pos n) e = record { sfits = omega (arith, leb-true n 127 (and-
 range-fits Ascii (negsuc n) e = let y : _≡_ {A = ℕ} 0 1 = cc in absurd (omega arith)
 
 allIn-fit : (r : Range) (xs : List ℤ) → allIn r xs ≡ true → AllFit (rangeWidth r) xs
-unfolding allIn AllFit
+unfolding allIn Every
 allIn-fit r [] e = tt
 allIn-fit r (x ∷ xs) e =
     let h = and-eq-true-iff (inRange r x) (allIn r xs) .0 e in
@@ -61,7 +62,7 @@ allIn-fit r (x ∷ xs) e =
 
 -- every range is one of 32-bit numbers
 pub allIn-32 : (r : Range) (xs : List ℤ) → allIn r xs ≡ true → AllFit w32 xs
-allIn-32 r xs e = fit-widen (rangeWidth r) w32 xs (narrow r) (allIn-fit r xs e)
+allIn-32 r xs e = every-map (SFits (rangeWidth r)) (SFits w32) (λ x f. sfits-widen {w = rangeWidth r} {w′ = w32} (narrow r) f) xs (allIn-fit r xs e)
   where
     narrow : (r : Range) → T (leb (hbits (rangeWidth r)) 31)
     narrow Int8 = tt
@@ -71,7 +72,7 @@ allIn-32 r xs e = fit-widen (rangeWidth r) w32 xs (narrow r) (allIn-fit r xs e)
 
 -- and every 32-bit number is in the widest
 pub allIn-Int32 : (xs : List ℤ) → AllFit w32 xs → allIn Int32 xs ≡ true
-unfolding allIn AllFit
+unfolding allIn Every
 allIn-Int32 [] f = refl
 allIn-Int32 (x ∷ xs) f = rw (one x (f .0), allIn-Int32 xs (f .1))
   where
@@ -81,31 +82,18 @@ allIn-Int32 (x ∷ xs) f = rw (one x (f .0), allIn-Int32 xs (f .1))
 
 -- Numbers between the limits of a size are those of its width
 
+half : (z : Size) → (suc (upper z) ≡ 2 ^ hbits (widthOf z)) × (lower z ≡ 2 ^ hbits (widthOf z))
+half One = (refl, refl)
+half Two = (refl, refl)
+half Four = (refl, refl)
+
 between-fits : (z : Size) (x : ℤ) → Between (upper z) (lower z) x → SFits (widthOf z) x
-between-fits One (pos n) h = record { sfits = omega arith }
-between-fits One (negsuc n) h = record { sfits = omega arith }
-between-fits Two (pos n) h = record { sfits = omega arith }
-between-fits Two (negsuc n) h = record { sfits = omega arith }
-between-fits Four (pos n) h = record { sfits = omega arith }
-between-fits Four (negsuc n) h = record { sfits = omega arith }
+between-fits z (pos n) h = let e = half z in record { sfits = omega arith }
+between-fits z (negsuc n) h = let e = half z in record { sfits = omega arith }
 
 fits-between : (z : Size) (x : ℤ) → SFits (widthOf z) x → Between (upper z) (lower z) x
-fits-between One (pos n) h = omega (arith, h .sfits)
-fits-between One (negsuc n) h = omega (arith, h .sfits)
-fits-between Two (pos n) h = omega (arith, h .sfits)
-fits-between Two (negsuc n) h = omega (arith, h .sfits)
-fits-between Four (pos n) h = omega (arith, h .sfits)
-fits-between Four (negsuc n) h = omega (arith, h .sfits)
-
-between-fit : (z : Size) (xs : List ℤ) → AllBetween (upper z) (lower z) xs → AllFit (widthOf z) xs
-unfolding AllBetween AllFit
-between-fit z [] f = tt
-between-fit z (x ∷ xs) f = (between-fits z x (f .0), between-fit z xs (f .1))
-
-fit-between : (z : Size) (xs : List ℤ) → AllFit (widthOf z) xs → AllBetween (upper z) (lower z) xs
-unfolding AllBetween AllFit
-fit-between z [] f = tt
-fit-between z (x ∷ xs) f = (fits-between z x (f .0), fit-between z xs (f .1))
+fits-between z (pos n) h = let e = half z in omega (arith, h .sfits)
+fits-between z (negsuc n) h = let e = half z in omega (arith, h .sfits)
 
 -- Values, then numbers
 
@@ -122,7 +110,7 @@ unfolding numbersFor
 numbersFor-fit (Plain One) xs e h = allIn-fit Int8 xs e
 numbersFor-fit (Plain Two) xs e h = allIn-fit Int16 xs e
 numbersFor-fit (Plain Four) xs e h = allIn-fit Int32 xs e
-numbersFor-fit (Packed z) xs e h = let l = limits z in between-fit z (pack z xs) (packAll-between (upper z) (lower z) (l .0) (l .2) xs)
+numbersFor-fit (Packed z) xs e h = let l = limits z in every-map (Between (upper z) (lower z)) (SFits (widthOf z)) (between-fits z) (pack z xs) (packAll-between (upper z) (lower z) (l .0) (l .2) xs)
 numbersFor-fit (Runs r) xs e h = runsOf-fit xs (allIn-32 r xs e) h
 numbersFor-fit Names xs e h = allIn-fit Ascii xs e
 
@@ -166,7 +154,8 @@ unfolding valuesIn numbersFor
 numbersFor-valuesIn (Plain z) s l b u g e = cc
 numbersFor-valuesIn (Packed z) s l b u g e =
     let h = limits z in
-    packAll-unpack (upper z) (lower z) (h .0) (h .2) (numbersIn z s) l (fit-between z (numbersIn z s) (numbersIn-fit z s b)) g e
+    let i = every-map (SFits (widthOf z)) (Between (upper z) (lower z)) (fits-between z) (numbersIn z s) (numbersIn-fit z s b) in
+    packAll-unpack (upper z) (lower z) (h .0) (h .2) (numbersIn z s) l i g e
 numbersFor-valuesIn (Runs r) s l b u g e =
     let h : length (numbersIn Four s) % 2 ≡ 0 = rw (length-numbers Four s) (omega arith) in
     runsOf-expand (numbersIn Four s) l (numbersIn-fit Four s b) h g e

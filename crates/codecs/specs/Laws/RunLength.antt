@@ -12,7 +12,7 @@ use mir.Syntax.{w32}
 use mir.Val.{toZ, ofZ, SFits}
 use mir.Facts.{toZ-ofZ}
 use borrow.Author.Tests.{eq-eqb, ne-eqb, eqb-true, eqb-false, le-ltb}
-use Rattle.codecs.specs.Fits.{AllFit}
+use Rattle.codecs.specs.Fits.{Every, AllFit}
 use Rattle.codecs.specs.RunLength.{expand, same, runsFrom, runsOf}
 use Rattle.codecs.specs.WriterForm.{Longest}
 
@@ -34,7 +34,7 @@ replicate-one-more zero v xs = refl
 replicate-one-more (suc n) v xs = ap (λ (l : List ℤ). v ∷ l) (replicate-one-more n v xs)
 
 expand-runsFrom : (v : ℤ) (n : ℕ) (xs : List ℤ) → SFits w32 v → AllFit w32 xs → expand (runsFrom v (suc n) xs) ≡ some (v ∷ (replicate n v ++ xs))
-unfolding expand runsFrom AllFit
+unfolding expand runsFrom Every
 expand-runsFrom v n [] f g = rw (count-ok n)
 expand-runsFrom v n (x ∷ xs) f g = by-value (expand-runsFrom v (suc n) xs f (g .1)) (expand-runsFrom x 0 xs (g .0) (g .1)) (same x v) refl
   where
@@ -45,7 +45,7 @@ expand-runsFrom v n (x ∷ xs) f g = by-value (expand-runsFrom v (suc n) xs f (g
 
 -- cells written as runs and expanded
 pub expand-runsOf : (xs : List ℤ) → AllFit w32 xs → expand (runsOf xs) ≡ some xs
-unfolding expand runsOf AllFit
+unfolding expand runsOf Every
 expand-runsOf [] f = refl
 expand-runsOf (x ∷ xs) f = expand-runsFrom x 0 xs (f .0) (f .1)
 
@@ -67,7 +67,7 @@ runsOf-even [] = refl
 runsOf-even (x ∷ xs) = runs-even x 1 xs
 
 runs-fit : (v : ℤ) (n : ℕ) (xs : List ℤ) → SFits w32 v → AllFit w32 xs → n + length xs < 2147483648 → AllFit w32 (runsFrom v n xs)
-unfolding runsFrom AllFit
+unfolding runsFrom Every
 runs-fit v n [] f g h = (f, (record { sfits = omega arith }, tt))
 runs-fit v n (x ∷ xs) f g h = by-value (runs-fit v (suc n) xs f (g .1) (omega arith)) (runs-fit x 1 xs (g .0) (g .1) (omega arith)) (same x v)
   where
@@ -77,7 +77,7 @@ runs-fit v n (x ∷ xs) f g h = by-value (runs-fit v (suc n) xs f (g .1) (omega 
 
 -- 32-bit numbers, where the cells are not too many to count
 pub runsOf-fit : (xs : List ℤ) → AllFit w32 xs → length xs < 2147483648 → AllFit w32 (runsOf xs)
-unfolding runsOf AllFit
+unfolding runsOf Every
 runsOf-fit [] f h = tt
 runsOf-fit (x ∷ xs) f h = runs-fit x 1 xs (f .0) (f .1) (omega arith)
 
@@ -134,7 +134,7 @@ first-run v (pos (suc k)) ns l e = by-rest (expand ns) refl (rw (count-ok k) at 
 
 -- a run ends where another value follows
 run-ends : (v n : ℤ) (k : ℕ) (ns t : List ℤ) → SFits w32 v → AllFit w32 ns → Longest (v ∷ (n ∷ ns)) → runsOf t ≡ ns → runsFrom v k t ≡ v ∷ (pos k ∷ ns)
-unfolding runsFrom runsOf Longest AllFit
+unfolding runsFrom runsOf Longest Every
 run-ends v n k ns [] f g h e = ap (λ (l : List ℤ). v ∷ (pos k ∷ l)) e
 run-ends v n k ns (w ∷ t) f g h e =
     let i = runs-head w 1 t in
@@ -145,7 +145,7 @@ run-ends v n k ns (w ∷ t) f g h e =
 
 -- longest runs expanded and written as runs
 pub runsOf-expand : (ns l : List ℤ) → AllFit w32 ns → length ns % 2 ≡ 0 → Longest ns → expand ns ≡ some l → runsOf l ≡ ns
-unfolding expand runsOf AllFit
+unfolding expand runsOf Every
 runsOf-expand [] l f h g e = let z : [] ≡ l = cc in ap runsOf (sym z)
 runsOf-expand (v ∷ []) l f h g e = absurd (omega arith)
 runsOf-expand (v ∷ (n ∷ ns)) l f h g e =
