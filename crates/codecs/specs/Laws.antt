@@ -1,3 +1,9 @@
 pub mod Numbers
 pub mod Packing
 pub mod Payload
+pub mod Fits
+pub mod NumbersBack
+pub mod RunLength
+pub mod Delta
+pub mod PackingBack
+pub mod PayloadBack

@@ -5,4 +5,6 @@ pub mod Delta
 pub mod Packing
 pub mod Payload
 pub mod Steps
+pub mod Fits
+pub mod WriterForm
 pub mod Laws

@@ -1,1 +1,8 @@
 pub mod Table
+pub mod Rows
+pub mod Header
+pub mod Encode
+pub mod Decode
+pub mod Form
+pub mod RoundTrip
+pub mod Worked

@@ -2,4 +2,5 @@ pub mod Table
 pub mod Header
 pub mod Decode
 pub mod Encode
+pub mod WriterForm
 pub mod Laws
