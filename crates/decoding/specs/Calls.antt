@@ -48,13 +48,6 @@ abbrev pub countOf : Fixed → Decoded
 countOf (fixed.Column n d) = decoded.Count n
 countOf (fixed.Refused r) = decoded.Refused r
 
--- whether a form is that of names
-abbrev pub isNames : Form → Bool
-isNames (Plain z) = false
-isNames (Packed z) = false
-isNames (Runs r) = false
-isNames Names = true
-
 -- what a writer leaves: the results of a payload at the buffer's start
 abbrev pub Wrote : {B : Type 0} → (ℤ → B) → Form → Bool → List ℕ → List B → List B → Type 0
 Wrote element f d s old new = (l : List ℤ) → readIn f s ≡ some l → new ≡ map element (sumsIf d l) ++ drop (length l) old

@@ -10,9 +10,10 @@ ghost use Rattle.codecs.specs.Numbers.{numbersIn};
 ghost use Rattle.codecs.specs.Payload.{paddedFrom};
 ghost use Rattle.columns.specs.Table.{suits};
 ghost use Rattle.columns.specs.Decode.{decode, judgedPayload};
+ghost use Rattle.payloads.specs.Items.{isNames};
 ghost use Rattle.payloads.specs.Laws.Scan.{advance};
 ghost use Rattle.payloads.specs.Laws.Writing.{Filled, HasRoom};
-ghost use Rattle.decoding.specs.Calls.{told, toldFixed, left, asNumber, asByte, countOf, isNames, Wrote, mayFollow};
+ghost use Rattle.decoding.specs.Calls.{told, toldFixed, left, asNumber, asByte, countOf, Wrote, mayFollow};
 use codecs::Form;
 use codecs::Size;
 use columns::Header;
@@ -72,7 +73,15 @@ pub fn decode_chars(column: &[u8], buffer: &mut [u8]) -> Decoded
 {
     match columns::read_header(column, Wanted::Only(Kind::Chars)) {
         Header::Refused(r) => Decoded::Refused(r),
-        Header::Good(n, m, kind, form, delta) => chars_in(&column[12..], n, m, kind, form, delta, buffer),
+        Header::Good(n, m, kind, form, delta) => chars_in(
+            &column[12..],
+            n,
+            m,
+            kind,
+            form,
+            delta,
+            buffer,
+        ),
     }
 }
 
@@ -105,12 +114,28 @@ fn decode_integers(column: &[u8], wanted: Wanted, buffer: &mut [i32]) -> Fixed
 {
     match columns::read_header(column, wanted) {
         Header::Refused(r) => Fixed::Refused(r),
-        Header::Good(n, m, kind, form, delta) => integers_in(&column[12..], n, m, kind, form, delta, buffer),
+        Header::Good(n, m, kind, form, delta) => integers_in(
+            &column[12..],
+            n,
+            m,
+            kind,
+            form,
+            delta,
+            buffer,
+        ),
     }
 }
 
 // The integers of a payload whose header passed.
-fn integers_in(payload: &[u8], n: usize, m: u32, kind: Kind, form: Form, delta: bool, buffer: &mut [i32]) -> Fixed
+fn integers_in(
+    payload: &[u8],
+    n: usize,
+    m: u32,
+    kind: Kind,
+    form: Form,
+    delta: bool,
+    buffer: &mut [i32],
+) -> Fixed
     requires { ⌜ isNames form ≡ false ⌝ }
     ensures answer { λ r. ⌜ r ≡ toldFixed (judgedPayload (Header.Good n m kind form delta) (now (payload .entry))) (length (now (buffer .entry))) ⌝ }
     ensures buffer { λ r. ⌜ now (buffer .exit) ≡ left asNumber (judgedPayload (Header.Good n m kind form delta) (now (payload .entry))) (now (buffer .entry)) ⌝ }
@@ -174,7 +199,14 @@ fn write_integers(payload: &[u8], form: Form, delta: bool, buffer: &mut [i32])
 }
 
 // Writes the results of a run from a place on, and gives the last.
-fn fill_integers(buffer: &mut [i32], from: usize, count: usize, sum: i32, value: i32, delta: bool) -> i32
+fn fill_integers(
+    buffer: &mut [i32],
+    from: usize,
+    count: usize,
+    sum: i32,
+    value: i32,
+    delta: bool,
+) -> i32
     requires { ⌜ from + count ≤ length (now buffer) ⌝ }
     ensures { λ r. ⌜ Filled asNumber delta sum value (now (buffer .entry)) from count (now (buffer .exit)) r ⌝ }
 {
@@ -199,7 +231,15 @@ fn next_result(sum: i32, value: i32, delta: bool) -> i32
 }
 
 // The characters of a payload whose header passed.
-fn chars_in(payload: &[u8], n: usize, m: u32, kind: Kind, form: Form, delta: bool, buffer: &mut [u8]) -> Decoded
+fn chars_in(
+    payload: &[u8],
+    n: usize,
+    m: u32,
+    kind: Kind,
+    form: Form,
+    delta: bool,
+    buffer: &mut [u8],
+) -> Decoded
     requires { ⌜ isNames form ≡ false ⌝ }
     ensures answer { λ r. ⌜ r ≡ told (judgedPayload (Header.Good n m kind form delta) (now (payload .entry))) (length (now (buffer .entry))) ⌝ }
     ensures buffer { λ r. ⌜ now (buffer .exit) ≡ left asByte (judgedPayload (Header.Good n m kind form delta) (now (payload .entry))) (now (buffer .entry)) ⌝ }
@@ -242,7 +282,14 @@ fn write_bytes(payload: &[u8], form: Form, delta: bool, buffer: &mut [u8])
 }
 
 // Writes the results of a run as bytes from a place on, and gives the last.
-fn fill_bytes(buffer: &mut [u8], from: usize, count: usize, sum: i32, value: i32, delta: bool) -> i32
+fn fill_bytes(
+    buffer: &mut [u8],
+    from: usize,
+    count: usize,
+    sum: i32,
+    value: i32,
+    delta: bool,
+) -> i32
     requires { ⌜ from + count ≤ length (now buffer) ⌝ }
     ensures { λ r. ⌜ Filled asByte delta sum value (now (buffer .entry)) from count (now (buffer .exit)) r ⌝ }
 {

@@ -39,6 +39,13 @@ single (Packed z) = true
 single (Runs r) = false
 single Names = true
 
+-- whether a form is that of names
+abbrev pub isNames : Form → Bool
+isNames (Plain z) = false
+isNames (Packed z) = false
+isNames (Runs r) = false
+isNames Names = true
+
 -- what is read at a place: n values v before those of the place e, a number that is not allowed, or the end
 abbrev pub Gives : Form → List ℕ → ℕ → Item → Type 0
 Gives f s at (Run v n e) =

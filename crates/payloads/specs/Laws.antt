@@ -3,3 +3,4 @@ pub mod Items
 pub mod Scan
 pub mod Plain
 pub mod Writing
+pub mod Judged
