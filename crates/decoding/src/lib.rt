@@ -333,8 +333,7 @@ fn strings_in(payload: &[u8], n: usize, size: u32, kind: Kind, buffer: &mut [u8]
 }
 
 // Whether names of a size are padded: after a 0 byte a name has only 0 bytes.
-fn is_padded(payload: &[u8], size: usize) -> bool
-    requires { ⌜ 0 < size ⌝ }
+pub fn is_padded(payload: &[u8], size: usize) -> bool
     ensures { λ r. ⌜ r ≡ paddedFrom size 0 (pos 0) (numbersIn Size.One (now (payload .entry))) ⌝ }
 {
     let mut before: u8 = 0;
@@ -367,7 +366,7 @@ fn may_follow(place: usize, before: u8, byte: u8) -> bool
 
 // The place after a place of names of a size.
 fn next_place(place: usize, size: usize) -> usize
-    requires { ⌜ place < size ⌝ }
+    requires { ⌜ (place % size ≡ place) × (place < 18446744073709551615) ⌝ }
     ensures { λ r. ⌜ r ≡ (place + 1) % size ⌝ }
 {
     if place + 1 == size { 0 } else { place + 1 }

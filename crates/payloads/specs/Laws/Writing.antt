@@ -91,7 +91,7 @@ module _ {B : Type 0} (g : ℤ → B) (d : Bool) (a v : ℤ) (old : List B) (fro
   pub filled-length : (n : ℕ) (new : List B) (x : ℤ) → from + n ≤ length old → Filled n new x → length new ≡ length old
   filled-length n new x h w = let s = filled-size n in ap length (w .0) ∙ paste-length old from (map g (resultsFrom d a (replicate n v))) (omega arith)
 
-  pub filled-more : (n : ℕ) (new : List B) (x y : ℤ) (e : B) → from + n < length old → Filled n new x → y ≡ advance d x v → Filled (suc n) (set new (from + n) (g y)) y
+  filled-more : (n : ℕ) (new : List B) (x y : ℤ) (e : B) → from + n < length old → Filled n new x → y ≡ advance d x v → Filled (suc n) (set new (from + n) (g y)) y
   filled-more n new x y e h w q =
       let r = resultsFrom d a (replicate n v) in
       let s = filled-size n in
@@ -101,6 +101,9 @@ module _ {B : Type 0} (g : ℤ → B) (d : Bool) (a v : ℤ) (old : List B) (fro
       let p : set new (from + n) (g y) ≡ set (paste old from (map g (resultsFrom d a (replicate n v)))) (from + length (map g (resultsFrom d a (replicate n v)))) (g y) =
       ap₂ (λ (l : List B) (k : ℕ). set l (from + k) (g y)) (w .0) (sym s) in
       (p ∙ paste-set old from (map g (resultsFrom d a (replicate n v))) (g y) e (omega arith) ∙ ap (paste old from) (sym m), z ∙ sym (last-more d a v n))
+
+  pub filled-next : (n : ℕ) (new : List B) (x y : ℤ) (b e : B) → from + n < length old → Filled n new x → y ≡ advance d x v → b ≡ g y → Filled (n + 1) (set new (from + n) b) y
+  filled-next n new x y b e h w q z = rw (add-one n, z) (filled-more n new x y e h w q)
 
 -- Run after run
 
