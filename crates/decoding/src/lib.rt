@@ -73,15 +73,9 @@ pub fn decode_chars(column: &[u8], buffer: &mut [u8]) -> Decoded
 {
     match columns::read_header(column, Wanted::Only(Kind::Chars)) {
         Header::Refused(r) => Decoded::Refused(r),
-        Header::Good(n, m, kind, form, delta) => chars_in(
-            &column[12..],
-            n,
-            m,
-            kind,
-            form,
-            delta,
-            buffer,
-        ),
+        Header::Good(n, m, kind, form, delta) => {
+            count_of(chars_in(&column[12..], n, m, kind, form, delta, buffer))
+        }
     }
 }
 
@@ -92,7 +86,13 @@ pub fn decode_strings(column: &[u8], buffer: &mut [u8]) -> Decoded
 {
     match columns::read_header(column, Wanted::Only(Kind::Strings)) {
         Header::Refused(r) => Decoded::Refused(r),
-        Header::Good(n, size, kind, _, _) => strings_in(&column[12..], n, size, kind, buffer),
+        Header::Good(n, size, kind, _, _) => count_of(strings_in(
+            &column[12..],
+            n,
+            size,
+            kind,
+            buffer,
+        )),
     }
 }
 
@@ -239,19 +239,19 @@ fn chars_in(
     form: Form,
     delta: bool,
     buffer: &mut [u8],
-) -> Decoded
+) -> Fixed
     requires { ⌜ isNames form ≡ false ⌝ }
-    ensures answer { λ r. ⌜ r ≡ told (judgedPayload (Header.Good n m kind form delta) (now (payload .entry))) (length (now (buffer .entry))) ⌝ }
+    ensures answer { λ r. ⌜ r ≡ toldFixed (judgedPayload (Header.Good n m kind form delta) (now (payload .entry))) (length (now (buffer .entry))) ⌝ }
     ensures buffer { λ r. ⌜ now (buffer .exit) ≡ left asByte (judgedPayload (Header.Good n m kind form delta) (now (payload .entry))) (now (buffer .entry)) ⌝ }
 {
     match payloads::scan(payload, form, delta, n, 0) {
-        Outcome::Refused(r) => Decoded::Refused(r),
+        Outcome::Refused(r) => Fixed::Refused(r),
         Outcome::Fine(_, _) => {
             if buffer.len() < n {
-                return Decoded::Refused(refusal::BUFFER_TOO_SMALL);
+                return Fixed::Refused(refusal::BUFFER_TOO_SMALL);
             }
             write_bytes(payload, form, delta, buffer);
-            Decoded::Count(n)
+            Fixed::Column(n, numbers::to_i32(m))
         }
     }
 }
@@ -311,23 +311,23 @@ fn low_byte(number: i32) -> u8
 }
 
 // The bytes of a payload of strings whose header passed.
-fn strings_in(payload: &[u8], n: usize, size: u32, kind: Kind, buffer: &mut [u8]) -> Decoded
+fn strings_in(payload: &[u8], n: usize, size: u32, kind: Kind, buffer: &mut [u8]) -> Fixed
     requires { ⌜ (0 < size) × (size ≤ 255) × (n ≤ 16777216) ⌝ }
-    ensures answer { λ r. ⌜ r ≡ told (judgedPayload (Header.Good n size kind Form.Names false) (now (payload .entry))) (length (now (buffer .entry))) ⌝ }
+    ensures answer { λ r. ⌜ r ≡ toldFixed (judgedPayload (Header.Good n size kind Form.Names false) (now (payload .entry))) (length (now (buffer .entry))) ⌝ }
     ensures buffer { λ r. ⌜ now (buffer .exit) ≡ left asByte (judgedPayload (Header.Good n size kind Form.Names false) (now (payload .entry))) (now (buffer .entry)) ⌝ }
 {
     let m = size as usize;
     if !is_padded(payload, m) {
-        return Decoded::Refused(refusal::NUMBER_NOT_ALLOWED);
+        return Fixed::Refused(refusal::NUMBER_NOT_ALLOWED);
     }
     match payloads::scan(payload, Form::Names, false, n * m, 0) {
-        Outcome::Refused(r) => Decoded::Refused(r),
+        Outcome::Refused(r) => Fixed::Refused(r),
         Outcome::Fine(_, _) => {
             if buffer.len() < payload.len() {
-                return Decoded::Refused(refusal::BUFFER_TOO_SMALL);
+                return Fixed::Refused(refusal::BUFFER_TOO_SMALL);
             }
             copy(payload, buffer);
-            Decoded::Count(payload.len())
+            Fixed::Column(payload.len(), numbers::to_i32(size))
         }
     }
 }

@@ -29,10 +29,12 @@ loop-again : tie.Need-loop-again Inv-loop μ-loop
 loop-again c =
     let a = c .before .before .before .before .before in
     let p = c .before .before .before .loop in
-    let y = toZ-ofZ {w = w32} (record { sfits = c .before .next-result .ok }) ∙ c .before .next-result .ensures in
-    (omega arith, length-set (p .buffer) (a .args .from + p .n) (c .low-byte .result) ∙ p .inv .1,
-    filled-next asByte (a .args .delta) (toZ w32 (ofZ w32 (a .args .sum))) (toZ w32 (ofZ w32 (a .args .value))) (a .args .buffer .now) (a .args .from)
-    (p .n) (p .buffer) (toZ w32 (p .x)) (toZ w32 (ofZ w32 (c .before .next-result .result))) (c .low-byte .result) 0 (omega (arith, a .pre)) (p .inv .2) y (c .low-byte .ensures))
+    let y = toZ-ofZ {w = w32} (record { sfits = c .before .next-result .ok }) ∙ c .before .next-result .ensures in (
+      omega arith,
+      length-set (p .buffer) (a .args .from + p .n) (c .low-byte .result) ∙ p .inv .1,
+      filled-next asByte (a .args .delta) (toZ w32 (ofZ w32 (a .args .sum))) (toZ w32 (ofZ w32 (a .args .value))) (a .args .buffer .now) (a .args .from)
+          (p .n) (p .buffer) (toZ w32 (p .x)) (toZ w32 (ofZ w32 (c .before .next-result .result))) (c .low-byte .result) 0 (omega (arith, a .pre)) (p .inv .2) y (c .low-byte .ensures),
+    )
 
 returns : tie.Need-returns Inv-loop μ-loop
 returns c =

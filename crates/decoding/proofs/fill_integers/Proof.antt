@@ -29,10 +29,12 @@ loop-again : tie.Need-loop-again Inv-loop μ-loop
 loop-again c =
     let a = c .before .before .before in
     let p = c .before .before .loop in
-    let y = toZ-ofZ {w = w32} (record { sfits = c .next-result .ok }) ∙ c .next-result .ensures in
-    (omega arith, length-set (p .buffer) (a .args .from + p .n) (toZ w32 (ofZ w32 (c .next-result .result))) ∙ p .inv .1,
-    filled-next asNumber (a .args .delta) (toZ w32 (ofZ w32 (a .args .sum))) (toZ w32 (ofZ w32 (a .args .value))) (a .args .buffer .now) (a .args .from)
-    (p .n) (p .buffer) (toZ w32 (p .x)) (toZ w32 (ofZ w32 (c .next-result .result))) (toZ w32 (ofZ w32 (c .next-result .result))) (pos 0) (omega (arith, a .pre)) (p .inv .2) y refl)
+    let y = toZ-ofZ {w = w32} (record { sfits = c .next-result .ok }) ∙ c .next-result .ensures in (
+      omega arith,
+      length-set (p .buffer) (a .args .from + p .n) (toZ w32 (ofZ w32 (c .next-result .result))) ∙ p .inv .1,
+      filled-next asNumber (a .args .delta) (toZ w32 (ofZ w32 (a .args .sum))) (toZ w32 (ofZ w32 (a .args .value))) (a .args .buffer .now) (a .args .from)
+          (p .n) (p .buffer) (toZ w32 (p .x)) (toZ w32 (ofZ w32 (c .next-result .result))) (toZ w32 (ofZ w32 (c .next-result .result))) (pos 0) (omega (arith, a .pre)) (p .inv .2) y refl,
+    )
 
 returns : tie.Need-returns Inv-loop μ-loop
 returns c =

@@ -56,9 +56,12 @@ loop-again c =
     let a = c .before .before .before .before .before .before .before .args in
     let p = c .before .before .before .before .before .loop in
     let b = bytes-of (a .payload .now) (λ i. omega (arith, c .before .before .before .before .before .before .shared-slice-known .given i)) in
-    let f = sym (c .before .before .may-follow .ensures ∙ ap (λ (n : ℕ). mayFollow n (p .before) (getD (a .payload .now) (p .i) 0)) (p .inv .1)) ∙ not-false _ (c .before .if1 .left) in
-    (omega arith, c .next-place .ensures ∙ ap (λ (n : ℕ). (n + 1) % a .size) (p .inv .1) ∙ place-next (p .i) (a .size), omega (arith, c .before .before .before .before .before .before .shared-slice-known .given (p .i)),
-    p .inv .3 ∙ padded-step (a .size) (a .payload .now) b (p .i) (p .before) (omega arith) (p .inv .2) f)
+    let f = sym (c .before .before .may-follow .ensures ∙ ap (λ (n : ℕ). mayFollow n (p .before) (getD (a .payload .now) (p .i) 0)) (p .inv .1)) ∙ not-false _ (c .before .if1 .left) in (
+      omega arith,
+      c .next-place .ensures ∙ ap (λ (n : ℕ). (n + 1) % a .size) (p .inv .1) ∙ place-next (p .i) (a .size),
+      omega (arith, c .before .before .before .before .before .before .shared-slice-known .given (p .i)),
+      p .inv .3 ∙ padded-step (a .size) (a .payload .now) b (p .i) (p .before) (omega arith) (p .inv .2) f,
+    )
 
 returns-2 : tie.Need-returns-2 Inv-loop μ-loop
 returns-2 c =

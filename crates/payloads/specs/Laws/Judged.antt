@@ -78,3 +78,21 @@ module _ (n m : ℕ) (k : Kind) (f : Form) (d : Bool) (i : ℕ) (s : List ℕ) (
           × (e ≡ (judgesExact f d && allExact (sumsIf d l))) × (x ≡ getD (sumsIf d l) i (pos 0))
       by none v q = let y : _≡_ {A = ℕ} 0 1 = cc in absurd (omega arith)
       by (some l) v q = let w = fine-by e x l (pads l v) (allIn (rangeOf f) l) refl (eqb (length l) (elements f n m)) refl q in (l, w .0, w .1, w .2, w .3, w .4)
+
+-- the same for other forms than names
+module _ (n m : ℕ) (k : Kind) (f : Form) (d : Bool) (i : ℕ) (s : List ℕ) (other : isNames f ≡ false) where
+  pads-one : (l : List ℤ) → valuesIn f s ≡ some l → padded f m l ≡ true
+  pads-one l e = padded-one f m l other
+
+  counted : scanOf f d (elements f n m) i (heldIn f s) ≡ scanOf f d n i (heldIn f s)
+  counted = ap (λ (c : ℕ). scanOf f d c i (heldIn f s)) (elements-one f n m other)
+
+  pub refused-one : (r : ℕ) → scanOf f d n i (heldIn f s) ≡ Refused r → judgedValues n m k f d (valuesIn f s) ≡ refused r
+  refused-one r q = judged-refused n m k f d i s pads-one r (counted ∙ q)
+
+  pub fine-one : (e : Bool) (x : ℤ) → scanOf f d n i (heldIn f s) ≡ Fine e x
+      → (l : List ℤ) × (heldIn f s ≡ some l) × (length l ≡ n) × (judgedValues n m k f d (valuesIn f s) ≡ column k m (sumsIf d l))
+      × (e ≡ (judgesExact f d && allExact (sumsIf d l))) × (x ≡ getD (sumsIf d l) i (pos 0))
+  fine-one e x q =
+      let g = judged-fine n m k f d i s pads-one e x (counted ∙ q) in
+      (g .0, g .1, g .2 ∙ elements-one f n m other, g .3, g .4, g .5)

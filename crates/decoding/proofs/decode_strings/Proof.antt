@@ -1,0 +1,73 @@
+-- The header's refusal, or the count of the payload's answer.
+use mathlib.Core.Path.{_≡_, sym, ap, ap₂, _∙_}
+use mathlib.Core.Bool.{Bool, false}
+use Prim.Native.Nat.{_-_, _<_, _≤_}
+use lib.ListN.{length, take, drop}
+use borrow.Author.Needs.{needs}
+use Rattle.columns.specs.declared.Kind.the-variants as kind
+use Rattle.columns.specs.declared.Wanted.the-variants.{Only}
+use Rattle.columns.specs.Decode.{Decoding, decode, judgedPayload}
+use Rattle.columns.specs.Laws.Table.{Passes, header-passes}
+use Rattle.decoding.specs.Calls.{asByte, told, toldFixed, left, countOf}
+use Rattle.columns.specs.declared.Header.the-variants.{Good}
+use Rattle.codecs.specs.declared.Form.{Form}
+use Rattle.codecs.specs.declared.Form.the-variants.{Names}
+use Rattle.decoding.specs.Laws.Rows.{string-row}
+use Rattle.decoding.specs.Laws.Calls.{told-count, decode-refused, decode-good}
+use Rattle.decoding.proofs.decode_strings.Statement.{statement}
+use Rattle.decoding.proofs.decode_strings.Tie as tie
+
+passes : (c : tie.After-n) → Passes (Only kind.Strings) (c .before .before .before .before .before .args .column .now) (c .n .given .0 .0) (c .n .given .0 .1 .0) (c .n .given .0 .1 .1 .0) (c .n .given .0 .1 .1 .1 .0) (c .n .given .0 .1 .1 .1 .1 .0)
+passes c =
+    let a = c .before .before .before .before .before .args in
+    let g = c .n .given in
+    header-passes (Only kind.Strings) (a .column .now) (g .0 .0) (g .0 .1 .0) (g .0 .1 .1 .0) (g .0 .1 .1 .1 .0) (g .0 .1 .1 .1 .1 .0) (sym (c .before .before .read-header .ensures) ∙ g .1)
+
+long : (c : tie.After-n) → 12 ≤ length (c .before .before .before .before .before .args .column .now)
+long c = passes c .0
+
+returns : tie.Need-returns
+returns c =
+    let a = c .before .before .before .before .before .before .args in
+    let g = c .before .r .given in
+    let e = decode-refused (Only kind.Strings) (a .column .now) (g .0 .0) (sym (c .before .before .before .read-header .ensures) ∙ g .1) in
+    (sym (ap (λ (x : Decoding). told x (length (a .buffer .now))) e), sym (ap (λ (x : Decoding). left asByte x (a .buffer .now)) e))
+
+row : (c : tie.After-n) → (c .n .given .0 .1 .1 .1 .0 ≡ Names) × (c .n .given .0 .1 .1 .1 .1 .0 ≡ false) × (0 < c .n .given .0 .1 .0) × (c .n .given .0 .1 .0 ≤ 255)
+row c =
+    let a = c .before .before .before .before .before .args in
+    let g = c .n .given .0 in
+    string-row (a .column .now) (g .0) (g .1 .0) (g .1 .1 .0) (g .1 .1 .1 .0) (g .1 .1 .1 .1 .0) (passes c)
+
+strings-in-requires : tie.Need-strings-in-requires
+strings-in-requires c κs =
+    let r = row (c .before .before .before) in
+    (r .2, r .3, passes (c .before .before .before) .1)
+
+returns-2 : tie.Need-returns-2
+returns-2 c =
+    let a = c .before .before .before .before .before .before .before .before .before .before .before .before .args in
+    let g = c .before .before .before .before .before .before .before .n .given in
+    let o = row (c .before .before .before .before .before .before .before) in
+    let e = decode-good (Only kind.Strings) (a .column .now) (g .0 .0) (g .0 .1 .0) (g .0 .1 .1 .0) (g .0 .1 .1 .1 .0) (g .0 .1 .1 .1 .1 .0) (sym (c .before .before .before .before .before .before .before .before .before .read-header .ensures) ∙ g .1)
+    ∙ ap₂ (λ (f : Form) (d : Bool). judgedPayload (Good (g .0 .0) (g .0 .1 .0) (g .0 .1 .1 .0) f d) (take (length (a .column .now) - 12) (drop 12 (a .column .now)))) (o .0) (o .1) in
+    let r = c .before .before .before .strings-in .ensures in (
+      c .count-of .ensures ∙ ap countOf (r .0 ∙ sym (ap (λ (x : Decoding). toldFixed x (length (a .buffer .now))) e)) ∙ told-count (decode (Only kind.Strings) (a .column .now)) (length (a .buffer .now)),
+      r .1 ∙ sym (ap (λ (x : Decoding). left asByte x (a .buffer .now)) e),
+    )
+
+pub decode-strings-spec : {M : Type 1} → statement M
+decode-strings-spec =
+    tie.close
+    (tie.spec
+    (λ c κs. search needs)
+    (λ c. search needs)
+    (λ c. search needs)
+    (λ c. long (c .before))
+    (λ c. let h = long (c .before) in search needs)
+    (λ c. search needs)
+    strings-in-requires
+    (λ c κs. search needs)
+    returns
+    (λ c. search needs)
+    returns-2)

@@ -1,0 +1,47 @@
+-- Each arm writes the payload of its form.
+use mathlib.Core.Path.{ap, _∙_}
+use borrow.Author.Needs.{needs}
+use Rattle.codecs.specs.declared.Form.the-variants.{Plain, Packed}
+use Rattle.decoding.specs.Calls.{asNumber}
+use Rattle.decoding.specs.Laws.Calls.{room-as, wrote-as}
+use Rattle.decoding.proofs.put_integers.Statement.{statement}
+use Rattle.decoding.proofs.put_integers.Tie as tie
+
+pub put-integers-spec : {M : Type 1} → statement M
+put-integers-spec =
+    tie.close
+    (tie.spec
+    (λ c. search needs)
+    (λ c. search needs)
+    (λ c κs. room-as asNumber (c .before .before .before .before .before .before .before .args .delta) (c .before .before .before .before .before .before .before .args .payload .now) (c .before .before .before .before .form .given .1 ∙ ap Plain (c .before .enum-told .given .1)) (c .before .before .before .before .before .before .before .pre))
+    (λ c. search needs)
+    (λ c κs. room-as asNumber (c .before .before .before .before .before .before .before .args .delta) (c .before .before .before .before .before .before .before .args .payload .now) (c .before .before .before .before .form .given .1 ∙ ap Plain (c .before .enum-told2 .given .1)) (c .before .before .before .before .before .before .before .pre))
+    (λ c. search needs)
+    (λ c κs. room-as asNumber (c .before .before .before .before .before .before .before .args .delta) (c .before .before .before .before .before .before .before .args .payload .now) (c .before .before .before .before .form .given .1 ∙ ap Plain (c .before .enum-told3 .given .1)) (c .before .before .before .before .before .before .before .pre))
+    (λ c. search needs)
+    (λ c. search needs)
+    (λ c κs. room-as asNumber (c .before .before .before .before .before .before .before .args .delta) (c .before .before .before .before .before .before .before .args .payload .now) (c .before .before .before .before .form2 .given .1 ∙ ap Packed (c .before .enum-told4 .given .1)) (c .before .before .before .before .before .before .before .pre))
+    (λ c. search needs)
+    (λ c κs. room-as asNumber (c .before .before .before .before .before .before .before .args .delta) (c .before .before .before .before .before .before .before .args .payload .now) (c .before .before .before .before .form2 .given .1 ∙ ap Packed (c .before .enum-told5 .given .1)) (c .before .before .before .before .before .before .before .pre))
+    (λ c. search needs)
+    (λ c κs. room-as asNumber (c .before .before .before .before .before .before .before .args .delta) (c .before .before .before .before .before .before .before .args .payload .now) (c .before .before .before .before .form2 .given .1 ∙ ap Packed (c .before .enum-told6 .given .1)) (c .before .before .before .before .before .before .before .pre))
+    (λ c. search needs)
+    (λ c κs. room-as asNumber (c .before .before .before .before .before .args .delta) (c .before .before .before .before .before .args .payload .now) (c .before .before .form3 .given .1) (c .before .before .before .before .before .pre))
+    (λ c. search needs)
+    (λ c κs. room-as asNumber (c .before .before .before .before .args .delta) (c .before .before .before .before .args .payload .now) (c .before .enum-told7 .given .1) (c .before .before .before .before .pre))
+    (λ c. search needs)
+    (λ c. wrote-as asNumber (c .before .before .before .before .before .before .before .before .before .args .delta) (c .before .before .before .before .before .before .before .before .before .args .payload .now) (c .before .before .before .before .before .before .before .before .before .args .buffer .now) (c .before .write-integers .last .1 .1 .1 .0) (c .before .before .before .before .before .before .form .given .1 ∙ ap Plain (c .before .before .before .enum-told .given .1)) (c .before .write-integers .ensures))
+    (λ c. search needs)
+    (λ c. wrote-as asNumber (c .before .before .before .before .before .before .before .before .before .args .delta) (c .before .before .before .before .before .before .before .before .before .args .payload .now) (c .before .before .before .before .before .before .before .before .before .args .buffer .now) (c .before .write-integers2 .last .1 .1 .1 .0) (c .before .before .before .before .before .before .form .given .1 ∙ ap Plain (c .before .before .before .enum-told2 .given .1)) (c .before .write-integers2 .ensures))
+    (λ c. search needs)
+    (λ c. wrote-as asNumber (c .before .before .before .before .before .before .before .before .before .args .delta) (c .before .before .before .before .before .before .before .before .before .args .payload .now) (c .before .before .before .before .before .before .before .before .before .args .buffer .now) (c .before .write-integers3 .last .1 .1 .1 .0) (c .before .before .before .before .before .before .form .given .1 ∙ ap Plain (c .before .before .before .enum-told3 .given .1)) (c .before .write-integers3 .ensures))
+    (λ c. search needs)
+    (λ c. wrote-as asNumber (c .before .before .before .before .before .before .before .before .before .args .delta) (c .before .before .before .before .before .before .before .before .before .args .payload .now) (c .before .before .before .before .before .before .before .before .before .args .buffer .now) (c .before .write-integers4 .last .1 .1 .1 .0) (c .before .before .before .before .before .before .form2 .given .1 ∙ ap Packed (c .before .before .before .enum-told4 .given .1)) (c .before .write-integers4 .ensures))
+    (λ c. search needs)
+    (λ c. wrote-as asNumber (c .before .before .before .before .before .before .before .before .before .args .delta) (c .before .before .before .before .before .before .before .before .before .args .payload .now) (c .before .before .before .before .before .before .before .before .before .args .buffer .now) (c .before .write-integers5 .last .1 .1 .1 .0) (c .before .before .before .before .before .before .form2 .given .1 ∙ ap Packed (c .before .before .before .enum-told5 .given .1)) (c .before .write-integers5 .ensures))
+    (λ c. search needs)
+    (λ c. wrote-as asNumber (c .before .before .before .before .before .before .before .before .before .args .delta) (c .before .before .before .before .before .before .before .before .before .args .payload .now) (c .before .before .before .before .before .before .before .before .before .args .buffer .now) (c .before .write-integers6 .last .1 .1 .1 .0) (c .before .before .before .before .before .before .form2 .given .1 ∙ ap Packed (c .before .before .before .enum-told6 .given .1)) (c .before .write-integers6 .ensures))
+    (λ c. search needs)
+    (λ c. wrote-as asNumber (c .before .before .before .before .before .before .before .args .delta) (c .before .before .before .before .before .before .before .args .payload .now) (c .before .before .before .before .before .before .before .args .buffer .now) (c .before .write-integers7 .last .1 .1 .1 .0) (c .before .before .before .before .form3 .given .1) (c .before .write-integers7 .ensures))
+    (λ c. search needs)
+    (λ c. wrote-as asNumber (c .before .before .before .before .before .before .args .delta) (c .before .before .before .before .before .before .args .payload .now) (c .before .before .before .before .before .before .args .buffer .now) (c .before .write-integers8 .last .1 .1 .1 .0) (c .before .before .before .enum-told7 .given .1) (c .before .write-integers8 .ensures)))
