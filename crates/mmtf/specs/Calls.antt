@@ -3,10 +3,87 @@ use mathlib.Core.Path.{_≡_}
 use mathlib.Core.List.{List}
 use Prim.Native.Nat.{ℕ, _<_}
 use lib.ListN.{length}
+use lib.IntN.{ℤ, pos}
+use lib.Ieee.{Float}
 use Rattle.refusal.specs.Table.{accepted}
 use Rattle.views.specs.View.{shown, Viewable, startOf, viewNumber}
+use Rattle.decoding.specs.declared.Decoded.{Decoded}
+use Rattle.decoding.specs.declared.Decoded.the-variants as decoded
+use Rattle.decoding.specs.declared.Fixed.{Fixed}
+use Rattle.decoding.specs.declared.Fixed.the-variants as fixed
+use Rattle.floats.specs.declared.Floats.{Floats}
+use Rattle.floats.specs.declared.Floats.the-variants as floats
+use Rattle.cells.specs.declared.Cell.{Cell}
+use Rattle.cells.specs.declared.Cell.the-variants as cell
+use Rattle.encoding.specs.declared.Encoded.{Encoded}
+use Rattle.encoding.specs.declared.Encoded.the-variants as encoded
 
 -- a view: the part's start and length, or the refusal with the out parameters as they were
 pub data ViewCall (file name : List ℕ) (start size : ℕ) : ℕ → ℕ → ℕ → Type 0 where
   shows : (v : Viewable file name) → ViewCall file name start size accepted (startOf v) (length (shown (v .x) (v .w)))
   refuses : {n : ℕ} → 0 < n → n ≡ viewNumber file name → (Viewable file name → ⊥) → ViewCall file name start size n start size
+
+-- a decoder: its number, and its count afterwards
+abbrev pub decodedNumber : Decoded → ℕ
+decodedNumber (decoded.Count n) = accepted
+decodedNumber (decoded.Refused r) = r
+
+abbrev pub decodedCount : Decoded → ℕ → ℕ
+decodedCount (decoded.Count n) old = n
+decodedCount (decoded.Refused r) old = old
+
+-- a decoder of integers and divisor: its number, its count and its divisor afterwards
+abbrev pub fixedNumber : Fixed → ℕ
+fixedNumber (fixed.Column n d) = accepted
+fixedNumber (fixed.Refused r) = r
+
+abbrev pub fixedCount : Fixed → ℕ → ℕ
+fixedCount (fixed.Column n d) old = n
+fixedCount (fixed.Refused r) old = old
+
+abbrev pub fixedDivisor : Fixed → ℤ → ℤ
+fixedDivisor (fixed.Column n d) old = d
+fixedDivisor (fixed.Refused r) old = old
+
+-- a decoder of floats: its number, and its count afterwards
+abbrev pub floatsNumber : Floats → ℕ
+floatsNumber (floats.Count n) = accepted
+floatsNumber (floats.Refused r) = r
+
+abbrev pub floatsCount : Floats → ℕ → ℕ
+floatsCount (floats.Count n) old = n
+floatsCount (floats.Refused r) old = old
+
+-- a cell: its number; and kind (1 an integer, 2 a character, 3 a float), integer and float afterwards
+abbrev pub cellNumber : Cell → ℕ
+cellNumber (cell.Int x) = accepted
+cellNumber (cell.Char b) = accepted
+cellNumber (cell.Float f) = accepted
+cellNumber (cell.Refused r) = r
+
+abbrev pub cellKind : Cell → ℕ → ℕ
+cellKind (cell.Int x) old = 1
+cellKind (cell.Char b) old = 2
+cellKind (cell.Float f) old = 3
+cellKind (cell.Refused r) old = old
+
+abbrev pub cellInteger : Cell → ℤ → ℤ
+cellInteger (cell.Int x) old = x
+cellInteger (cell.Char b) old = pos b
+cellInteger (cell.Float f) old = old
+cellInteger (cell.Refused r) old = old
+
+abbrev pub cellReal : Cell → Float → Float
+cellReal (cell.Int x) old = old
+cellReal (cell.Char b) old = old
+cellReal (cell.Float f) old = f
+cellReal (cell.Refused r) old = old
+
+-- an encoder: its number, and the bytes written afterwards
+abbrev pub encodedNumber : Encoded → ℕ
+encodedNumber (encoded.Written n) = accepted
+encodedNumber (encoded.Refused r) = r
+
+abbrev pub encodedCount : Encoded → ℕ → ℕ
+encodedCount (encoded.Written n) old = n
+encodedCount (encoded.Refused r) old = old

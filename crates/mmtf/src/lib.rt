@@ -2,9 +2,27 @@
 // On refusal no out parameter changes.
 ghost use mathlib.Core.Path.{_≡_};
 ghost use mathlib.Core.Logic.{_↔_};
+ghost use mathlib.Core.List.{map};
+ghost use lib.ListN.{length};
+ghost use lib.IntN.{pos};
+ghost use mir.Syntax.{w32};
+ghost use mir.Val.{toZ, ofZ};
 ghost use Rattle.messagepack.specs.Rules.{Container};
 ghost use Rattle.messagepack.specs.Walk.{containerNumber};
-ghost use Rattle.mmtf.specs.Calls.{ViewCall};
+ghost use Rattle.columns.specs.Decode.{decode};
+ghost use Rattle.columns.specs.Encode.{encode};
+ghost use Rattle.decoding.specs.Calls as decoding;
+ghost use Rattle.floats.specs.Calls as floats;
+ghost use Rattle.cells.specs.Calls.{cellOf};
+ghost use Rattle.encoding.specs.Calls as encoding;
+ghost use Rattle.mmtf.specs.Calls.{ViewCall, decodedNumber, decodedCount, fixedNumber, fixedCount, fixedDivisor, floatsNumber, floatsCount, cellNumber, cellKind, cellInteger, cellReal, encodedNumber, encodedCount};
+use cells::Cell;
+use columns::Kind;
+use columns::Wanted;
+use decoding::Decoded;
+use decoding::Fixed;
+use encoding::Encoded;
+use floats::Floats;
 use views::Place;
 
 // The refusal of a file as a container, 1 to 11, or 0.
@@ -26,6 +44,270 @@ pub extern "C" fn mmtf_view(file: &[u8], name: &[u8], start: &mut u64, length: &
         Place::At(at, size) => {
             *start = at as u64;
             *length = size as u64;
+            refusal::ACCEPTED
+        }
+    }
+}
+
+// The integers of an int32 column (codecs 4, 7, 8, 14, 15).
+#[no_mangle]
+pub extern "C" fn mmtf_decode_int32(column: &[u8], buffer: &mut [i32], count: &mut u64) -> u8
+    ensures answer { λ r. ⌜ r ≡ decodedNumber (decoding.told (decode (Wanted.Only Kind.Int32) (now (column .entry))) (length (now (buffer .entry)))) ⌝ }
+    ensures count { λ r. ⌜ now (count .exit) ≡ decodedCount (decoding.told (decode (Wanted.Only Kind.Int32) (now (column .entry))) (length (now (buffer .entry)))) (now (count .entry)) ⌝ }
+    ensures buffer { λ r. ⌜ now (buffer .exit) ≡ decoding.left decoding.asNumber (decode (Wanted.Only Kind.Int32) (now (column .entry))) (now (buffer .entry)) ⌝ }
+{
+    hand_count(decoding::decode_int32(column, buffer), count)
+}
+
+// The integers of an int8 column (codecs 2, 16).
+#[no_mangle]
+pub extern "C" fn mmtf_decode_int8(column: &[u8], buffer: &mut [i32], count: &mut u64) -> u8
+    ensures answer { λ r. ⌜ r ≡ decodedNumber (decoding.told (decode (Wanted.Only Kind.Int8) (now (column .entry))) (length (now (buffer .entry)))) ⌝ }
+    ensures count { λ r. ⌜ now (count .exit) ≡ decodedCount (decoding.told (decode (Wanted.Only Kind.Int8) (now (column .entry))) (length (now (buffer .entry)))) (now (count .entry)) ⌝ }
+    ensures buffer { λ r. ⌜ now (buffer .exit) ≡ decoding.left decoding.asNumber (decode (Wanted.Only Kind.Int8) (now (column .entry))) (now (buffer .entry)) ⌝ }
+{
+    hand_count(decoding::decode_int8(column, buffer), count)
+}
+
+// The integers of an int16 column (codec 3).
+#[no_mangle]
+pub extern "C" fn mmtf_decode_int16(column: &[u8], buffer: &mut [i32], count: &mut u64) -> u8
+    ensures answer { λ r. ⌜ r ≡ decodedNumber (decoding.told (decode (Wanted.Only Kind.Int16) (now (column .entry))) (length (now (buffer .entry)))) ⌝ }
+    ensures count { λ r. ⌜ now (count .exit) ≡ decodedCount (decoding.told (decode (Wanted.Only Kind.Int16) (now (column .entry))) (length (now (buffer .entry)))) (now (count .entry)) ⌝ }
+    ensures buffer { λ r. ⌜ now (buffer .exit) ≡ decoding.left decoding.asNumber (decode (Wanted.Only Kind.Int16) (now (column .entry))) (now (buffer .entry)) ⌝ }
+{
+    hand_count(decoding::decode_int16(column, buffer), count)
+}
+
+// The characters of a column (codec 6), a byte each.
+#[no_mangle]
+pub extern "C" fn mmtf_decode_chars(column: &[u8], buffer: &mut [u8], count: &mut u64) -> u8
+    ensures answer { λ r. ⌜ r ≡ decodedNumber (decoding.told (decode (Wanted.Only Kind.Chars) (now (column .entry))) (length (now (buffer .entry)))) ⌝ }
+    ensures count { λ r. ⌜ now (count .exit) ≡ decodedCount (decoding.told (decode (Wanted.Only Kind.Chars) (now (column .entry))) (length (now (buffer .entry)))) (now (count .entry)) ⌝ }
+    ensures buffer { λ r. ⌜ now (buffer .exit) ≡ decoding.left decoding.asByte (decode (Wanted.Only Kind.Chars) (now (column .entry))) (now (buffer .entry)) ⌝ }
+{
+    hand_count(decoding::decode_chars(column, buffer), count)
+}
+
+// The bytes of a column of strings (codec 5); the count is in bytes.
+#[no_mangle]
+pub extern "C" fn mmtf_decode_strings(column: &[u8], buffer: &mut [u8], count: &mut u64) -> u8
+    ensures answer { λ r. ⌜ r ≡ decodedNumber (decoding.told (decode (Wanted.Only Kind.Strings) (now (column .entry))) (length (now (buffer .entry)))) ⌝ }
+    ensures count { λ r. ⌜ now (count .exit) ≡ decodedCount (decoding.told (decode (Wanted.Only Kind.Strings) (now (column .entry))) (length (now (buffer .entry)))) (now (count .entry)) ⌝ }
+    ensures buffer { λ r. ⌜ now (buffer .exit) ≡ decoding.left decoding.asByte (decode (Wanted.Only Kind.Strings) (now (column .entry))) (now (buffer .entry)) ⌝ }
+{
+    hand_count(decoding::decode_strings(column, buffer), count)
+}
+
+// The integers and the divisor of a fixed point column (codecs 9 to 13).
+#[no_mangle]
+pub extern "C" fn mmtf_decode_fixed_point(
+    column: &[u8],
+    buffer: &mut [i32],
+    count: &mut u64,
+    divisor: &mut i32,
+) -> u8
+    ensures answer { λ r. ⌜ r ≡ fixedNumber (decoding.toldFixed (decode (Wanted.Only Kind.FixedPoint) (now (column .entry))) (length (now (buffer .entry)))) ⌝ }
+    ensures count { λ r. ⌜ now (count .exit) ≡ fixedCount (decoding.toldFixed (decode (Wanted.Only Kind.FixedPoint) (now (column .entry))) (length (now (buffer .entry)))) (now (count .entry)) ⌝ }
+    ensures divisor { λ r. ⌜ now (divisor .exit) ≡ fixedDivisor (decoding.toldFixed (decode (Wanted.Only Kind.FixedPoint) (now (column .entry))) (length (now (buffer .entry)))) (now (divisor .entry)) ⌝ }
+    ensures buffer { λ r. ⌜ now (buffer .exit) ≡ decoding.left decoding.asNumber (decode (Wanted.Only Kind.FixedPoint) (now (column .entry))) (now (buffer .entry)) ⌝ }
+{
+    match decoding::decode_fixed_point(column, buffer) {
+        Fixed::Refused(r) => r,
+        Fixed::Column(n, d) => {
+            *count = n as u64;
+            *divisor = d;
+            refusal::ACCEPTED
+        }
+    }
+}
+
+// The floats of a real column (codecs 1, 9 to 13), as their IEEE bits.
+#[no_mangle]
+pub extern "C" fn mmtf_decode_float32(column: &[u8], buffer: &mut [u32], count: &mut u64) -> u8
+    ensures answer { λ r. ⌜ r ≡ floatsNumber (floats.told (floats.exactly (decode Wanted.Real (now (column .entry)))) (length (now (buffer .entry)))) ⌝ }
+    ensures count { λ r. ⌜ now (count .exit) ≡ floatsCount (floats.told (floats.exactly (decode Wanted.Real (now (column .entry)))) (length (now (buffer .entry)))) (now (count .entry)) ⌝ }
+    ensures buffer { λ r. ⌜ now (buffer .exit) ≡ floats.left (floats.exactly (decode Wanted.Real (now (column .entry)))) (now (buffer .entry)) ⌝ }
+{
+    match floats::decode_float32(column, buffer) {
+        Floats::Refused(r) => r,
+        Floats::Count(n) => {
+            *count = n as u64;
+            refusal::ACCEPTED
+        }
+    }
+}
+
+// One cell of a column: its kind (1 an integer, 2 a character, 3 a float), and its value in the out parameter of that kind.
+#[no_mangle]
+pub extern "C" fn mmtf_cell(
+    column: &[u8],
+    index: u64,
+    kind: &mut u8,
+    integer: &mut i32,
+    real: &mut f32,
+) -> u8
+    ensures answer { λ r. ⌜ r ≡ cellNumber (cellOf (decode Wanted.Any (now (column .entry))) index) ⌝ }
+    ensures kind { λ r. ⌜ now (kind .exit) ≡ cellKind (cellOf (decode Wanted.Any (now (column .entry))) index) (now (kind .entry)) ⌝ }
+    ensures integer { λ r. ⌜ now (integer .exit) ≡ cellInteger (cellOf (decode Wanted.Any (now (column .entry))) index) (now (integer .entry)) ⌝ }
+    ensures real { λ r. ⌜ now (real .exit) ≡ cellReal (cellOf (decode Wanted.Any (now (column .entry))) index) (now (real .entry)) ⌝ }
+{
+    match cells::cell_at(column, index as usize) {
+        Cell::Refused(r) => r,
+        Cell::Int(x) => {
+            *kind = 1;
+            *integer = x;
+            refusal::ACCEPTED
+        }
+        Cell::Char(b) => {
+            *kind = 2;
+            *integer = b as i32;
+            refusal::ACCEPTED
+        }
+        Cell::Float(x) => {
+            *kind = 3;
+            *real = x;
+            refusal::ACCEPTED
+        }
+    }
+}
+
+// A column of integers by codec 4, 7, 8, 14 or 15.
+#[no_mangle]
+pub extern "C" fn mmtf_encode_int32(
+    codec: i32,
+    values: &[i32],
+    buffer: &mut [u8],
+    written: &mut u64,
+) -> u8
+    ensures answer { λ r. ⌜ r ≡ encodedNumber (encoding.told (encode (Wanted.Only Kind.Int32) (ofZ w32 codec) 0 (now (values .entry))) (length (now (buffer .entry)))) ⌝ }
+    ensures written { λ r. ⌜ now (written .exit) ≡ encodedCount (encoding.told (encode (Wanted.Only Kind.Int32) (ofZ w32 codec) 0 (now (values .entry))) (length (now (buffer .entry)))) (now (written .entry)) ⌝ }
+    ensures buffer { λ r. ⌜ now (buffer .exit) ≡ encoding.left (encode (Wanted.Only Kind.Int32) (ofZ w32 codec) 0 (now (values .entry))) (now (buffer .entry)) ⌝ }
+{
+    hand_written(encoding::encode_int32(codec, values, buffer), written)
+}
+
+// A column of integers by codec 2 or 16.
+#[no_mangle]
+pub extern "C" fn mmtf_encode_int8(
+    codec: i32,
+    values: &[i32],
+    buffer: &mut [u8],
+    written: &mut u64,
+) -> u8
+    ensures answer { λ r. ⌜ r ≡ encodedNumber (encoding.told (encode (Wanted.Only Kind.Int8) (ofZ w32 codec) 0 (now (values .entry))) (length (now (buffer .entry)))) ⌝ }
+    ensures written { λ r. ⌜ now (written .exit) ≡ encodedCount (encoding.told (encode (Wanted.Only Kind.Int8) (ofZ w32 codec) 0 (now (values .entry))) (length (now (buffer .entry)))) (now (written .entry)) ⌝ }
+    ensures buffer { λ r. ⌜ now (buffer .exit) ≡ encoding.left (encode (Wanted.Only Kind.Int8) (ofZ w32 codec) 0 (now (values .entry))) (now (buffer .entry)) ⌝ }
+{
+    hand_written(encoding::encode_int8(codec, values, buffer), written)
+}
+
+// A column of integers by codec 3.
+#[no_mangle]
+pub extern "C" fn mmtf_encode_int16(
+    codec: i32,
+    values: &[i32],
+    buffer: &mut [u8],
+    written: &mut u64,
+) -> u8
+    ensures answer { λ r. ⌜ r ≡ encodedNumber (encoding.told (encode (Wanted.Only Kind.Int16) (ofZ w32 codec) 0 (now (values .entry))) (length (now (buffer .entry)))) ⌝ }
+    ensures written { λ r. ⌜ now (written .exit) ≡ encodedCount (encoding.told (encode (Wanted.Only Kind.Int16) (ofZ w32 codec) 0 (now (values .entry))) (length (now (buffer .entry)))) (now (written .entry)) ⌝ }
+    ensures buffer { λ r. ⌜ now (buffer .exit) ≡ encoding.left (encode (Wanted.Only Kind.Int16) (ofZ w32 codec) 0 (now (values .entry))) (now (buffer .entry)) ⌝ }
+{
+    hand_written(encoding::encode_int16(codec, values, buffer), written)
+}
+
+// A column of characters by codec 6.
+#[no_mangle]
+pub extern "C" fn mmtf_encode_chars(
+    codec: i32,
+    values: &[u8],
+    buffer: &mut [u8],
+    written: &mut u64,
+) -> u8
+    ensures answer { λ r. ⌜ r ≡ encodedNumber (encoding.told (encode (Wanted.Only Kind.Chars) (ofZ w32 codec) 0 (map pos (now (values .entry)))) (length (now (buffer .entry)))) ⌝ }
+    ensures written { λ r. ⌜ now (written .exit) ≡ encodedCount (encoding.told (encode (Wanted.Only Kind.Chars) (ofZ w32 codec) 0 (map pos (now (values .entry)))) (length (now (buffer .entry)))) (now (written .entry)) ⌝ }
+    ensures buffer { λ r. ⌜ now (buffer .exit) ≡ encoding.left (encode (Wanted.Only Kind.Chars) (ofZ w32 codec) 0 (map pos (now (values .entry)))) (now (buffer .entry)) ⌝ }
+{
+    hand_written(encoding::encode_chars(codec, values, buffer), written)
+}
+
+// A column of strings of `size` bytes each by codec 5.
+#[no_mangle]
+pub extern "C" fn mmtf_encode_strings(
+    codec: i32,
+    size: i32,
+    names: &[u8],
+    buffer: &mut [u8],
+    written: &mut u64,
+) -> u8
+    ensures answer { λ r. ⌜ r ≡ encodedNumber (encoding.told (encode (Wanted.Only Kind.Strings) (ofZ w32 codec) (ofZ w32 size) (map pos (now (names .entry)))) (length (now (buffer .entry)))) ⌝ }
+    ensures written { λ r. ⌜ now (written .exit) ≡ encodedCount (encoding.told (encode (Wanted.Only Kind.Strings) (ofZ w32 codec) (ofZ w32 size) (map pos (now (names .entry)))) (length (now (buffer .entry)))) (now (written .entry)) ⌝ }
+    ensures buffer { λ r. ⌜ now (buffer .exit) ≡ encoding.left (encode (Wanted.Only Kind.Strings) (ofZ w32 codec) (ofZ w32 size) (map pos (now (names .entry)))) (now (buffer .entry)) ⌝ }
+{
+    hand_written(
+        encoding::encode_strings(codec, size, names, buffer),
+        written,
+    )
+}
+
+// A column of integers and divisor by codecs 9 to 13.
+#[no_mangle]
+pub extern "C" fn mmtf_encode_fixed_point(
+    codec: i32,
+    divisor: i32,
+    values: &[i32],
+    buffer: &mut [u8],
+    written: &mut u64,
+) -> u8
+    ensures answer { λ r. ⌜ r ≡ encodedNumber (encoding.told (encode (Wanted.Only Kind.FixedPoint) (ofZ w32 codec) (ofZ w32 divisor) (now (values .entry))) (length (now (buffer .entry)))) ⌝ }
+    ensures written { λ r. ⌜ now (written .exit) ≡ encodedCount (encoding.told (encode (Wanted.Only Kind.FixedPoint) (ofZ w32 codec) (ofZ w32 divisor) (now (values .entry))) (length (now (buffer .entry)))) (now (written .entry)) ⌝ }
+    ensures buffer { λ r. ⌜ now (buffer .exit) ≡ encoding.left (encode (Wanted.Only Kind.FixedPoint) (ofZ w32 codec) (ofZ w32 divisor) (now (values .entry))) (now (buffer .entry)) ⌝ }
+{
+    hand_written(
+        encoding::encode_fixed_point(codec, divisor, values, buffer),
+        written,
+    )
+}
+
+// A column of floats, given as their IEEE bits, by codec 1.
+#[no_mangle]
+pub extern "C" fn mmtf_encode_float32(
+    codec: i32,
+    bits: &[u32],
+    buffer: &mut [u8],
+    written: &mut u64,
+) -> u8
+    ensures answer { λ r. ⌜ r ≡ encodedNumber (encoding.told (encode (Wanted.Only Kind.Float32) (ofZ w32 codec) 0 (map (toZ w32) (now (bits .entry)))) (length (now (buffer .entry)))) ⌝ }
+    ensures written { λ r. ⌜ now (written .exit) ≡ encodedCount (encoding.told (encode (Wanted.Only Kind.Float32) (ofZ w32 codec) 0 (map (toZ w32) (now (bits .entry)))) (length (now (buffer .entry)))) (now (written .entry)) ⌝ }
+    ensures buffer { λ r. ⌜ now (buffer .exit) ≡ encoding.left (encode (Wanted.Only Kind.Float32) (ofZ w32 codec) 0 (map (toZ w32) (now (bits .entry)))) (now (buffer .entry)) ⌝ }
+{
+    hand_written(encoding::encode_float32(codec, bits, buffer), written)
+}
+
+// Hands on a decoder's answer: the count where it succeeded.
+fn hand_count(answer: Decoded, count: &mut u64) -> u8
+    ensures number { λ r. ⌜ r ≡ decodedNumber answer ⌝ }
+    ensures count { λ r. ⌜ now (count .exit) ≡ decodedCount answer (now (count .entry)) ⌝ }
+{
+    match answer {
+        Decoded::Refused(r) => r,
+        Decoded::Count(n) => {
+            *count = n as u64;
+            refusal::ACCEPTED
+        }
+    }
+}
+
+// Hands on an encoder's answer: the bytes written where it succeeded.
+fn hand_written(answer: Encoded, written: &mut u64) -> u8
+    ensures number { λ r. ⌜ r ≡ encodedNumber answer ⌝ }
+    ensures written { λ r. ⌜ now (written .exit) ≡ encodedCount answer (now (written .entry)) ⌝ }
+{
+    match answer {
+        Encoded::Refused(r) => r,
+        Encoded::Written(n) => {
+            *written = n as u64;
             refusal::ACCEPTED
         }
     }

@@ -1,0 +1,3 @@
+-- Laws. Assumes nothing.
+pub mod Table
+pub mod Calls

@@ -1,0 +1,115 @@
+-- Each arm is the loop of its form (`puts`).
+use mathlib.Core.Path.{_≡_, sym, ap, subst, _∙_}
+use mathlib.Core.Bool.{Bool}
+use mathlib.Core.List.{List}
+use Prim.Native.Nat.{ℕ}
+use lib.ListN.{length}
+use lib.Dec.{T}
+use lib.Ieee.{Float}
+use lib.Ieee.Positive.{positive}
+use borrow.Author.Needs.{needs}
+use Rattle.codecs.specs.declared.Size.the-variants.{One, Two, Four}
+use Rattle.codecs.specs.declared.Form.{Form}
+use Rattle.codecs.specs.declared.Form.the-variants.{Plain, Packed, Runs, Names}
+use Rattle.payloads.specs.Laws.Writing.{HasRoom}
+use Rattle.floats.specs.Calls.{bitsBy, Wrote, ResultsExact}
+use Rattle.floats.proofs.put_quotients.Statement.{statement}
+use Rattle.floats.proofs.put_quotients.Tie as tie
+
+-- what a loop asks for, by the form
+asks : (f g : Form) (d : Bool) (s : List ℕ) (n : ℕ) (x : Float) → f ≡ g → HasRoom f s n × ResultsExact f d s × T (positive x) → HasRoom g s n × ResultsExact g d s × T (positive x)
+asks f g d s n x e p = subst (λ (h : Form). HasRoom h s n × ResultsExact h d s × T (positive x)) e p
+
+-- what it leaves
+puts : (f g : Form) (d : Bool) (s old new : List ℕ) (x : Float) → f ≡ g → Wrote (bitsBy x) g d s old new → Wrote (bitsBy x) f d s old new
+puts f g d s old new x e w = subst (λ (h : Form). Wrote (bitsBy x) h d s old new) (sym e) w
+
+write-quotients-requires : tie.Need-write-quotients-requires
+write-quotients-requires c κs =
+    let a = c .before .before .before .before .before .before in
+    asks (a .args .form) (Plain (c .before .before .form .given .0 .0)) (a .args .delta) (a .args .payload .now) (length (a .args .buffer .now)) (a .args .divisor) (c .before .before .form .given .1) (a .pre)
+
+write-quotients-requires-2 : tie.Need-write-quotients-requires-2
+write-quotients-requires-2 c κs =
+    let a = c .before .before .before .before .before .before .before .before in
+    asks (a .args .form) (Packed One) (a .args .delta) (a .args .payload .now) (length (a .args .buffer .now)) (a .args .divisor) (c .before .before .before .before .form2 .given .1 ∙ ap Packed (c .before .enum-told .given .1)) (a .pre)
+
+write-quotients-requires-3 : tie.Need-write-quotients-requires-3
+write-quotients-requires-3 c κs =
+    let a = c .before .before .before .before .before .before .before .before in
+    asks (a .args .form) (Packed Two) (a .args .delta) (a .args .payload .now) (length (a .args .buffer .now)) (a .args .divisor) (c .before .before .before .before .form2 .given .1 ∙ ap Packed (c .before .enum-told2 .given .1)) (a .pre)
+
+write-quotients-requires-4 : tie.Need-write-quotients-requires-4
+write-quotients-requires-4 c κs =
+    let a = c .before .before .before .before .before .before .before .before in
+    asks (a .args .form) (Packed Four) (a .args .delta) (a .args .payload .now) (length (a .args .buffer .now)) (a .args .divisor) (c .before .before .before .before .form2 .given .1 ∙ ap Packed (c .before .enum-told3 .given .1)) (a .pre)
+
+write-quotients-requires-5 : tie.Need-write-quotients-requires-5
+write-quotients-requires-5 c κs =
+    let a = c .before .before .before .before .before .before in
+    asks (a .args .form) (Runs (c .before .before .form3 .given .0 .0)) (a .args .delta) (a .args .payload .now) (length (a .args .buffer .now)) (a .args .divisor) (c .before .before .form3 .given .1) (a .pre)
+
+write-quotients-requires-6 : tie.Need-write-quotients-requires-6
+write-quotients-requires-6 c κs =
+    let a = c .before .before .before .before .before in
+    asks (a .args .form) (Names) (a .args .delta) (a .args .payload .now) (length (a .args .buffer .now)) (a .args .divisor) (c .before .enum-told4 .given .1) (a .pre)
+
+returns : tie.Need-returns
+returns c =
+    let a = c .before .before .before .before .before .before .before .before .before in
+    puts (a .args .form) (Plain (c .before .before .before .before .before .form .given .0 .0)) (a .args .delta) (a .args .payload .now) (a .args .buffer .now) (c .before .before .write-quotients .last .1 .1 .1 .1 .0) (a .args .divisor) (c .before .before .before .before .before .form .given .1) (c .before .before .write-quotients .ensures)
+
+returns-2 : tie.Need-returns-2
+returns-2 c =
+    let a = c .before .before .before .before .before .before .before .before .before .before .before in
+    puts (a .args .form) (Packed One) (a .args .delta) (a .args .payload .now) (a .args .buffer .now) (c .before .before .write-quotients2 .last .1 .1 .1 .1 .0) (a .args .divisor) (c .before .before .before .before .before .before .before .form2 .given .1 ∙ ap Packed (c .before .before .before .before .enum-told .given .1)) (c .before .before .write-quotients2 .ensures)
+
+returns-3 : tie.Need-returns-3
+returns-3 c =
+    let a = c .before .before .before .before .before .before .before .before .before .before .before in
+    puts (a .args .form) (Packed Two) (a .args .delta) (a .args .payload .now) (a .args .buffer .now) (c .before .before .write-quotients3 .last .1 .1 .1 .1 .0) (a .args .divisor) (c .before .before .before .before .before .before .before .form2 .given .1 ∙ ap Packed (c .before .before .before .before .enum-told2 .given .1)) (c .before .before .write-quotients3 .ensures)
+
+returns-4 : tie.Need-returns-4
+returns-4 c =
+    let a = c .before .before .before .before .before .before .before .before .before .before .before in
+    puts (a .args .form) (Packed Four) (a .args .delta) (a .args .payload .now) (a .args .buffer .now) (c .before .before .write-quotients4 .last .1 .1 .1 .1 .0) (a .args .divisor) (c .before .before .before .before .before .before .before .form2 .given .1 ∙ ap Packed (c .before .before .before .before .enum-told3 .given .1)) (c .before .before .write-quotients4 .ensures)
+
+returns-5 : tie.Need-returns-5
+returns-5 c =
+    let a = c .before .before .before .before .before .before .before .before .before in
+    puts (a .args .form) (Runs (c .before .before .before .before .before .form3 .given .0 .0)) (a .args .delta) (a .args .payload .now) (a .args .buffer .now) (c .before .before .write-quotients5 .last .1 .1 .1 .1 .0) (a .args .divisor) (c .before .before .before .before .before .form3 .given .1) (c .before .before .write-quotients5 .ensures)
+
+returns-6 : tie.Need-returns-6
+returns-6 c =
+    let a = c .before .before .before .before .before .before .before .before in
+    puts (a .args .form) (Names) (a .args .delta) (a .args .payload .now) (a .args .buffer .now) (c .before .before .write-quotients6 .last .1 .1 .1 .1 .0) (a .args .divisor) (c .before .before .before .before .enum-told4 .given .1) (c .before .before .write-quotients6 .ensures)
+
+pub put-quotients-spec : {M : Type 1} → statement M
+put-quotients-spec =
+    tie.close
+    (tie.spec
+    (λ c. search needs)
+    write-quotients-requires
+    (λ c. search needs)
+    (λ c. search needs)
+    write-quotients-requires-2
+    (λ c. search needs)
+    write-quotients-requires-3
+    (λ c. search needs)
+    write-quotients-requires-4
+    (λ c. search needs)
+    write-quotients-requires-5
+    (λ c. search needs)
+    write-quotients-requires-6
+    (λ c. search needs)
+    returns
+    (λ c. search needs)
+    returns-2
+    (λ c. search needs)
+    returns-3
+    (λ c. search needs)
+    returns-4
+    (λ c. search needs)
+    returns-5
+    (λ c. search needs)
+    returns-6)

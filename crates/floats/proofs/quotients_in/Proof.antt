@@ -1,0 +1,93 @@
+-- 18 and 19 by the scan, 27 by its answer and by the divisor, then 25, and the quotients (`answer-count`).
+use mathlib.Core.Path.{_≡_, refl, sym, ap, ap₂, _∙_}
+use mathlib.Core.Bool.{Bool, false, not, _&&_}
+use native.Mathlib.Omega.{arith}
+use lib.IntN.{pos}
+use borrow.Author.Needs.{needs}
+use Rattle.numbers.specs.Laws.BigEndian.{bytes-of}
+use Rattle.codecs.specs.Delta.{sumsIf}
+use Rattle.codecs.specs.Payload.{valuesIn}
+use Rattle.columns.specs.declared.Kind.the-variants as kind
+use Rattle.columns.specs.Decode.{judgedValues}
+use Rattle.payloads.specs.Held.{exact, allExact}
+use Rattle.floats.specs.Laws.Tests.{not-true, not-false}
+use Rattle.floats.specs.Laws.Table.{exact-names}
+use Rattle.floats.specs.Laws.Quotient.{exact-in, divisor-positive}
+use Rattle.floats.specs.Laws.Calls.{Holds, scan-refused, scan-fine, holds-exact, all-results, answer-refused, answer-inexact, answer-short, answer-count}
+use Rattle.floats.proofs.quotients_in.Statement.{statement}
+use Rattle.floats.proofs.quotients_in.Tie as tie
+
+-- the column that the scan found
+held : (c : tie.After-exact)
+    → Holds (c .before .before .before .before .before .args .n) (c .before .before .before .before .before .args .m) kind.FixedPoint (c .before .before .before .before .before .args .form) (c .before .before .before .before .before .args .delta) 0 (c .before .before .before .before .before .args .payload .now) (exact-names (c .before .before .before .before .before .args .form) (c .before .before .before .before .before .args .delta) (c .before .before .before .before .before .pre .0)) (c .exact .given .0 .0) (c .exact .given .0 .1 .0)
+held c =
+    let a = c .before .before .before .before .before in
+    let b = bytes-of (a .args .payload .now) (λ i. omega (arith, c .before .before .before .before .shared-slice-known .given i)) in
+    scan-fine (a .args .n) (a .args .m) kind.FixedPoint (a .args .form) (a .args .delta) 0 (a .args .payload .now) (exact-names (a .args .form) (a .args .delta) (a .pre .0)) b (c .exact .given .0 .0) (c .exact .given .0 .1 .0) (sym (c .before .before .scan .ensures) ∙ c .exact .given .1)
+
+-- its cells are exact as the scan says
+cells : (c : tie.After-exact) → allExact (sumsIf (c .before .before .before .before .before .args .delta) (held c .0)) ≡ c .exact .given .0 .0
+cells c = let a = c .before .before .before .before .before in holds-exact (a .args .n) (a .args .m) kind.FixedPoint (a .args .form) (a .args .delta) 0 (a .args .payload .now) (exact-names (a .args .form) (a .args .delta) (a .pre .0)) (c .exact .given .0 .0) (c .exact .given .0 .1 .0) (held c) (a .pre .0)
+
+-- cells and divisor are
+fine : (c : tie.Else2) → (not (allExact (sumsIf (c .before .before .before .before .before .before .before .before .before .args .delta) (held (c .before .before .before .before) .0)) && exact (pos (c .before .before .before .before .before .before .before .before .before .args .m)))) ≡ false
+fine c = ap₂ (λ (x y : Bool). not (x && y)) (cells (c .before .before .before .before) ∙ not-false _ (c .before .before .if1 .left)) (sym (c .before .is-exact-divisor .ensures) ∙ not-false _ (c .if2 .left))
+
+returns : tie.Need-returns
+returns c =
+    let a = c .before .before .before .before .before .before .before in
+    let k = c .before .before .exact .given .0 in
+    answer-inexact (a .args .n) (a .args .m) kind.FixedPoint (a .args .form) (a .args .delta) 0 (a .args .payload .now) (exact-names (a .args .form) (a .args .delta) (a .pre .0)) (k .0) (k .1 .0) (held (c .before .before)) (a .args .buffer .now) refl (ap (λ (x : Bool). x && exact (pos (a .args .m))) (cells (c .before .before) ∙ not-true _ (c .if1 .taken)))
+
+returns-2 : tie.Need-returns-2
+returns-2 c =
+    let a = c .before .before .before .before .before .before .before .before .before in
+    let k = c .before .before .before .before .exact .given .0 in
+    answer-inexact (a .args .n) (a .args .m) kind.FixedPoint (a .args .form) (a .args .delta) 0 (a .args .payload .now) (exact-names (a .args .form) (a .args .delta) (a .pre .0)) (k .0) (k .1 .0) (held (c .before .before .before .before)) (a .args .buffer .now) refl (ap₂ (λ (x y : Bool). x && y) (cells (c .before .before .before .before) ∙ not-false _ (c .before .before .if1 .left)) (sym (c .before .is-exact-divisor .ensures) ∙ not-true _ (c .if2 .taken)))
+
+returns-3 : tie.Need-returns-3
+returns-3 c =
+    let a = c .before .before .before .before .before .before .before .before .before .before in
+    let k = c .before .before .before .before .before .exact .given .0 in
+    answer-short (a .args .n) (a .args .m) kind.FixedPoint (a .args .form) (a .args .delta) 0 (a .args .payload .now) (exact-names (a .args .form) (a .args .delta) (a .pre .0)) (k .0) (k .1 .0) (held (c .before .before .before .before .before)) (a .args .buffer .now) (fine (c .before)) (c .if3 .taken)
+
+int-to-float-put-quotients : tie.Need-int-to-float-put-quotients
+int-to-float-put-quotients c = exact-in (pos (c .before .before .before .before .before .before .before .before .before .before .before .args .m)) (sym (c .before .before .before .is-exact-divisor .ensures) ∙ not-false _ (c .before .before .if2 .left))
+
+put-quotients-requires : tie.Need-put-quotients-requires
+put-quotients-requires c κs =
+    let a = c .before .before .before .before .before .before .before .before .before .before .before .before in
+    let h = held (c .before .before .before .before .before .before .before) in (
+      (h .0, h .1, omega (arith, h .2)),
+      all-results (a .args .n) (a .args .m) kind.FixedPoint (a .args .form) (a .args .delta) 0 (a .args .payload .now) (exact-names (a .args .form) (a .args .delta) (a .pre .0)) (c .before .before .before .before .before .before .before .exact .given .0 .0) (c .before .before .before .before .before .before .before .exact .given .0 .1 .0) h (cells (c .before .before .before .before .before .before .before) ∙ not-false _ (c .before .before .before .before .before .if1 .left)),
+      divisor-positive (a .args .m) (sym (c .before .before .before .before .is-exact-divisor .ensures) ∙ not-false _ (c .before .before .before .if2 .left)) (a .pre .1),
+    )
+
+returns-4 : tie.Need-returns-4
+returns-4 c =
+    let a = c .before .before .before .before .before .before in
+    answer-refused (judgedValues (a .args .n) (a .args .m) kind.FixedPoint (a .args .form) (a .args .delta) (valuesIn (a .args .form) (a .args .payload .now))) (c .before .r .given .0 .0) (a .args .buffer .now)
+    (scan-refused (a .args .n) (a .args .m) kind.FixedPoint (a .args .form) (a .args .delta) 0 (a .args .payload .now) (exact-names (a .args .form) (a .args .delta) (a .pre .0)) (c .before .r .given .0 .0) (sym (c .before .before .before .scan .ensures) ∙ c .before .r .given .1))
+
+returns-5 : tie.Need-returns-5
+returns-5 c =
+    let a = c .before .before .before .before .before .before .before .before .before .before .before .before .before .before .before in
+    let k = c .before .before .before .before .before .before .before .before .before .before .exact .given .0 in
+    answer-count (a .args .n) (a .args .m) kind.FixedPoint (a .args .form) (a .args .delta) 0 (a .args .payload .now) (exact-names (a .args .form) (a .args .delta) (a .pre .0)) (k .0) (k .1 .0) (held (c .before .before .before .before .before .before .before .before .before .before)) (a .args .buffer .now) (fine (c .before .before .before .before .before .before)) (c .before .before .put-quotients .last .1 .1 .1 .1 .0) (c .before .before .before .before .before .if3 .left) (c .before .before .put-quotients .ensures)
+
+pub quotients-in-spec : {M : Type 1} → statement M
+quotients-in-spec =
+    tie.close
+    (tie.spec
+    (λ c κs. search needs)
+    (λ c. search needs)
+    (λ c. search needs)
+    returns
+    (λ c κs. search needs)
+    returns-2
+    returns-3
+    int-to-float-put-quotients
+    put-quotients-requires
+    returns-4
+    (λ c. search needs)
+    returns-5)

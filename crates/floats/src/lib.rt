@@ -1,0 +1,213 @@
+// Real columns as floats: the bits of single precision in a lent buffer, for any bytes and any buffer: one pass to check, one to write.
+// Codec 1 keeps its bits; each integer of codecs 9 to 13 is divided once. On success the buffer begins with the column and everything
+// beyond is unchanged; on refusal nothing has changed.
+ghost use mathlib.Core.Path.{_≡_};
+ghost use mathlib.Core.Bool.{true, false};
+ghost use Prim.Native.Nat.{_+_, _≤_};
+ghost use lib.ListN.{length, replicate};
+ghost use lib.IntN.{pos};
+ghost use lib.Dec.{T};
+ghost use lib.Ieee.{binary32, ofBits};
+ghost use lib.Ieee.Positive.{positive};
+ghost use Rattle.columns.specs.Decode.{decode, judgedPayload};
+ghost use Rattle.payloads.specs.Held.{exact, allExact};
+ghost use Rattle.payloads.specs.Scan.{judgesExact};
+ghost use Rattle.payloads.specs.Laws.Scan.{advance, resultsFrom};
+ghost use Rattle.payloads.specs.Laws.Writing.{Filled, HasRoom};
+ghost use Rattle.floats.specs.Calls.{kept, bitsBy, exactly, told, left, Wrote, ResultsExact};
+use codecs::Form;
+use codecs::Size;
+use columns::Header;
+use columns::Kind;
+use columns::Wanted;
+use payloads::Item;
+use payloads::Outcome;
+
+// How many floats were written, or the refusal.
+pub enum Floats {
+    Count(usize),
+    Refused(u8),
+}
+
+// The floats of a real column (codecs 1, 9 to 13), as their bits.
+pub fn decode_float32(column: &[u8], buffer: &mut [u32]) -> Floats
+    ensures answer { λ r. ⌜ r ≡ told (exactly (decode Wanted.Real (now (column .entry)))) (length (now (buffer .entry))) ⌝ }
+    ensures buffer { λ r. ⌜ now (buffer .exit) ≡ left (exactly (decode Wanted.Real (now (column .entry)))) (now (buffer .entry)) ⌝ }
+{
+    match columns::read_header(column, Wanted::Real) {
+        Header::Refused(r) => Floats::Refused(r),
+        Header::Good(n, m, kind, form, delta) => match kind {
+            Kind::FixedPoint => quotients_in(&column[12..], n, m, form, delta, buffer),
+            _ => kept_in(&column[12..], n, m, buffer),
+        },
+    }
+}
+
+// The float of a bit pattern; a NaN's pattern gives a NaN.
+pub fn of_bits(bits: u32) -> f32
+    ensures { λ r. ⌜ r ≡ ofBits binary32 bits ⌝ }
+{
+    if bits % 0x8000_0000 <= 0x7f80_0000 {
+        f32::from_bits(bits)
+    } else {
+        0.0 / 0.0
+    }
+}
+
+// Whether a divisor is exact in single precision.
+pub fn is_exact_divisor(divisor: u32) -> bool
+    ensures { λ r. ⌜ r ≡ exact (pos divisor) ⌝ }
+{
+    divisor <= 16777216
+}
+
+// The floats of a payload of codec 1 whose header passed.
+fn kept_in(payload: &[u8], n: usize, m: u32, buffer: &mut [u32]) -> Floats
+    ensures answer { λ r. ⌜ r ≡ told (exactly (judgedPayload (Header.Good n m Kind.Float32 (Form.Plain Size.Four) false) (now (payload .entry)))) (length (now (buffer .entry))) ⌝ }
+    ensures buffer { λ r. ⌜ now (buffer .exit) ≡ left (exactly (judgedPayload (Header.Good n m Kind.Float32 (Form.Plain Size.Four) false) (now (payload .entry)))) (now (buffer .entry)) ⌝ }
+{
+    match payloads::scan(payload, Form::Plain(Size::Four), false, n, 0) {
+        Outcome::Refused(r) => Floats::Refused(r),
+        Outcome::Fine(_, _) => {
+            if buffer.len() < n {
+                return Floats::Refused(refusal::BUFFER_TOO_SMALL);
+            }
+            write_kept(payload, buffer);
+            Floats::Count(n)
+        }
+    }
+}
+
+// Writes the 32 bits of each number of a payload.
+fn write_kept(payload: &[u8], buffer: &mut [u32])
+    requires { ⌜ HasRoom (Form.Plain Size.Four) (now payload) (length (now buffer)) ⌝ }
+    ensures { λ r. ⌜ Wrote kept (Form.Plain Size.Four) false (now (payload .entry)) (now (buffer .entry)) (now (buffer .exit)) ⌝ }
+{
+    let mut at: usize = 0;
+    let mut o: usize = 0;
+    while 4 <= payload.len() - at {
+        buffer[o] = numbers::read_u32(payload, at);
+        o += 1;
+        at += 4;
+    }
+}
+
+// The floats of a payload of codecs 9 to 13 whose header passed.
+fn quotients_in(
+    payload: &[u8],
+    n: usize,
+    m: u32,
+    form: Form,
+    delta: bool,
+    buffer: &mut [u32],
+) -> Floats
+    requires { ⌜ (judgesExact form delta ≡ true) × (1 ≤ m) ⌝ }
+    ensures answer { λ r. ⌜ r ≡ told (exactly (judgedPayload (Header.Good n m Kind.FixedPoint form delta) (now (payload .entry)))) (length (now (buffer .entry))) ⌝ }
+    ensures buffer { λ r. ⌜ now (buffer .exit) ≡ left (exactly (judgedPayload (Header.Good n m Kind.FixedPoint form delta) (now (payload .entry)))) (now (buffer .entry)) ⌝ }
+{
+    match payloads::scan(payload, form, delta, n, 0) {
+        Outcome::Refused(r) => Floats::Refused(r),
+        Outcome::Fine(exact, _) => {
+            if !exact {
+                return Floats::Refused(refusal::NOT_EXACT);
+            }
+            if !is_exact_divisor(m) {
+                return Floats::Refused(refusal::NOT_EXACT);
+            }
+            if buffer.len() < n {
+                return Floats::Refused(refusal::BUFFER_TOO_SMALL);
+            }
+            put_quotients(payload, form, delta, m as f32, buffer);
+            Floats::Count(n)
+        }
+    }
+}
+
+// Writes the quotients of a payload, by a loop of its form's own.
+fn put_quotients(payload: &[u8], form: Form, delta: bool, divisor: f32, buffer: &mut [u32])
+    requires { ⌜ HasRoom form (now payload) (length (now buffer)) × ResultsExact form delta (now payload) × T (positive divisor) ⌝ }
+    ensures { λ r. ⌜ Wrote (bitsBy divisor) form delta (now (payload .entry)) (now (buffer .entry)) (now (buffer .exit)) ⌝ }
+{
+    match form {
+        Form::Plain(size) => write_quotients(payload, Form::Plain(size), delta, divisor, buffer),
+        Form::Packed(size) => match size {
+            Size::One => write_quotients(payload, Form::Packed(Size::One), delta, divisor, buffer),
+            Size::Two => write_quotients(payload, Form::Packed(Size::Two), delta, divisor, buffer),
+            Size::Four => write_quotients(
+                payload,
+                Form::Packed(Size::Four),
+                delta,
+                divisor,
+                buffer,
+            ),
+        },
+        Form::Runs(range) => write_quotients(payload, Form::Runs(range), delta, divisor, buffer),
+        Form::Names => write_quotients(payload, Form::Names, delta, divisor, buffer),
+    }
+}
+
+// Writes the quotients of a payload, item by item.
+fn write_quotients(payload: &[u8], form: Form, delta: bool, divisor: f32, buffer: &mut [u32])
+    requires { ⌜ HasRoom form (now payload) (length (now buffer)) × ResultsExact form delta (now payload) × T (positive divisor) ⌝ }
+    ensures { λ r. ⌜ Wrote (bitsBy divisor) form delta (now (payload .entry)) (now (buffer .entry)) (now (buffer .exit)) ⌝ }
+{
+    let mut at: usize = 0;
+    let mut o: usize = 0;
+    let mut sum: i32 = 0;
+    loop {
+        match payloads::item_at(payload, at, form) {
+            Item::Run(value, count, next) => {
+                sum = fill_quotients(buffer, o, count, sum, value, delta, divisor);
+                o += count;
+                at = next;
+            }
+            Item::Wrong => {
+                return;
+            }
+            Item::End => {
+                return;
+            }
+        }
+    }
+}
+
+// Writes the quotients of a run from a place on, and gives the last result.
+fn fill_quotients(
+    buffer: &mut [u32],
+    from: usize,
+    count: usize,
+    sum: i32,
+    value: i32,
+    delta: bool,
+    divisor: f32,
+) -> i32
+    requires { ⌜ (from + count ≤ length (now buffer)) × (allExact (resultsFrom delta sum (replicate count value)) ≡ true) × T (positive divisor) ⌝ }
+    ensures { λ r. ⌜ Filled (bitsBy divisor) delta sum value (now (buffer .entry)) from count (now (buffer .exit)) r ⌝ }
+{
+    let mut x = sum;
+    let mut n: usize = 0;
+    while n < count {
+        x = next_result(x, value, delta);
+        buffer[from + n] = quotient_bits(x, divisor);
+        n += 1;
+    }
+    x
+}
+
+// The bits of a number by a divisor: one division in single precision.
+fn quotient_bits(number: i32, divisor: f32) -> u32
+    requires { ⌜ (exact number ≡ true) × T (positive divisor) ⌝ }
+    ensures { λ r. ⌜ r ≡ bitsBy divisor number ⌝ }
+{
+    f32::to_bits((number as f32) / divisor)
+}
+
+// The result after `sum`, by a value.
+fn next_result(sum: i32, value: i32, delta: bool) -> i32
+    ensures { λ r. ⌜ r ≡ advance delta sum value ⌝ }
+{
+    if delta {
+        return codecs::add_delta(sum, value);
+    }
+    value
+}

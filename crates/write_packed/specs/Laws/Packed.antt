@@ -1,0 +1,139 @@
+-- Laws of packed numbers, one value after the other: how many they are, and their bytes by the bits. Assumes nothing.
+use mathlib.Core.Path.{_≡_, refl, sym, ap, ap₂, _∙_}
+use mathlib.Core.Bool.{Bool, true, false}
+use mathlib.Core.List.{List, [], _∷_, _++_}
+use Prim.Native.Nat.{ℕ, zero, suc, _+_, _-_, _*_, _/_, _%_, _<_, _≤_}
+use native.Mathlib.Nat.{mod-eq-of-lt, mod-lt, div-add-mod'}
+use native.Mathlib.Omega.{arith}
+use lib.ListN.{length, replicate, length-append, length-replicate}
+use lib.IntN.{ℤ, pos, negsuc, negℤ}
+use lib.Dec.{leb}
+use mir.Syntax.{w32}
+use mir.Val.{SFits, ofZ}
+use borrow.Author.Tests.{le-leb, lt-leb, leb-true, leb-false}
+use Rattle.numbers.specs.BigEndian.{bytesOf}
+use Rattle.numbers.specs.Laws.BigEndian.{bytesOf-above}
+use Rattle.codecs.specs.declared.Size.{Size}
+use Rattle.codecs.specs.declared.Size.the-variants.{One, Two, Four}
+use Rattle.codecs.specs.declared.Range.the-variants.{Int32}
+use Rattle.codecs.specs.declared.Form.the-variants.{Packed}
+use Rattle.codecs.specs.Width.{widthOf, sizeOf, upper, lower}
+use Rattle.codecs.specs.Numbers.{bytesFor}
+use Rattle.codecs.specs.Delta.{deltasIf}
+use Rattle.codecs.specs.Packing.{packOne, packAll, pack}
+use Rattle.codecs.specs.Payload.{numbersFor, allIn, allowed}
+use Rattle.codecs.specs.Laws.Packing.{limits}
+use Rattle.columns.specs.Encode.{payloadOf}
+use Rattle.writers.specs.Laws.Placed.{Parts}
+use Rattle.writers.specs.Laws.Numbers.{bytes-more, bytes-none, bytes-append, narrow}
+use Rattle.writers.specs.Laws.Cells.{and-true}
+use Rattle.write_packed.specs.Bits.{bitsFor, upTo}
+
+pub packed-payload : (z : Size) (d : Bool) (xs : List ℤ) → payloadOf (Packed z) d xs ≡ bytesFor z (pack z (deltasIf d xs))
+unfolding payloadOf numbersFor
+packed-payload z d xs = refl
+
+pub packed-allowed : (z : Size) (xs : List ℤ) → allowed (Packed z) 0 xs ≡ allIn Int32 xs
+packed-allowed z xs = and-true (allIn Int32 xs)
+
+-- one value more
+pub packed-more : (z : Size) (y : ℤ) (xs ys : List ℤ) → ys ≡ y ∷ xs → Parts (bytesFor z (pack z ys)) (bytesFor z (packOne (upper z) (lower z) y)) (bytesFor z (pack z xs))
+unfolding packAll
+packed-more z y xs ys e = record { are = ap (λ (l : List ℤ). bytesFor z (pack z l)) e ∙ bytes-append z (packOne (upper z) (lower z) y) (pack z xs) }
+
+pub packed-none : (z : Size) (ys : List ℤ) → ys ≡ [] → bytesFor z (pack z ys) ≡ []
+unfolding packAll
+packed-none z ys e = ap (λ (l : List ℤ). bytesFor z (pack z l)) e ∙ bytes-none z
+
+-- A count up to the room
+
+module _ (room n : ℕ) where
+  pub up-over : room < n → upTo room n ≡ room + 1
+  unfolding upTo
+  up-over h = rw (lt-leb n room h)
+
+  pub up-in : n ≤ room → upTo room n ≡ n
+  unfolding upTo
+  up-in h = rw (le-leb n room h)
+
+  up-cases : (t : Bool) → leb n room ≡ t → (room < upTo room n → room < n) × (upTo room n ≤ room → upTo room n ≡ n)
+  up-cases true e = let q = up-in (leb-true n room e) in (λ h. omega arith, λ h. q)
+  up-cases false e = let k = leb-false n room e in let q = up-over k in (λ h. k, λ h. absurd (omega arith))
+
+  pub up-above : room < upTo room n → room < n
+  up-above = up-cases (leb n room) refl .0
+
+  pub up-within : upTo room n ≤ room → upTo room n ≡ n
+  up-within = up-cases (leb n room) refl .1
+
+-- How many numbers one value has
+
+pub small-product : (z : Size) (n : ℕ) → n ≤ 4294967296 → n * sizeOf z < 18446744073709551616
+small-product One n h = omega arith
+small-product Two n h = omega arith
+small-product Four n h = omega arith
+
+-- so many limits and a rest
+parts-length : (k : ℕ) (l r : ℤ) → length (replicate k l ++ (r ∷ [])) ≡ k + 1
+parts-length k l r = length-append (replicate k l) (r ∷ []) ∙ ap (λ (n : ℕ). n + 1) (length-replicate k l)
+
+module _ (z : Size) (u : ℕ) where
+  pub count-up : (x : ℤ) → SFits w32 x → u ≡ ofZ w32 x → u < 2147483648 → length (packOne (upper z) (lower z) x) ≡ u / upper z + 1
+  unfolding packOne
+  count-up (pos n) f e h = parts-length (n / upper z) (pos (upper z)) (pos (n % upper z)) ∙ ap (λ (m : ℕ). m / upper z + 1) (sym e)
+  count-up (negsuc n) f e h = absurd (omega (arith, f .sfits))
+
+  -- the size of a negative number, by its bits
+  size-down : (n : ℕ) → n < 2147483648 → u ≡ 4294967296 - suc n → (4294967296 - u) % 4294967296 ≡ suc n
+  size-down n h e = let q : 4294967296 - u ≡ suc n = omega arith in ap (λ (m : ℕ). m % 4294967296) q ∙ mod-eq-of-lt (omega arith)
+
+  pub count-down : (x : ℤ) → SFits w32 x → u ≡ ofZ w32 x → 2147483648 ≤ u → length (packOne (upper z) (lower z) x) ≡ (4294967296 - u) % 4294967296 / lower z + 1
+  unfolding packOne
+  count-down (pos n) f e h = absurd (omega (arith, f .sfits))
+  count-down (negsuc n) f e h = parts-length (suc n / lower z) (negℤ (pos (lower z))) (negℤ (pos (suc n % lower z))) ∙ ap (λ (m : ℕ). m / lower z + 1) (sym (size-down n (f .sfits) e))
+
+-- Their bytes by the bits
+
+-- so many limits and a rest, each by bits with the same low bytes
+bits-parts : (z : Size) (k : ℕ) (l r : ℤ) (a b : ℕ) → bytesOf (sizeOf z) (ofZ (widthOf z) l) ≡ bytesOf (sizeOf z) a → bytesOf (sizeOf z) (ofZ (widthOf z) r) ≡ bytesOf (sizeOf z) b
+    → bytesFor z (replicate k l ++ (r ∷ [])) ≡ bitsFor z (replicate k a ++ (b ∷ []))
+unfolding bitsFor
+bits-parts z zero l r a b p q = bytes-more z r [] ∙ ap₂ (λ (s t : List ℕ). s ++ t) q (bytes-none z)
+bits-parts z (suc k) l r a b p q = bytes-more z l (replicate k l ++ (r ∷ [])) ∙ ap₂ (λ (s t : List ℕ). s ++ t) p (bits-parts z k l r a b p q)
+
+-- a number below 0 by its bits
+neg-bits : (z : Size) (m : ℕ) → m ≤ lower z → bytesOf (sizeOf z) (ofZ (widthOf z) (negℤ (pos m))) ≡ bytesOf (sizeOf z) ((4294967296 - m) % 4294967296)
+neg-bits z zero h = refl
+neg-bits z (suc m) h = sym (narrow z (negsuc m) h) ∙ ap (bytesOf (sizeOf z)) (sym (mod-eq-of-lt (omega arith)))
+
+module _ (z : Size) (u : ℕ) where
+  pub parts-up : (x : ℤ) → SFits w32 x → u ≡ ofZ w32 x → u < 2147483648 → bytesFor z (packOne (upper z) (lower z) x) ≡ bitsFor z (replicate (u / upper z) (upper z) ++ (u % upper z ∷ []))
+  unfolding packOne
+  parts-up (pos n) f e h = bits-parts z (n / upper z) (pos (upper z)) (pos (n % upper z)) (upper z) (n % upper z) refl refl ∙ ap (λ (m : ℕ). bitsFor z (replicate (m / upper z) (upper z) ++ (m % upper z ∷ []))) (sym e)
+  parts-up (negsuc n) f e h = absurd (omega (arith, f .sfits))
+
+  pub parts-down : (x : ℤ) (m : ℕ) → SFits w32 x → u ≡ ofZ w32 x → 2147483648 ≤ u → m ≡ (4294967296 - u) % 4294967296
+      → bytesFor z (packOne (upper z) (lower z) x) ≡ bitsFor z (replicate (m / lower z) ((4294967296 - lower z) % 4294967296) ++ ((4294967296 - m % lower z) % 4294967296 ∷ []))
+  unfolding packOne
+  parts-down (pos n) m f e h q = absurd (omega (arith, f .sfits))
+  parts-down (negsuc n) m f e h q =
+      let s = q ∙ size-down z u n (f .sfits) e in
+      let t = mod-lt (suc n) {m = lower z} (limits z .2) in
+      bits-parts z (suc n / lower z) (negℤ (pos (lower z))) (negℤ (pos (suc n % lower z))) ((4294967296 - lower z) % 4294967296) ((4294967296 - suc n % lower z) % 4294967296) (neg-bits z (lower z) (omega arith)) (neg-bits z (suc n % lower z) (omega arith))
+      ∙ ap (λ (i : ℕ). bitsFor z (replicate (i / lower z) ((4294967296 - lower z) % 4294967296) ++ ((4294967296 - i % lower z) % 4294967296 ∷ []))) (sym s)
+
+-- One number of the parts
+
+pub limit-more : (z : Size) (k l : ℕ) (t : List ℕ) → 0 < k → Parts (bitsFor z (replicate k l ++ t)) (bytesOf (sizeOf z) l) (bitsFor z (replicate (k - 1) l ++ t))
+unfolding bitsFor
+limit-more z zero l t h = absurd (omega arith)
+limit-more z (suc k) l t h = let e : suc k - 1 ≡ k = omega arith in record { are = rw e }
+
+pub rest-last : (z : Size) (k l r : ℕ) → k ≤ 0 → Parts (bitsFor z (replicate k l ++ (r ∷ []))) (bytesOf (sizeOf z) r) []
+unfolding bitsFor
+rest-last z zero l r h = record { are = refl }
+rest-last z (suc k) l r h = absurd (omega arith)
+
+-- the low 16 bits
+pub low-half : (n : ℕ) → bytesOf 2 (n % 65536) ≡ bytesOf 2 n
+low-half n = sym (bytesOf-above 2 (n / 65536) (n % 65536)) ∙ ap (bytesOf 2) (div-add-mod' n 65536)

@@ -1,0 +1,13 @@
+-- A cell begins a run where its bits differ.
+use Prim.Native.Nat.{_-_}
+use native.Mathlib.Omega.{arith}
+use borrow.Author.Tests.{eq-eqb, ne-eqb}
+use Rattle.write_runs.proofs.begun.Statement.{statement}
+use Rattle.write_runs.proofs.begun.Tie as tie
+
+pub begun-spec : {M : Type 1} → statement M
+begun-spec =
+    tie.close
+    (tie.spec
+    (λ c. (rw (eq-eqb (c .before .args .x) (c .before .args .v) (c .if1 .taken)), omega arith))
+    (λ c. (rw (ne-eqb (c .before .args .x) (c .before .args .v) (c .if1 .left)), omega arith)))

@@ -1,0 +1,181 @@
+// The writers of runs, of numbers and of letters. Every call is total, and where it refuses it changes nothing.
+ghost use mathlib.Core.Path.{_≡_};
+ghost use mathlib.Core.Bool.{false, cond};
+ghost use mathlib.Core.List.{_++_, map};
+ghost use Prim.Native.Nat.{_+_, _*_, _≤_};
+ghost use lib.ListN.{length};
+ghost use lib.IntN.{pos};
+ghost use lib.Dec.{eqb, leb};
+ghost use Rattle.numbers.specs.BigEndian.{bytesOf};
+ghost use Rattle.codecs.specs.Numbers.{bytesFor};
+ghost use Rattle.codecs.specs.Delta.{deltasIf};
+ghost use Rattle.codecs.specs.RunLength.{runsOf};
+ghost use Rattle.codecs.specs.Payload.{allowed};
+ghost use Rattle.columns.specs.Encode.{payloadOf};
+ghost use Rattle.writers.specs.Placed.{over, placed, laid};
+use codecs::Form;
+use codecs::Range;
+use codecs::Size;
+use writers::Placed;
+
+// The payload of runs.
+pub fn place_numbers(
+    values: &[i32],
+    range: Range,
+    delta: bool,
+    buffer: &mut [u8],
+    at: usize,
+) -> Placed
+    ensures answer { λ r. ⌜ r ≡ placed (allowed (Form.Runs range) 0 (now (values .entry))) (payloadOf (Form.Runs range) delta (now (values .entry))) (length (now (buffer .entry))) at ⌝ }
+    ensures buffer { λ r. ⌜ now (buffer .exit) ≡ laid (allowed (Form.Runs range) 0 (now (values .entry))) (payloadOf (Form.Runs range) delta (now (values .entry))) (now (buffer .entry)) at ⌝ }
+{
+    if !writers::all_in(values, range) {
+        return Placed::NotAllowed;
+    }
+    let n = count_numbers(values, delta);
+    if !fit(n, buffer.len(), at) {
+        return Placed::NoRoom;
+    }
+    write_numbers(values, delta, buffer, at);
+    Placed::Bytes(n * 8)
+}
+
+// The payload of runs of letters.
+pub fn place_chars(values: &[u8], buffer: &mut [u8], at: usize) -> Placed
+    ensures answer { λ r. ⌜ r ≡ placed (allowed (Form.Runs Range.Ascii) 0 (map pos (now (values .entry)))) (payloadOf (Form.Runs Range.Ascii) false (map pos (now (values .entry)))) (length (now (buffer .entry))) at ⌝ }
+    ensures buffer { λ r. ⌜ now (buffer .exit) ≡ laid (allowed (Form.Runs Range.Ascii) 0 (map pos (now (values .entry)))) (payloadOf (Form.Runs Range.Ascii) false (map pos (now (values .entry)))) (now (buffer .entry)) at ⌝ }
+{
+    if !writers::all_ascii(values) {
+        return Placed::NotAllowed;
+    }
+    let n = count_chars(values);
+    if !fit(n, buffer.len(), at) {
+        return Placed::NoRoom;
+    }
+    write_chars(values, buffer, at);
+    Placed::Bytes(n * 8)
+}
+
+// How many runs there are.
+fn count_numbers(values: &[i32], delta: bool) -> usize
+    ensures { λ r. ⌜ r * 2 ≡ length (runsOf (deltasIf delta (now (values .entry)))) ⌝ }
+{
+    if values.len() == 0 {
+        return 0;
+    }
+    let mut before = values[0];
+    let mut v = numbers::to_u32(writers::step(0, before, delta));
+    let mut n: usize = 1;
+    let mut i: usize = 1;
+    while i < values.len() {
+        let x = values[i];
+        let y = numbers::to_u32(writers::step(before, x, delta));
+        n += begun(y, v);
+        v = y;
+        before = x;
+        i += 1;
+    }
+    n
+}
+
+// The runs from `start` on.
+fn write_numbers(values: &[i32], delta: bool, buffer: &mut [u8], start: usize)
+    requires { ⌜ start + length (bytesFor Size.Four (runsOf (deltasIf delta (now values)))) ≤ length (now buffer) ⌝ }
+    ensures { λ r. ⌜ now (buffer .exit) ≡ over (now (buffer .entry)) start (bytesFor Size.Four (runsOf (deltasIf delta (now (values .entry))))) ⌝ }
+{
+    if values.len() == 0 {
+        return;
+    }
+    let mut before = values[0];
+    let mut v = numbers::to_u32(writers::step(0, before, delta));
+    let mut n: usize = 1;
+    let mut at = start;
+    let mut i: usize = 1;
+    while i < values.len() {
+        let x = values[i];
+        let y = numbers::to_u32(writers::step(before, x, delta));
+        before = x;
+        i += 1;
+        if y == v {
+            n += 1;
+        } else {
+            put_run(buffer, at, v, n);
+            at += 8;
+            v = y;
+            n = 1;
+        }
+    }
+    put_run(buffer, at, v, n);
+}
+
+// How many runs of letters there are.
+fn count_chars(values: &[u8]) -> usize
+    ensures { λ r. ⌜ r * 2 ≡ length (runsOf (map pos (now (values .entry)))) ⌝ }
+{
+    if values.len() == 0 {
+        return 0;
+    }
+    let mut v = values[0] as u32;
+    let mut n: usize = 1;
+    let mut i: usize = 1;
+    while i < values.len() {
+        let x = values[i] as u32;
+        n += begun(x, v);
+        v = x;
+        i += 1;
+    }
+    n
+}
+
+// The runs of letters from `start` on.
+fn write_chars(values: &[u8], buffer: &mut [u8], start: usize)
+    requires { ⌜ start + length (bytesFor Size.Four (runsOf (map pos (now values)))) ≤ length (now buffer) ⌝ }
+    ensures { λ r. ⌜ now (buffer .exit) ≡ over (now (buffer .entry)) start (bytesFor Size.Four (runsOf (map pos (now (values .entry))))) ⌝ }
+{
+    if values.len() == 0 {
+        return;
+    }
+    let mut v = values[0] as u32;
+    let mut n: usize = 1;
+    let mut at = start;
+    let mut i: usize = 1;
+    while i < values.len() {
+        let x = values[i] as u32;
+        i += 1;
+        if x == v {
+            n += 1;
+        } else {
+            put_run(buffer, at, v, n);
+            at += 8;
+            v = x;
+            n = 1;
+        }
+    }
+    put_run(buffer, at, v, n);
+}
+
+// How many runs the cell x begins after the cell v.
+fn begun(x: u32, v: u32) -> usize
+    ensures { λ r. ⌜ (r ≡ cond (eqb x v) 0 1) × (r ≤ 1) ⌝ }
+{
+    if x == v { 0 } else { 1 }
+}
+
+// Whether n runs from `at` on are inside a buffer.
+fn fit(n: usize, length: usize, at: usize) -> bool
+    ensures { λ r. ⌜ r ≡ leb (at + n * 8) length ⌝ }
+{
+    if length < at {
+        return false;
+    }
+    n <= (length - at) / 8
+}
+
+// One run: its value and its count.
+fn put_run(buffer: &mut [u8], at: usize, bits: u32, count: usize)
+    requires { ⌜ at + 8 ≤ length (now buffer) ⌝ }
+    ensures { λ r. ⌜ now (buffer .exit) ≡ over (now (buffer .entry)) at (bytesOf 4 bits ++ bytesOf 4 count) ⌝ }
+{
+    numbers::write_u32(buffer, at, bits);
+    numbers::write_u32(buffer, at + 4, (count % 4294967296) as u32);
+}

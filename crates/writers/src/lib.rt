@@ -1,0 +1,118 @@
+// What the writers of payloads share: what they say, whether a form may hold a column's cells (18), room (25), and delta.
+// Every call is total.
+ghost use mathlib.Core.Path.{_≡_};
+ghost use mathlib.Core.Bool.{not, _||_};
+ghost use mathlib.Core.List.{map};
+ghost use Prim.Native.Nat.{_+_};
+ghost use lib.IntN.{pos};
+ghost use lib.Dec.{eqb, leb};
+ghost use Rattle.codecs.specs.Payload.{allIn, allowed};
+ghost use Rattle.writers.specs.Steps.{stepOf};
+use codecs::Form;
+use codecs::Range;
+
+// What a writer says: how many bytes it put, that a cell is not allowed, or that there is no room.
+pub enum Placed {
+    Bytes(usize),
+    NotAllowed,
+    NoRoom,
+}
+
+// Whether n bytes from `at` on are inside a buffer.
+pub fn fits(n: usize, length: usize, at: usize) -> bool
+    ensures { λ r. ⌜ r ≡ leb (at + n) length ⌝ }
+{
+    if length < at {
+        return false;
+    }
+    n <= length - at
+}
+
+// Whether every value is of a range.
+pub fn all_in(values: &[i32], range: Range) -> bool
+    ensures { λ r. ⌜ r ≡ allIn range (now (values .entry)) ⌝ }
+{
+    match range {
+        Range::Int8 => each_in(values, Range::Int8),
+        Range::Int16 => each_in(values, Range::Int16),
+        Range::Int32 => each_in(values, Range::Int32),
+        Range::Ascii => each_in(values, Range::Ascii),
+    }
+}
+
+// The same: the call above gives each range a loop of its own, and that of all numbers is none.
+fn each_in(values: &[i32], range: Range) -> bool
+    ensures { λ r. ⌜ r ≡ allIn range (now (values .entry)) ⌝ }
+{
+    let mut i: usize = 0;
+    while i < values.len() {
+        if !codecs::is_in(values[i], range) {
+            return false;
+        }
+        i += 1;
+    }
+    true
+}
+
+// Whether every byte is ASCII.
+pub fn all_ascii(values: &[u8]) -> bool
+    ensures { λ r. ⌜ r ≡ allIn Range.Ascii (map pos (now (values .entry))) ⌝ }
+{
+    let mut i: usize = 0;
+    while i < values.len() {
+        if 127 < values[i] {
+            return false;
+        }
+        i += 1;
+    }
+    true
+}
+
+// Whether names of `size` bytes each are ASCII and padded. `place` is the next byte's place in its name, `before` the byte before it.
+pub fn are_names(names: &[u8], size: usize) -> bool
+    ensures { λ r. ⌜ r ≡ allowed Form.Names size (map pos (now (names .entry))) ⌝ }
+{
+    let mut before: u8 = 0;
+    let mut place: usize = 0;
+    let mut i: usize = 0;
+    while i < names.len() {
+        let b = names[i];
+        if 127 < b {
+            return false;
+        }
+        if !may_follow(place, before, b) {
+            return false;
+        }
+        before = b;
+        i += 1;
+        place += 1;
+        if place == size {
+            place = 0;
+        }
+    }
+    true
+}
+
+// Whether a byte may stand at a place in its name: the first, after a byte that is not 0, or as padding.
+fn may_follow(place: usize, before: u8, b: u8) -> bool
+    ensures { λ r. ⌜ r ≡ (eqb place 0 || not (eqb before 0) || eqb b 0) ⌝ }
+{
+    if place == 0 {
+        return true;
+    }
+    if before != 0 {
+        return true;
+    }
+    b == 0
+}
+
+// What a payload holds for a cell, by the cell before it.
+pub fn step(before: i32, x: i32, delta: bool) -> i32
+    ensures { λ r. ⌜ r ≡ stepOf delta before x ⌝ }
+{
+    if delta {
+        codecs::delta_of(x, before)
+    } else {
+        x
+    }
+}
