@@ -42,6 +42,19 @@ pub fn outer_keys(file: &[u8]) -> Result<Vec<&[u8]>, Refusal> {
     Ok(keys)
 }
 
+/// The outer keys of an accepted file whose values are binaries, each with the
+/// binary's body, in order.
+pub fn outer_binaries(file: &[u8]) -> Result<Vec<(&[u8], &[u8])>, Refusal> {
+    let mut binaries = Vec::new();
+    Walk::over(file, |key, value| {
+        if let lead @ 0xc4..=0xc6 = file[value.start] {
+            let body = value.start + unviewed_head(lead)..value.end;
+            binaries.push((key, &file[body]));
+        }
+    })?;
+    Ok(binaries)
+}
+
 /// How many bytes of a value's head are left out of its view.
 fn unviewed_head(lead: u8) -> usize {
     match lead {
