@@ -3,6 +3,7 @@
 
 pub mod calls;
 pub mod columns;
+pub mod made;
 pub mod watch;
 
 use crate::independent;

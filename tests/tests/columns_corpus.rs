@@ -156,8 +156,8 @@ fn every_column() {
 #[test]
 fn known_columns() {
     let find = |name, field: &str| {
-        let columns = columns(derived(name)).into_iter();
-        let found = columns.filter(|column| column.name == field).last();
+        let mut columns = columns(derived(name)).into_iter();
+        let found = columns.find(|column| column.name == field);
         found.expect("a column of the file")
     };
     assert_eq!(find("4CUP-0.2", "xCoordList").field(1), 1107);

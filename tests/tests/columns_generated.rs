@@ -8,7 +8,7 @@ use mmtf_tests::generate::Rng;
 use Asked::*;
 
 /// How many columns are run in all, at the least.
-const COLUMNS: u64 = 240_000;
+const COLUMNS: u64 = 400_000;
 
 const DECODERS: [Asked; 7] = [Int32, Int8, Int16, Chars, Strings, FixedPoint, Float32];
 

@@ -2,20 +2,15 @@
 //! ends of 32 bits.
 
 use mmtf_tests::check::calls::*;
+use mmtf_tests::check::made::{column, wide};
 use mmtf_tests::check::watch::Output;
 use mmtf_tests::library::columns::Outcome;
 
 const LIMIT: usize = 16_777_216;
 
-fn column(header: [i32; 3], payload: &[u8]) -> Vec<u8> {
-    let mut column: Vec<u8> = header.iter().flat_map(|n| n.to_be_bytes()).collect();
-    column.extend(payload);
-    column
-}
-
+/// Runs with a parameter that every codec takes.
 fn runs(codec: i32, length: usize, numbers: &[i32]) -> Vec<u8> {
-    let payload: Vec<u8> = numbers.iter().flat_map(|n| n.to_be_bytes()).collect();
-    column([codec, length as i32, 1], &payload)
+    wide([codec, length as i32, 1], numbers)
 }
 
 #[test]

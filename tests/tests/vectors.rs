@@ -2,7 +2,8 @@
 //! (data/codec-vectors.json), held against both implementations.
 
 use mmtf_tests::check::calls::*;
-use mmtf_tests::check::watch::Output;
+use mmtf_tests::check::made;
+use mmtf_tests::check::watch::{Element, Output};
 use mmtf_tests::json::Json;
 use mmtf_tests::library::columns::Outcome;
 
@@ -35,62 +36,36 @@ fn names(integers: &Json, size: usize) -> Vec<u8> {
 
 /// Decodes a column to what the vector says, and encodes it back.
 fn column(vector: &Json) {
-    let column = vector.at("column_hex").bytes();
-    let codec: i32 = vector.at("codec").number();
-    let parameter: i32 = vector.at("param").number();
-    let header = [codec, parameter];
-    let case = format!("{vector:?}");
     let integers = vector.at("integers");
-    match codec {
-        2 => both_ways(&INT8, &TO_INT8, header, &integers.numbers(), &column, &case),
-        3 => both_ways(
-            &INT16,
-            &TO_INT16,
-            header,
-            &integers.numbers(),
-            &column,
-            &case,
+    let parameter: i32 = vector.at("param").number();
+    match vector.at("codec").number() {
+        2 => both_ways(&INT8, &TO_INT8, vector, &integers.numbers()),
+        3 => both_ways(&INT16, &TO_INT16, vector, &integers.numbers()),
+        4 | 8 => both_ways(&INT32, &TO_INT32, vector, &integers.numbers()),
+        5 => both_ways(
+            &STRINGS,
+            &TO_STRINGS,
+            vector,
+            &names(integers, parameter as usize),
         ),
-        4 | 8 => both_ways(
-            &INT32,
-            &TO_INT32,
-            header,
-            &integers.numbers(),
-            &column,
-            &case,
-        ),
-        5 => {
-            let names = names(integers, parameter as usize);
-            both_ways(&STRINGS, &TO_STRINGS, header, &names, &column, &case);
-        }
-        6 => both_ways(
-            &CHARS,
-            &TO_CHARS,
-            header,
-            &integers.numbers(),
-            &column,
-            &case,
-        ),
+        6 => both_ways(&CHARS, &TO_CHARS, vector, &integers.numbers()),
         9 | 10 => {
-            let values = integers.numbers();
-            FIXED_POINT.expect(&column, &values, Some(parameter), &case);
-            TO_FIXED_POINT.expect(header, &values, &column, &case);
-            FLOAT32.expect(&column, &bits(vector.at("as_floats")), None, &case);
+            both_ways(&FIXED_POINT, &TO_FIXED_POINT, vector, &integers.numbers());
+            let column = vector.at("column_hex").bytes();
+            FLOAT32.expect(&column, &bits(vector.at("as_floats")), None, "as floats");
         }
-        _ => panic!("a codec without a test: {case}"),
+        codec => panic!("codec {codec} without a test"),
     }
 }
 
-fn both_ways<T: mmtf_tests::check::watch::Element>(
-    decoder: &Decoder<T>,
-    encoder: &Encoder<T>,
-    header: [i32; 2],
-    values: &[T],
-    column: &[u8],
-    case: &str,
-) {
-    decoder.expect(column, values, None, case);
-    encoder.expect(header, values, column, case);
+fn both_ways<T: Element>(decoder: &Decoder<T>, encoder: &Encoder<T>, vector: &Json, values: &[T]) {
+    let column = vector.at("column_hex").bytes();
+    let codec: i32 = vector.at("codec").number();
+    let parameter: i32 = vector.at("param").number();
+    let divisor = (9..=13).contains(&codec).then_some(parameter);
+    let case = format!("{vector:?}");
+    decoder.expect(&column, values, divisor, &case);
+    encoder.expect([codec, parameter], values, &column, &case);
 }
 
 /// The codec, length, parameter and payload stand in the column as the vector
@@ -138,18 +113,12 @@ fn steps() {
     }
 }
 
-fn column_of(header: [i32; 3], payload: &[u8]) -> Vec<u8> {
-    let mut column: Vec<u8> = header.iter().flat_map(|n| n.to_be_bytes()).collect();
-    column.extend(payload);
-    column
-}
-
 /// Codec 7 is this step alone.
 fn run_length(step: &Json) {
     let decoded: Vec<i32> = step.at("decoded").numbers();
     let encoded: Vec<i32> = step.at("encoded").numbers();
     let payload: Vec<u8> = encoded.iter().flat_map(|n| n.to_be_bytes()).collect();
-    let column = column_of([7, decoded.len() as i32, 0], &payload);
+    let column = made::column([7, decoded.len() as i32, 0], &payload);
     INT32.expect(&column, &decoded, None, "run-length");
     TO_INT32.expect([7, 0], &decoded, &column, "run-length");
 }
@@ -164,7 +133,7 @@ fn delta(step: &Json) {
         .flat_map(|&n| [n, 1])
         .flat_map(i32::to_be_bytes)
         .collect();
-    let column = column_of([8, decoded.len() as i32, 0], &payload);
+    let column = made::column([8, decoded.len() as i32, 0], &payload);
     INT32.expect(&column, &decoded, None, "delta");
     TO_INT32.expect([8, 0], &decoded, &column, "delta");
 }
@@ -174,17 +143,13 @@ fn packed(step: &Json) {
     let decoded: Vec<i32> = step.at("decoded").numbers();
     let encoded: Vec<i16> = step.at("encoded").numbers();
     let payload: Vec<u8> = encoded.iter().flat_map(|n| n.to_be_bytes()).collect();
-    let column = column_of([14, decoded.len() as i32, 0], &payload);
+    let column = made::column([14, decoded.len() as i32, 0], &payload);
     INT32.expect(&column, &decoded, None, "packed");
     TO_INT32.expect([14, 0], &decoded, &column, "packed");
 }
 
 /// Encodes with room enough.
-fn encoded<T: mmtf_tests::check::watch::Element>(
-    encoder: &Encoder<T>,
-    header: [i32; 2],
-    values: &[T],
-) -> Vec<u8> {
+fn encoded<T: Element>(encoder: &Encoder<T>, header: [i32; 2], values: &[T]) -> Vec<u8> {
     match encoder.agree(header, values, 4096) {
         Ok(Outcome::Done(Output { values, .. })) => values,
         other => panic!("{header:?}: {other:?}"),
@@ -222,7 +187,7 @@ fn letters(step: &Json) {
         .flat_map(|&n| [n, 1])
         .flat_map(i32::to_be_bytes)
         .collect();
-    let column = column_of([6, decoded.len() as i32, 0], &payload);
+    let column = made::column([6, decoded.len() as i32, 0], &payload);
     CHARS.expect(&column, &decoded, None, "letters");
     TO_CHARS.expect([6, 0], &decoded, &column, "letters");
 }
@@ -233,10 +198,13 @@ fn header(step: &Json) {
     let (codec, length): (i32, i32) = (step.at("codec").number(), step.at("length").number());
     let parameter: i32 = step.at("param").number();
     let rest: usize = step.at("payload_bytes").number();
-    assert_eq!(bytes, column_of([codec, length, parameter], &bytes[12..]));
+    assert_eq!(
+        bytes,
+        made::column([codec, length, parameter], &bytes[12..])
+    );
     assert_eq!(bytes.len() - 12, rest);
     FLOAT32.expect_refused(&bytes, length as usize, 17, "a header");
-    let whole = column_of([codec, length, parameter], &vec![0; 4 * length as usize]);
+    let whole = made::column([codec, length, parameter], &vec![0; 4 * length as usize]);
     FLOAT32.expect(
         &whole,
         &vec![0; length as usize],

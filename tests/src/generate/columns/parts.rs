@@ -61,7 +61,7 @@ impl Parts {
         match codec {
             4 => (0..count).for_each(|_| parts.number32(extreme(rng))),
             3 | 11 => (0..count).for_each(|_| parts.number(2, beside(rng, 2, true))),
-            7 | 8 | 9 => parts.runs(rng, count, 70),
+            7..=9 => parts.runs(rng, count, 70),
             16 => parts.runs(rng, count, 2),
             _ => parts.packed(rng, count, 40),
         }

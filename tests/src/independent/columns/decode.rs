@@ -118,17 +118,7 @@ fn write<T: Copy>(column: &Column, out: &mut [T], of: impl Fn(i32) -> T) {
         (Layout::Runs, true) => write_run_sums(payload, out, of),
         (Layout::Packed8, _) => write_unpacked::<i8, T>(payload, out, of),
         (Layout::Packed16, false) => write_unpacked::<i16, T>(payload, out, of),
-        (Layout::Packed16, true) => {
-            let mut slots = out.iter_mut();
-            unpack_sums::<i16>(payload, |n| put(&mut slots, of(n)));
-        }
-    }
-}
-
-#[inline]
-fn put<'a, T: 'a>(slots: &mut impl Iterator<Item = &'a mut T>, value: T) {
-    if let Some(slot) = slots.next() {
-        *slot = value;
+        (Layout::Packed16, true) => write_unpacked_sums::<i16, T>(payload, out, of),
     }
 }
 
@@ -138,11 +128,19 @@ fn write_plain<W: Width, T>(payload: &[u8], out: &mut [T], of: impl Fn(i32) -> T
     }
 }
 
+/// Runs up to this long are written at this length, which needs no branch that
+/// depends on the count; the next run begins where it must.
+const SHORT: usize = 4;
+
 fn write_runs<T: Copy>(payload: &[u8], mut out: &mut [T], of: impl Fn(i32) -> T) {
     for (value, count) in runs(payload) {
-        let (run, rest) = out.split_at_mut(count as usize);
-        run.fill(of(value));
-        out = rest;
+        let value = of(value);
+        let count = count as usize;
+        match out.first_chunk_mut::<SHORT>() {
+            Some(short) if count <= SHORT => *short = [value; SHORT],
+            _ => out[..count].fill(value),
+        }
+        out = &mut out[count..];
     }
 }
 
@@ -159,8 +157,19 @@ fn write_run_sums<T>(payload: &[u8], mut out: &mut [T], of: impl Fn(i32) -> T) {
 }
 
 fn write_unpacked<W: Width, T>(payload: &[u8], out: &mut [T], of: impl Fn(i32) -> T) {
-    let mut slots = out.iter_mut();
-    unpack::<W>(payload, |n| put(&mut slots, of(n)));
+    let mut at = 0;
+    unpack::<W>(payload, |n| {
+        out[at] = of(n);
+        at += 1;
+    });
+}
+
+fn write_unpacked_sums<W: Width, T>(payload: &[u8], out: &mut [T], of: impl Fn(i32) -> T) {
+    let mut at = 0;
+    unpack_sums::<W>(payload, |n| {
+        out[at] = of(n);
+        at += 1;
+    });
 }
 
 /// Gives each result of a packed payload.

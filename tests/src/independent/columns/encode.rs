@@ -133,11 +133,17 @@ fn encode_payload(
 /// How many numbers of the width a value is packed to.
 #[inline]
 fn packed_count<W: Width>(value: i32) -> usize {
-    let limits = match value < 0 {
-        true => value / W::LEAST,
-        false => value / W::MOST,
-    };
-    limits as usize + 1
+    match value {
+        _ if is_inside::<W>(value) => 1,
+        ..0 => (value / W::LEAST) as usize + 1,
+        _ => (value / W::MOST) as usize + 1,
+    }
+}
+
+/// Whether a value reaches neither limit of the width.
+#[inline]
+fn is_inside<W: Width>(value: i32) -> bool {
+    W::LEAST < value && value < W::MOST
 }
 
 fn run_count(mut numbers: impl Iterator<Item = i32>) -> usize {
