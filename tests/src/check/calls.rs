@@ -1,7 +1,7 @@
 //! The calls on columns as both implementations have them, and their answers
 //! held against each other.
 
-use std::fmt::Debug;
+use std::fmt::{Debug, Write};
 
 use super::watch::{watched, Element, Output};
 use crate::independent::columns::{self as own, Cell};
@@ -97,17 +97,18 @@ impl<T: Element> Decoder<T> {
     }
 
     /// Holds both to an answer written down beforehand, with room for it.
+    #[track_caller]
     pub fn expect(&self, column: &[u8], values: &[T], divisor: Option<i32>, case: &str) {
         let values = values.to_vec();
         let room = values.len() + 1;
         let expected = Outcome::Done(Output { values, divisor });
-        assert_eq!(self.agree(column, room), Ok(expected), "{case}");
+        hold(self.agree(column, room), expected, case);
     }
 
     /// Holds both to a number written down beforehand.
+    #[track_caller]
     pub fn expect_refused(&self, column: &[u8], room: usize, number: u8, case: &str) {
-        let agreed = self.agree(column, room);
-        assert_eq!(agreed, Ok(Outcome::Refused(number)), "{case}");
+        hold(self.agree(column, room), Outcome::Refused(number), case);
     }
 }
 
@@ -129,16 +130,18 @@ impl<T: Element> Encoder<T> {
     }
 
     /// Holds both to a column written down beforehand, with room for it.
+    #[track_caller]
     pub fn expect(&self, header: [i32; 2], values: &[T], column: &[u8], case: &str) {
         let expected = Outcome::Done(Output {
             values: column.to_vec(),
             divisor: None,
         });
         let agreed = self.agree(header, values, column.len() + 1);
-        assert_eq!(agreed, Ok(expected), "{case}");
+        hold(agreed, expected, case);
     }
 
     /// Holds both to a number written down beforehand.
+    #[track_caller]
     pub fn expect_refused(
         &self,
         header: [i32; 2],
@@ -148,7 +151,7 @@ impl<T: Element> Encoder<T> {
         case: &str,
     ) {
         let agreed = self.agree(header, values, room);
-        assert_eq!(agreed, Ok(Outcome::Refused(number)), "{case}");
+        hold(agreed, Outcome::Refused(number), case);
     }
 }
 
@@ -168,12 +171,39 @@ fn alike<T: PartialEq + Debug>(
     }
 }
 
+/// Holds what both gave to an answer written down beforehand.
+#[track_caller]
+fn hold<T: PartialEq + Debug>(agreed: Result<T, String>, expected: T, case: &str) {
+    match agreed {
+        Ok(agreed) if agreed == expected => (),
+        Ok(agreed) => panic!(
+            "{case}: both give {}, expected {}",
+            shown(&agreed),
+            shown(&expected)
+        ),
+        Err(difference) => panic!("{case}: {difference}"),
+    }
+}
+
 /// An answer in words, a long one shortened.
 pub fn shown(answer: &impl Debug) -> String {
-    let text = format!("{answer:?}");
-    match text.char_indices().nth(600) {
-        Some((end, _)) => format!("{} ...", &text[..end]),
-        None => text,
+    let mut text = Shortened(String::new());
+    match write!(text, "{answer:?}") {
+        Ok(()) => text.0,
+        Err(_) => text.0 + " ...",
+    }
+}
+
+/// Takes the beginning of a text, and no more.
+struct Shortened(String);
+
+impl Write for Shortened {
+    fn write_str(&mut self, part: &str) -> std::fmt::Result {
+        self.0 += part;
+        match self.0.len() {
+            ..600 => Ok(()),
+            _ => Err(std::fmt::Error),
+        }
     }
 }
 
