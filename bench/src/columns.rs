@@ -31,7 +31,7 @@ pub fn tables() {
     title();
     columns.iter().for_each(one_cell);
     println!();
-    println!("A run of 8 bytes that claims 2,147,483,647 cells");
+    println!("One run of 8 bytes that claims millions of cells");
     title();
     hostile();
 }
@@ -133,15 +133,19 @@ fn hostile() {
         numbers.map(i32::to_be_bytes).concat()
     };
     let larger = column(16_777_216, i32::MAX);
-    row("int32, another length", 20, decode(&INT32, &larger, 1000));
-    cell("cell, another length", &larger, 5);
+    row(
+        "int32, 2,147,483,647: another length",
+        20,
+        decode(&INT32, &larger, 1000),
+    );
+    cell("cell, 2,147,483,647: another length", &larger, 5);
     let whole = column(16_777_216, 16_777_216);
     row(
-        "int32, 16,777,216 with no room",
+        "int32, 16,777,216: no room",
         20,
         decode(&INT32, &whole, 1000),
     );
-    cell("cell, 16,777,216, the last", &whole, 16_777_215);
+    cell("cell, 16,777,216: the last", &whole, 16_777_215);
 }
 
 /// Adds up the times of all columns of the largest file.

@@ -1,7 +1,7 @@
 //! One cell of a column.
 
 use super::codec::{Kind, Layout};
-use super::decode::{exact, quotient, unpack, unpack_sums};
+use super::decode::{exact, quotient};
 use super::header::Column;
 use super::width::{runs, Width};
 use crate::independent::Refusal::{self, *};
@@ -60,9 +60,8 @@ fn integer_at(column: &Column, index: usize) -> i32 {
         (Layout::Plain16, _) => plain_at::<i16>(payload, index),
         (Layout::Plain32, _) => plain_at::<i32>(payload, index),
         (Layout::Runs, delta) => run_at(payload, index, delta),
-        (Layout::Packed8, _) => nth(index, |each| unpack::<i8>(payload, each)),
-        (Layout::Packed16, false) => nth(index, |each| unpack::<i16>(payload, each)),
-        (Layout::Packed16, true) => nth(index, |each| unpack_sums::<i16>(payload, each)),
+        (Layout::Packed8, delta) => unpacked_at::<i8>(payload, index, delta),
+        (Layout::Packed16, delta) => unpacked_at::<i16>(payload, index, delta),
     }
 }
 
@@ -88,16 +87,20 @@ fn run_at(payload: &[u8], index: usize, delta: bool) -> i32 {
     unreachable!("the index is inside the column")
 }
 
-/// The result at an index of those that `results` gives in turn.
-#[inline]
-fn nth(index: usize, results: impl FnOnce(&mut dyn FnMut(i32))) -> i32 {
-    let mut at = 0;
-    let mut found = 0;
-    results(&mut |n| {
-        if at == index {
-            found = n;
+/// The result at an index of a packed payload, or with deltas the sum up to it.
+fn unpacked_at<W: Width>(payload: &[u8], index: usize, delta: bool) -> i32 {
+    let mut left = index;
+    let mut sum = 0i32;
+    for number in W::numbers(payload) {
+        sum = sum.wrapping_add(number);
+        if W::is_limit(number) {
+            continue;
         }
-        at += 1;
-    });
-    found
+        if left == 0 {
+            return sum;
+        }
+        left -= 1;
+        sum = if delta { sum } else { 0 };
+    }
+    unreachable!("the index is inside the column")
 }
