@@ -1,5 +1,8 @@
 //! The same work by libmmtf.a and by the independent Rust, side by side.
+//! With the argument `container` or `columns`, that part alone.
 
+mod column_data;
+mod columns;
 mod timing;
 mod workloads;
 
@@ -13,9 +16,21 @@ use workloads::{Hostile, HOSTILE, LARGEST};
 const PARTS: [usize; 4] = [64, 16, 4, 1];
 
 fn main() {
-    println!("Best of several repetitions, the two by turns. Inputs are only read; nothing is");
-    println!("cleared between runs. Ratio: time by the library to time by the Rust.");
-    println!();
+    println!("Best of several repetitions, the two by turns, on the same input. Inputs are only");
+    println!("read. Both write to the same buffer, which is not cleared between runs. Ratio:");
+    println!("time by the library to time by the Rust.");
+    let part = std::env::args().nth(1);
+    if part.as_deref() != Some("columns") {
+        println!();
+        container();
+    }
+    if part.as_deref() != Some("container") {
+        println!();
+        columns::tables();
+    }
+}
+
+fn container() {
     println!("Container walk");
     title();
     for name in ["4QXX", "1IGT", "4V5A"] {

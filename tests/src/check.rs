@@ -1,5 +1,10 @@
 //! Runs one file through the library and through the independent
-//! implementation, the container and views by name.
+//! implementation, the container and views by name; columns stand in `columns`.
+
+pub mod calls;
+pub mod columns;
+pub mod made;
+pub mod watch;
 
 use crate::independent;
 use crate::library::{self, View};

@@ -1,5 +1,6 @@
 //! Memory between two inaccessible pages, so that any read outside an input
-//! ends the program, and any write to it as well. Linux on x86-64.
+//! ends the program, and any write to it as well; likewise of a buffer any
+//! access outside it. Linux on x86-64.
 
 use std::ffi::{c_int, c_void};
 
@@ -57,22 +58,40 @@ impl Guarded {
         }
     }
 
-    /// Puts the bytes next to an inaccessible page, for reading only.
-    pub fn place(&mut self, bytes: &[u8], side: Side) -> &[u8] {
-        assert!(bytes.len() <= self.room);
-        let offset = match side {
-            Side::Before => 0,
-            Side::After => self.room - bytes.len(),
-        };
-        self.protect(READ | WRITE);
-        // SAFETY: the inner pages are mapped and writable, and the bytes fit.
+    /// Puts the values next to an inaccessible page, for reading only.
+    pub fn place<T: Copy>(&mut self, values: &[T], side: Side) -> &[T] {
+        let at = self.begin::<T>(values.len(), side);
+        // SAFETY: the inner pages are mapped and writable, and the values fit.
         let placed = unsafe {
-            let at = self.base.add(PAGE + offset);
-            at.copy_from_nonoverlapping(bytes.as_ptr(), bytes.len());
-            std::slice::from_raw_parts(at, bytes.len())
+            at.copy_from_nonoverlapping(values.as_ptr(), values.len());
+            std::slice::from_raw_parts(at, values.len())
         };
         self.protect(READ);
         placed
+    }
+
+    /// Lends a buffer next to an inaccessible page, with these values in it.
+    pub fn lend<T: Copy>(&mut self, values: &[T], side: Side) -> &mut [T] {
+        let at = self.begin::<T>(values.len(), side);
+        // SAFETY: the inner pages are mapped and writable, and the values fit.
+        unsafe {
+            at.copy_from_nonoverlapping(values.as_ptr(), values.len());
+            std::slice::from_raw_parts_mut(at, values.len())
+        }
+    }
+
+    /// Where so many values begin, with the inner pages writable.
+    fn begin<T>(&mut self, count: usize, side: Side) -> *mut T {
+        let bytes = count * size_of::<T>();
+        assert!(bytes <= self.room);
+        let offset = match side {
+            Side::Before => 0,
+            Side::After => self.room - bytes,
+        };
+        self.protect(READ | WRITE);
+        // SAFETY: the place is inside the mapping. It is aligned for T, since
+        // pages are, and a size is a multiple of its type's alignment.
+        unsafe { self.base.add(PAGE + offset).cast() }
     }
 
     fn protect(&self, prot: c_int) {

@@ -1,9 +1,10 @@
-//! An independent implementation of the MMTF container, the library's C calls,
-//! and what is needed to compare the two.
+//! An independent implementation of the MMTF container and of columns, the
+//! library's C calls, and what is needed to compare the two.
 
 pub mod check;
 pub mod corpus;
 pub mod generate;
 pub mod guard;
 pub mod independent;
+pub mod json;
 pub mod library;

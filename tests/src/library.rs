@@ -1,5 +1,7 @@
 //! The C calls of libmmtf.a, with safe wrappers.
 
+pub mod columns;
+
 extern "C" {
     fn mmtf_container(file: *const u8, n: usize) -> u8;
     fn mmtf_view(

@@ -1,6 +1,6 @@
-//! The refusal numbers of the container and of views.
+//! The refusal numbers of the container, of views and of columns.
 
-/// Why a file or a view is refused.
+/// Why a file, a view or a column is refused.
 #[derive(Clone, Copy, Debug, PartialEq, Eq)]
 #[repr(u8)]
 pub enum Refusal {
@@ -15,7 +15,16 @@ pub enum Refusal {
     KeyRepeated = 9,
     OuterNotMap = 10,
     BytesAfter = 11,
+    ColumnShort = 14,
+    CodecUnknown = 15,
+    HeaderRange = 16,
+    PayloadSize = 17,
+    NumberNotAllowed = 18,
+    LengthDiffers = 19,
+    BufferTooSmall = 25,
     NoSuchField = 26,
+    NotExact = 27,
+    NoSuchEntry = 28,
 }
 
 impl Refusal {

@@ -14,6 +14,9 @@ pub const ENTRY_LIMIT: u32 = 256;
 
 type Step<T> = Result<T, Refusal>;
 
+/// A key, and the body of its value.
+pub type Entry<'a> = (&'a [u8], &'a [u8]);
+
 /// The refusal number of the container, 0 when it is accepted.
 pub fn container(file: &[u8]) -> u8 {
     match Walk::over(file, |_, _| ()) {
@@ -40,6 +43,19 @@ pub fn outer_keys(file: &[u8]) -> Result<Vec<&[u8]>, Refusal> {
     let mut keys = Vec::new();
     Walk::over(file, |key, _| keys.push(key))?;
     Ok(keys)
+}
+
+/// The outer keys of an accepted file whose values are binaries, each with the
+/// binary's body, in order.
+pub fn outer_binaries(file: &[u8]) -> Result<Vec<Entry<'_>>, Refusal> {
+    let mut binaries = Vec::new();
+    Walk::over(file, |key, value| {
+        if let lead @ 0xc4..=0xc6 = file[value.start] {
+            let body = value.start + unviewed_head(lead)..value.end;
+            binaries.push((key, &file[body]));
+        }
+    })?;
+    Ok(binaries)
 }
 
 /// How many bytes of a value's head are left out of its view.
