@@ -49,9 +49,9 @@ pub fn scan(payload: &[u8], form: Form, delta: bool, length: usize, index: usize
             scan_plain(payload, size, length, index)
         }
         Form::Packed(size) => match size {
-            Size::One => scan_items(payload, Form::Packed(Size::One), delta, length, index),
-            Size::Two => scan_items(payload, Form::Packed(Size::Two), delta, length, index),
-            Size::Four => scan_items(payload, Form::Packed(Size::Four), delta, length, index),
+            Size::One => scan_packed(payload, Size::One, delta, length, index),
+            Size::Two => scan_packed(payload, Size::Two, delta, length, index),
+            Size::Four => scan_packed(payload, Size::Four, delta, length, index),
         },
         Form::Runs(range) => scan_items(payload, Form::Runs(range), delta, length, index),
         Form::Names => scan_items(payload, Form::Names, delta, length, index),
@@ -126,6 +126,47 @@ fn scan_items(payload: &[u8], form: Form, delta: bool, length: usize, index: usi
             }
         }
     }
+}
+
+// The same for packed numbers, number by number.
+fn scan_packed(payload: &[u8], size: Size, delta: bool, length: usize, index: usize) -> Outcome
+    ensures { λ r. ⌜ r ≡ scanOf (Form.Packed size) delta length index (readIn (Form.Packed size) (now (payload .entry))) ⌝ }
+{
+    let k = codecs::bytes(size);
+    let mut i: usize = 0;
+    let mut sum: i32 = 0;
+    let mut begun = false;
+    let mut tally = Tally {
+        left: length,
+        over: false,
+        wait: index,
+        found: false,
+        sum: 0,
+        exact: true,
+        cell: 0,
+    };
+    while k <= payload.len() - i {
+        let number = codecs::number_at(payload, i, size);
+        i += k;
+        match codecs::unpack_one(sum, number, size) {
+            Turn::More(s) => {
+                sum = s;
+                begun = true;
+            }
+            Turn::Done(s) => {
+                tally = pass_run(tally, s, 1, delta);
+                sum = 0;
+                begun = false;
+            }
+            Turn::Wrong => {
+                return Outcome::Refused(refusal::NUMBER_NOT_ALLOWED);
+            }
+        }
+    }
+    if begun {
+        return Outcome::Refused(refusal::NUMBER_NOT_ALLOWED);
+    }
+    finish(tally)
 }
 
 // What a tally says at the payload's end.
