@@ -13,6 +13,7 @@
  * - A buffer has no element in common with what is read.
  * - An out parameter points to an object of its type, which is no other out parameter and no part of what is read or of the
  *   buffer.
+ * - Floats are rounded to nearest, as C starts: mmtf_decode_float32 and mmtf_cell divide.
  * - There is room on the stack: 40 KiB are enough for a call. At twelve levels, the most, 29 KiB were measured.
  */
 #ifndef MMTF_H
@@ -142,7 +143,7 @@ uint8_t mmtf_decode_chars(const uint8_t *column, size_t n, uint8_t *buffer, size
 /*
  * Decodes a column of strings, by codec 5: the bytes of the names, one name after the other, each with its 0 bytes at the
  * end. The elements are bytes, so that room and *count are in bytes; *count divided by the size is the number of names. The
- * size is the column's parameter, its bytes 8 to 11.
+ * size is the column's parameter, its bytes 8 to 11 counted from 0.
  */
 uint8_t mmtf_decode_strings(const uint8_t *column, size_t n, uint8_t *buffer, size_t room, uint64_t *count);
 
@@ -174,11 +175,13 @@ enum mmtf_cell_kind {
 /*
  * Asks for the one cell at index, counted from 0, of a column of any kind but strings.
  *
- * Answers MMTF_ACCEPTED with *kind as above and the value in *integer or in *real; the other of the two is as it was. Else the
- * answer is the first of these, and no out parameter has changed: the column's own number, MMTF_COLUMN_SHORT to
- * MMTF_LENGTH_DIFFERS in the order above, for the whole column; MMTF_CODEC_UNKNOWN for strings; MMTF_NO_SUCH_ENTRY where the
- * index is not below the column's length; MMTF_NOT_EXACT where, of a fixed point column, this cell's integer or the divisor is
- * above 16,777,216 in size. The other cells' integers do not count for that.
+ * Answers MMTF_ACCEPTED with *kind as above and the value in *integer or in *real; the other of the two is as it was. Else no
+ * out parameter has changed, and the answer is the first of these that applies:
+ * - The column's own number, MMTF_COLUMN_SHORT to MMTF_LENGTH_DIFFERS in the order above, for the whole column.
+ * - MMTF_CODEC_UNKNOWN: a column of strings.
+ * - MMTF_NO_SUCH_ENTRY: the index is not below the column's length.
+ * - MMTF_NOT_EXACT: of a fixed point column, this cell's integer or the divisor is above 16,777,216 in size. The integers of
+ *   other cells do not count.
  *
  * A NaN of codec 1 comes as a NaN, but its payload bits are not kept: mmtf_decode_float32 keeps them. Every other float of
  * codec 1 comes with its bits.
@@ -195,8 +198,8 @@ uint8_t mmtf_cell(const uint8_t *column, size_t n, uint64_t index, uint8_t *kind
  * - MMTF_NUMBER_NOT_ALLOWED: an element that the codec cannot hold, as each call says.
  * - MMTF_BUFFER_TOO_SMALL: the column has more bytes than the buffer has room for.
  *
- * On MMTF_ACCEPTED the buffer begins with the column, *written says how many bytes it has, and every byte of the buffer beyond
- * is as it was. On refusal the buffer and *written are as they were.
+ * On MMTF_ACCEPTED the buffer begins with the column, *written says how many bytes it has, and every byte of the buffer
+ * beyond is as it was. On refusal the buffer and *written are as they were.
  */
 
 /* Encodes m integers as an int32 column, by codec 4, 7, 8, 14 or 15. Each of them holds every integer. */

@@ -47,7 +47,7 @@ static void decodes_floats(void) {
     }
 }
 
-/* One cell; the integer is the out parameter of other kinds. */
+/* One cell, which is a float, so that the integer stays; and one past the end. */
 static void has_cells(void) {
     uint8_t kind = 77;
     int32_t integer = 78;
@@ -69,7 +69,8 @@ static void encodes(void) {
     uint64_t written = 77;
     expect(mmtf_encode_fixed_point(10, 1000, integers, RESULTS, buffer, sizeof buffer, &written) == MMTF_ACCEPTED,
            "The integers are not encoded.");
-    expect(written == sizeof column && memcmp(buffer, column, sizeof column) == 0, "The bytes encoded differ from the column.");
+    expect(written == sizeof column && memcmp(buffer, column, sizeof column) == 0,
+           "The bytes encoded differ from the column.");
     expect(buffer[sizeof column] == 7, "A byte beyond the column has changed.");
 }
 
@@ -85,7 +86,8 @@ static void refuses_to_decode(void) {
            "A lone 32767 by codec 14 is not refused with 18.");
     expect(mmtf_decode_fixed_point(column, sizeof column, buffer, RESULTS - 1, &count, &divisor) == MMTF_BUFFER_TOO_SMALL,
            "A buffer one element too small is not refused with 25.");
-    expect(mmtf_decode_fixed_point(NULL, 0, NULL, 0, &count, &divisor) == MMTF_COLUMN_SHORT, "No bytes are not refused with 14.");
+    expect(mmtf_decode_fixed_point(NULL, 0, NULL, 0, &count, &divisor) == MMTF_COLUMN_SHORT,
+           "A column of no bytes is not refused with 14.");
     expect(buffer[0] == 7 && buffer[1] == 7 && buffer[2] == 7, "A refused decoder has changed its buffer.");
     expect(count == 77 && divisor == 78, "A refused decoder has changed an out parameter.");
 }
