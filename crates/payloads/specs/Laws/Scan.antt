@@ -108,7 +108,7 @@ run-last false a v (suc (suc k)) h = run-last false v v (suc k) (omega arith)
 
 -- Exact results
 
-exact-append : (p q : List ℤ) → allExact (p ++ q) ≡ (allExact p && allExact q)
+pub exact-append : (p q : List ℤ) → allExact (p ++ q) ≡ (allExact p && allExact q)
 unfolding allExact
 exact-append [] q = refl
 exact-append (x ∷ p) q = by (exact x) (exact-append p q)
@@ -152,12 +152,12 @@ run-exact Names true a v k h s j = let y : _≡_ {A = ℕ} 0 1 = cc in absurd (o
 
 -- Places in two lists
 
-getD-left : (p q : List ℤ) (i : ℕ) → i < length p → getD (p ++ q) i (pos 0) ≡ getD p i (pos 0)
+pub getD-left : (p q : List ℤ) (i : ℕ) → i < length p → getD (p ++ q) i (pos 0) ≡ getD p i (pos 0)
 getD-left [] q i h = absurd (omega arith)
 getD-left (x ∷ p) q zero h = refl
 getD-left (x ∷ p) q (suc i) h = getD-left p q i (omega arith)
 
-getD-right : (p q : List ℤ) (i : ℕ) → length p ≤ i → getD (p ++ q) i (pos 0) ≡ getD q (i - length p) (pos 0)
+pub getD-right : (p q : List ℤ) (i : ℕ) → length p ≤ i → getD (p ++ q) i (pos 0) ≡ getD q (i - length p) (pos 0)
 getD-right [] q i h = let e : i - 0 ≡ i = omega arith in rw e
 getD-right (x ∷ p) q zero h = absurd (omega arith)
 getD-right (x ∷ p) q (suc i) h = let e : suc i - suc (length p) ≡ i - length p = omega arith in rw e (getD-right p q i (omega arith))
