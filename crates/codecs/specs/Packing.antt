@@ -16,7 +16,7 @@ abbrev pub isLimit : ℕ → ℕ → ℤ → Bool
 isLimit p q (pos n) = eqb n p
 isLimit p q (negsuc n) = eqb (suc n) q
 
--- whether z is a signed 32-bit number
+-- whether z is a signed 32-bit number: `mag` of a negative number is one less than its size, so that -2 ^ 31 is one
 abbrev pub in32 : ℤ → Bool
 in32 z = ltb (mag z) (2 ^ 31)
 

@@ -18,7 +18,7 @@ expand (v ∷ (n ∷ xs)) = cond (ltZ n (pos 1)) none (Option·map (λ (l : List
 expand (v ∷ []) = some []
 expand [] = some []
 
--- whether two cells are the same: their 32 bits are
+-- whether two cells are the same 32-bit number
 abbrev pub same : ℤ → ℤ → Bool
 same x v = eqb (ofZ w32 x) (ofZ w32 v)
 

@@ -60,7 +60,7 @@ pub fn encode_int8(codec: i32, values: &[i32], buffer: &mut [u8]) -> Encoded
     encode_numbers(Kind::Int8, codec, 0, values, buffer)
 }
 
-// A column of fixed-point numbers: the values times the divisor.
+// A column of integers and their divisor.
 pub fn encode_fixed_point(codec: i32, divisor: i32, values: &[i32], buffer: &mut [u8]) -> Encoded
     ensures answer { λ r. ⌜ r ≡ told (encode (Wanted.Only Kind.FixedPoint) (ofZ w32 codec) (ofZ w32 divisor) (now (values .entry))) (length (now (buffer .entry))) ⌝ }
     ensures buffer { λ r. ⌜ now (buffer .exit) ≡ left (encode (Wanted.Only Kind.FixedPoint) (ofZ w32 codec) (ofZ w32 divisor) (now (values .entry))) (now (buffer .entry)) ⌝ }
@@ -74,7 +74,7 @@ pub fn encode_fixed_point(codec: i32, divisor: i32, values: &[i32], buffer: &mut
     )
 }
 
-// A column of letters.
+// A column of characters.
 pub fn encode_chars(codec: i32, values: &[u8], buffer: &mut [u8]) -> Encoded
     ensures answer { λ r. ⌜ r ≡ told (encode (Wanted.Only Kind.Chars) (ofZ w32 codec) 0 (map pos (now (values .entry)))) (length (now (buffer .entry))) ⌝ }
     ensures buffer { λ r. ⌜ now (buffer .exit) ≡ left (encode (Wanted.Only Kind.Chars) (ofZ w32 codec) 0 (map pos (now (values .entry)))) (now (buffer .entry)) ⌝ }
@@ -89,7 +89,7 @@ pub fn encode_chars(codec: i32, values: &[u8], buffer: &mut [u8]) -> Encoded
     }
 }
 
-// A column of names of `size` bytes each, one after the other.
+// A column of strings of `size` bytes each, one after the other.
 pub fn encode_strings(codec: i32, size: i32, names: &[u8], buffer: &mut [u8]) -> Encoded
     ensures answer { λ r. ⌜ r ≡ told (encode (Wanted.Only Kind.Strings) (ofZ w32 codec) (ofZ w32 size) (map pos (now (names .entry)))) (length (now (buffer .entry))) ⌝ }
     ensures buffer { λ r. ⌜ now (buffer .exit) ≡ left (encode (Wanted.Only Kind.Strings) (ofZ w32 codec) (ofZ w32 size) (map pos (now (names .entry)))) (now (buffer .entry)) ⌝ }

@@ -1,4 +1,4 @@
-// The writers of runs, of numbers and of letters. Every call is total, and where it refuses it changes nothing.
+// The writers of runs, of numbers and of characters. Every call is total, and where it refuses it changes nothing.
 ghost use mathlib.Core.Path.{_≡_};
 ghost use mathlib.Core.Bool.{false, cond};
 ghost use mathlib.Core.List.{_++_, map};
@@ -40,7 +40,7 @@ pub fn place_numbers(
     Placed::Bytes(n * 8)
 }
 
-// The payload of runs of letters.
+// The payload of runs of characters.
 pub fn place_chars(values: &[u8], buffer: &mut [u8], at: usize) -> Placed
     ensures answer { λ r. ⌜ r ≡ placed (allowed (Form.Runs Range.Ascii) 0 (map pos (now (values .entry)))) (payloadOf (Form.Runs Range.Ascii) false (map pos (now (values .entry)))) (length (now (buffer .entry))) at ⌝ }
     ensures buffer { λ r. ⌜ now (buffer .exit) ≡ laid (allowed (Form.Runs Range.Ascii) 0 (map pos (now (values .entry)))) (payloadOf (Form.Runs Range.Ascii) false (map pos (now (values .entry)))) (now (buffer .entry)) at ⌝ }
@@ -108,7 +108,7 @@ fn write_numbers(values: &[i32], delta: bool, buffer: &mut [u8], start: usize)
     put_run(buffer, at, v, n);
 }
 
-// How many runs of letters there are.
+// How many runs of characters there are.
 fn count_chars(values: &[u8]) -> usize
     ensures { λ r. ⌜ r * 2 ≡ length (runsOf (map pos (now (values .entry)))) ⌝ }
 {
@@ -127,7 +127,7 @@ fn count_chars(values: &[u8]) -> usize
     n
 }
 
-// The runs of letters from `start` on.
+// The runs of characters from `start` on.
 fn write_chars(values: &[u8], buffer: &mut [u8], start: usize)
     requires { ⌜ start + length (bytesFor Size.Four (runsOf (map pos (now values)))) ≤ length (now buffer) ⌝ }
     ensures { λ r. ⌜ now (buffer .exit) ≡ over (now (buffer .entry)) start (bytesFor Size.Four (runsOf (map pos (now (values .entry))))) ⌝ }

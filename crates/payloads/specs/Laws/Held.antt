@@ -3,20 +3,15 @@ use mathlib.Core.Path.{_≡_, refl, sym, ap, ap₂, subst, _∙_}
 use mathlib.Core.Bool.{Bool, true, false, cond, not, _&&_}
 use mathlib.Core.Option.{Option, none, some, Option·map}
 use mathlib.Core.List.{List, [], _∷_, _++_}
-use Prim.Native.Nat.{ℕ, zero, suc, _+_, _-_, _*_, _/_, _^_, _<_, _≤_}
-use native.Mathlib.Nat.{div-mul-le-self}
+use Prim.Native.Nat.{ℕ, suc, _<_, _≤_}
 use native.Mathlib.Omega.{arith}
-use lib.ListN.{length, take, drop, replicate, length-take, length-drop}
-use lib.Seq.{take-all}
 use lib.IntN.{ℤ, pos, negsuc, natAbs, _+ℤ_}
 use lib.Signed.{mag, ltZ, leZ}
 use lib.Dec.{leb, ltb}
-use mir.Syntax.{w8, w16, w32}
-use mir.Val.{toZ, ofZ, SFits}
-use mir.Facts.{sfits-toZ}
+use mir.Syntax.{w8, w16}
+use mir.Val.{SFits}
 use borrow.Author.Tests.{le-leb, lt-leb, leb-true, leb-false, lt-ltb, le-ltb, ltb-true, ltb-false}
-use Rattle.numbers.specs.BigEndian.{Bytes, numberOf}
-use Rattle.numbers.specs.Laws.BigEndian.{numberOf-bound, part-bytes}
+use Rattle.numbers.specs.BigEndian.{Bytes}
 use Rattle.codecs.specs.declared.Size.{Size}
 use Rattle.codecs.specs.declared.Size.the-variants.{One, Two, Four}
 use Rattle.codecs.specs.declared.Range.{Range}
@@ -24,7 +19,9 @@ use Rattle.codecs.specs.declared.Range.the-variants.{Int8, Int16, Int32, Ascii}
 use Rattle.codecs.specs.declared.Form.{Form}
 use Rattle.codecs.specs.declared.Form.the-variants.{Plain, Packed, Runs, Names}
 use Rattle.codecs.specs.Width.{widthOf, sizeOf, upper, lower}
-use Rattle.codecs.specs.Numbers.{firstNumbers, numbersIn}
+use Rattle.codecs.specs.Numbers.{numbersIn}
+use Rattle.codecs.specs.Fits.{Every}
+use Rattle.codecs.specs.Laws.NumbersBack.{numbersIn-fit}
 use Rattle.codecs.specs.Packing.{isLimit, in32, unpackFrom, unpack}
 use Rattle.codecs.specs.Payload.{valuesIn, inRange, allIn, rangeOf}
 use Rattle.payloads.specs.Held.{within, heldIn, exact, allExact}
@@ -40,44 +37,6 @@ pub fits-in : (z : Size) (x : ℤ) → SFits (widthOf z) x → inRange (rangeOf 
 fits-in One x f = in-width 127 x (f .sfits)
 fits-in Two x f = in-width 32767 x (f .sfits)
 fits-in Four x f = in-width 2147483647 x (f .sfits)
-
--- the number of a size's bytes fits
-part-fits : (z : Size) (s : List ℕ) → Bytes s → sizeOf z ≤ length s → SFits (widthOf z) (toZ (widthOf z) (numberOf (take (sizeOf z) s)))
-part-fits z s b h = by-size z h
-  where
-    l : (k : ℕ) → k ≤ length s → length (take k s) ≡ k
-    l k h = let e = length-take k s in omega arith
-
-    bound : (k : ℕ) → k ≤ length s → numberOf (take k s) < 256 ^ k
-    bound k h = subst (λ (n : ℕ). numberOf (take k s) < 256 ^ n) (l k h) (numberOf-bound (take k s) (part-bytes s 0 k (omega arith) b))
-
-    by-size : (z : Size) → sizeOf z ≤ length s → SFits (widthOf z) (toZ (widthOf z) (numberOf (take (sizeOf z) s)))
-    by-size One h = sfits-toZ {w = w8} (record { fits = bound 1 h })
-    by-size Two h = sfits-toZ {w = w16} (record { fits = bound 2 h })
-    by-size Four h = sfits-toZ {w = w32} (record { fits = bound 4 h })
-
--- Every number of a payload fits its size
-
-unfoldable pub Every : (ℤ → Type 0) → List ℤ → Type 0
-Every P [] = Unit
-Every P (x ∷ xs) = P x × Every P xs
-
-drop-bytes : (s : List ℕ) (k : ℕ) → k ≤ length s → Bytes s → Bytes (drop k s)
-drop-bytes s k h b =
-    let e : take (length s - k) (drop k s) ≡ drop k s = take-all (length s - k) (drop k s) (let l = length-drop k s in omega arith) in
-    subst Bytes e (part-bytes s k (length s - k) (omega arith) b)
-
-first-fit : (z : Size) (n : ℕ) (s : List ℕ) → Bytes s → n * sizeOf z ≤ length s → Every (SFits (widthOf z)) (firstNumbers z n s)
-unfolding Every firstNumbers
-first-fit z zero s b h = tt
-first-fit z (suc n) s b h =
-    let e : suc n * sizeOf z ≡ n * sizeOf z + sizeOf z = omega arith in
-    let l = length-drop (sizeOf z) s in
-    (part-fits z s b (omega arith), first-fit z n (drop (sizeOf z) s) (drop-bytes s (sizeOf z) (omega arith) b) (omega arith))
-
-pub numbers-fit : (z : Size) (s : List ℕ) → Bytes s → Every (SFits (widthOf z)) (numbersIn z s)
-unfolding numbersIn
-numbers-fit z s b = first-fit z (length s / sizeOf z) s b (div-mul-le-self (length s) (sizeOf z))
 
 pub every-in : (r : Range) (P : ℤ → Type 0) → ((x : ℤ) → P x → inRange r x ≡ true) → (xs : List ℤ) → Every P xs → allIn r xs ≡ true
 unfolding Every allIn
@@ -119,7 +78,7 @@ within-all r (some l) h = rw (h l refl)
 -- what is read is what is held
 pub held-read : (f : Form) (s : List ℕ) → Bytes s → heldIn f s ≡ readIn f s
 unfolding heldIn readIn valuesIn
-held-read (Plain z) s b = within-all (rangeOf (Plain z)) (some (numbersIn z s)) (λ l e. let q : numbersIn z s ≡ l = cc in ap (allIn (rangeOf (Plain z))) (sym q) ∙ every-in (rangeOf (Plain z)) (SFits (widthOf z)) (fits-in z) (numbersIn z s) (numbers-fit z s b))
+held-read (Plain z) s b = within-all (rangeOf (Plain z)) (some (numbersIn z s)) (λ l e. let q : numbersIn z s ≡ l = cc in ap (allIn (rangeOf (Plain z))) (sym q) ∙ every-in (rangeOf (Plain z)) (SFits (widthOf z)) (fits-in z) (numbersIn z s) (numbersIn-fit z s b))
 held-read (Packed z) s b = within-all Int32 (unpack z (numbersIn z s)) (λ l e. unpacked-in (upper z) (lower z) (pos 0) false (numbersIn z s) l e)
 held-read (Runs r) s b = refl
 held-read Names s b = refl
@@ -131,8 +90,8 @@ small-exact k (pos n) h m = le-leb n 16777216 (omega arith)
 small-exact k (negsuc n) h m = le-leb (suc n) 16777216 (omega arith)
 
 pub plain-exact : (z : Size) (s : List ℕ) → Bytes s → (z ≡ Four → ⊥) → allExact (numbersIn z s) ≡ true
-plain-exact One s b h = every-exact (SFits w8) (λ x f. small-exact 128 x (omega arith) (f .sfits)) (numbersIn One s) (numbers-fit One s b)
-plain-exact Two s b h = every-exact (SFits w16) (λ x f. small-exact 32768 x (omega arith) (f .sfits)) (numbersIn Two s) (numbers-fit Two s b)
+plain-exact One s b h = every-exact (SFits w8) (λ x f. small-exact 128 x (omega arith) (f .sfits)) (numbersIn One s) (numbersIn-fit One s b)
+plain-exact Two s b h = every-exact (SFits w16) (λ x f. small-exact 32768 x (omega arith) (f .sfits)) (numbersIn Two s) (numbersIn-fit Two s b)
 plain-exact Four s b h = absurd (h refl)
 
 -- the two tests of the code
