@@ -1,16 +1,19 @@
 /*
  * libmmtf.a: an MMTF reader whose calls are proved to meet their contracts.
  *
- * Today: the check of a file's container, and views by name. For x86-64 Linux.
+ * Today: the check of a file's container, views by name, and columns: decoded, encoded, and one cell alone. For x86-64 Linux.
  *
  * Every call takes any bytes and any numbers, and ends with an answer. It keeps nothing between calls, allocates nothing and
- * writes to nothing but its out parameters, so threads may call at the same time. The answer is a refusal number, 0 for none.
- * On refusal no out parameter changes.
+ * writes to nothing but its buffer and its out parameters, so threads may call at the same time. The answer is a refusal
+ * number, 0 for none. On refusal no buffer and no out parameter changes.
  *
  * What the caller keeps, since no call can test it:
- * - A pointer with a length is valid for that many bytes, and nothing writes to them while the call runs. Where the length
- *   is 0 nothing is read through the pointer, and it may be null.
- * - An out parameter points to an object of its type, which is no other out parameter and no part of the file or the name.
+ * - A pointer with a length is valid for that many elements, and nothing else writes to them while the call runs. Where the
+ *   length is 0 nothing is read or written through the pointer, and it may be null.
+ * - A buffer has no element in common with what is read.
+ * - An out parameter points to an object of its type, which is no other out parameter and no part of what is read or of the
+ *   buffer.
+ * - Floats are rounded to nearest, as C starts: mmtf_decode_float32 and mmtf_cell divide.
  * - There is room on the stack: 40 KiB are enough for a call. At twelve levels, the most, 29 KiB were measured.
  */
 #ifndef MMTF_H
@@ -84,6 +87,149 @@ uint8_t mmtf_container(const uint8_t *file, size_t n);
  * container first: it relies on no earlier call.
  */
 uint8_t mmtf_view(const uint8_t *file, size_t n, const uint8_t *name, size_t m, uint64_t *start, uint64_t *length);
+
+/*
+ * Columns. A column is the body of a binary field, as mmtf_view shows it: codec, length and parameter, 32 bits each with a
+ * sign, the highest byte first, and then the payload.
+ *
+ * codec  kind         payload
+ *  1     float32      32-bit floats
+ *  2     int8         8-bit numbers
+ *  3     int16        16-bit numbers
+ *  4     int32        32-bit numbers
+ *  5     strings      names, of the parameter's size each
+ *  6     chars        runs
+ *  7     int32        runs
+ *  8     int32        runs, delta
+ *  9     fixed point  runs; the parameter is the divisor
+ * 10     fixed point  packed 16-bit numbers, delta; the divisor
+ * 11     fixed point  16-bit numbers; the divisor
+ * 12     fixed point  packed 16-bit numbers; the divisor
+ * 13     fixed point  packed 8-bit numbers; the divisor
+ * 14     int32        packed 16-bit numbers
+ * 15     int32        packed 8-bit numbers
+ * 16     int8         runs
+ *
+ * Every decoder checks the column first, and refuses it by the first of these that applies:
+ * - MMTF_COLUMN_SHORT: under 12 bytes.
+ * - MMTF_CODEC_UNKNOWN: the codec is none of the sixteen, or not of the kind that the call decodes.
+ * - MMTF_HEADER_RANGE: the length is not 0 to 16,777,216, the divisor not 1 or more, or the size of names not 1 to 255. A
+ *   parameter that the codec does not use is not looked at.
+ * - MMTF_PAYLOAD_SIZE: the payload does not fill the length (codecs 1 to 5 and 11), or its bytes are no multiple of 8 (runs)
+ *   or odd (packed 16-bit numbers).
+ * - MMTF_NUMBER_NOT_ALLOWED, over the whole payload: a run's count below 1; a character or a byte of a name that is not 0 to
+ *   127; in a name, a byte that is not 0 after one that is; a value of codec 16 that is not -128 to 127; a packed result that
+ *   is unfinished at the end, or whose sum goes outside 32 bits at any of its numbers.
+ * - MMTF_LENGTH_DIFFERS: the payload has more or fewer results than the length says.
+ * - MMTF_NOT_EXACT, by mmtf_decode_float32 only.
+ * - MMTF_BUFFER_TOO_SMALL: there are more elements than the buffer has room for. An empty column needs no room.
+ *
+ * On MMTF_ACCEPTED the buffer begins with the column's elements, *count says how many these are, and every element of the
+ * buffer beyond them is as it was. On refusal the buffer and the out parameters are as they were.
+ */
+
+/* Decodes an int32 column, by codec 4, 7, 8, 14 or 15. The sums of codec 8 wrap modulo 2^32. Room is for so many integers. */
+uint8_t mmtf_decode_int32(const uint8_t *column, size_t n, int32_t *buffer, size_t room, uint64_t *count);
+
+/* Decodes an int8 column, by codec 2 or 16. Each element is -128 to 127, handed over in 32 bits. */
+uint8_t mmtf_decode_int8(const uint8_t *column, size_t n, int32_t *buffer, size_t room, uint64_t *count);
+
+/* Decodes an int16 column, by codec 3. Each element is -32,768 to 32,767, handed over in 32 bits. */
+uint8_t mmtf_decode_int16(const uint8_t *column, size_t n, int32_t *buffer, size_t room, uint64_t *count);
+
+/* Decodes a column of characters, by codec 6. Each element is a byte, 0 to 127. */
+uint8_t mmtf_decode_chars(const uint8_t *column, size_t n, uint8_t *buffer, size_t room, uint64_t *count);
+
+/*
+ * Decodes a column of strings, by codec 5: the bytes of the names, one name after the other, each with its 0 bytes at the
+ * end. The elements are bytes, so that room and *count are in bytes; *count divided by the size is the number of names. The
+ * size is the column's parameter, its bytes 8 to 11 counted from 0.
+ */
+uint8_t mmtf_decode_strings(const uint8_t *column, size_t n, uint8_t *buffer, size_t room, uint64_t *count);
+
+/*
+ * Decodes a fixed point column, by codecs 9 to 13: its integers into the buffer, and its divisor, 1 or more, into *divisor.
+ * The value of an integer is the integer divided by the divisor; nothing is divided here, so that nothing is lost. The sums
+ * of codec 10 wrap modulo 2^32. A column of codec 1 is MMTF_CODEC_UNKNOWN here.
+ */
+uint8_t mmtf_decode_fixed_point(const uint8_t *column, size_t n,
+    int32_t *buffer, size_t room, uint64_t *count, int32_t *divisor);
+
+/*
+ * Decodes a float32 or a fixed point column, by codec 1 or 9 to 13, to floats of single precision. Each element is the 32
+ * bits of a float (IEEE 754 binary32): memcpy makes floats of them.
+ *
+ * Codec 1 keeps every bit, those of a NaN too. Of codecs 9 to 13 each element is one division of integer by divisor, rounded
+ * to nearest, ties to even. It is refused with MMTF_NOT_EXACT, after MMTF_LENGTH_DIFFERS and before MMTF_BUFFER_TOO_SMALL, if
+ * an integer of the column or the divisor is above 16,777,216 in size; by its divisor an empty column too.
+ */
+uint8_t mmtf_decode_float32(const uint8_t *column, size_t n, uint32_t *buffer, size_t room, uint64_t *count);
+
+/* The kinds of a cell. */
+enum mmtf_cell_kind {
+    MMTF_CELL_INTEGER = 1,   /* a number of an int32, int8 or int16 column, in *integer */
+    MMTF_CELL_CHARACTER = 2, /* a character, 0 to 127, in *integer */
+    MMTF_CELL_FLOAT = 3      /* a float of a float32 or fixed point column, in *real */
+};
+
+/*
+ * Asks for the one cell at index, counted from 0, of a column of any kind but strings.
+ *
+ * Answers MMTF_ACCEPTED with *kind as above and the value in *integer or in *real; the other of the two is as it was. Else no
+ * out parameter has changed, and the answer is the first of these that applies:
+ * - The column's own number, MMTF_COLUMN_SHORT to MMTF_LENGTH_DIFFERS in the order above, for the whole column.
+ * - MMTF_CODEC_UNKNOWN: a column of strings.
+ * - MMTF_NO_SUCH_ENTRY: the index is not below the column's length.
+ * - MMTF_NOT_EXACT: of a fixed point column, this cell's integer or the divisor is above 16,777,216 in size. The integers of
+ *   other cells do not count.
+ *
+ * A NaN of codec 1 comes as a NaN, but its payload bits are not kept: mmtf_decode_float32 keeps them. Every other float of
+ * codec 1 comes with its bits.
+ */
+uint8_t mmtf_cell(const uint8_t *column, size_t n, uint64_t index, uint8_t *kind, int32_t *integer, float *real);
+
+/*
+ * Every encoder writes a column by the codec asked for: the 12 bytes of the header and the payload, with no MessagePack head.
+ * Runs are the longest, packing takes the limit of the value's own sign while the rest reaches it, and a parameter that the
+ * codec does not use is 0. What is written is decoded to the same elements. It refuses by the first of these that applies:
+ * - MMTF_CODEC_UNKNOWN: the codec is none of the sixteen, or not of the kind that the call encodes.
+ * - MMTF_HEADER_RANGE: more than 16,777,216 results (of strings, names), a divisor below 1, a size of names that is not 1 to
+ *   255, or bytes of names that are no multiple of the size.
+ * - MMTF_NUMBER_NOT_ALLOWED: an element that the codec cannot hold, as each call says.
+ * - MMTF_BUFFER_TOO_SMALL: the column has more bytes than the buffer has room for.
+ *
+ * On MMTF_ACCEPTED the buffer begins with the column, *written says how many bytes it has, and every byte of the buffer
+ * beyond is as it was. On refusal the buffer and *written are as they were.
+ */
+
+/* Encodes m integers as an int32 column, by codec 4, 7, 8, 14 or 15. Each of them holds every integer. */
+uint8_t mmtf_encode_int32(int32_t codec, const int32_t *values, size_t m, uint8_t *buffer, size_t room, uint64_t *written);
+
+/* Encodes m integers as an int8 column, by codec 2 or 16. MMTF_NUMBER_NOT_ALLOWED: one is not -128 to 127. */
+uint8_t mmtf_encode_int8(int32_t codec, const int32_t *values, size_t m, uint8_t *buffer, size_t room, uint64_t *written);
+
+/* Encodes m integers as an int16 column, by codec 3. MMTF_NUMBER_NOT_ALLOWED: one is not -32,768 to 32,767. */
+uint8_t mmtf_encode_int16(int32_t codec, const int32_t *values, size_t m, uint8_t *buffer, size_t room, uint64_t *written);
+
+/* Encodes m characters, by codec 6. MMTF_NUMBER_NOT_ALLOWED: one is above 127. */
+uint8_t mmtf_encode_chars(int32_t codec, const uint8_t *values, size_t m, uint8_t *buffer, size_t room, uint64_t *written);
+
+/*
+ * Encodes names of size bytes each, m bytes in all, one name after the other, by codec 5. MMTF_NUMBER_NOT_ALLOWED: a byte is
+ * above 127, or not 0 after a 0 in the same name.
+ */
+uint8_t mmtf_encode_strings(int32_t codec, int32_t size, const uint8_t *bytes, size_t m,
+    uint8_t *buffer, size_t room, uint64_t *written);
+
+/*
+ * Encodes m integers and their divisor as a fixed point column, by codecs 9 to 13. MMTF_NUMBER_NOT_ALLOWED: by codec 11, one
+ * is not -32,768 to 32,767. The others hold every integer.
+ */
+uint8_t mmtf_encode_fixed_point(int32_t codec, int32_t divisor, const int32_t *values, size_t m,
+    uint8_t *buffer, size_t room, uint64_t *written);
+
+/* Encodes m floats, given as their 32 bits, by codec 1. It holds all of them, bit for bit. */
+uint8_t mmtf_encode_float32(int32_t codec, const uint32_t *bits, size_t m, uint8_t *buffer, size_t room, uint64_t *written);
 
 #ifdef __cplusplus
 }

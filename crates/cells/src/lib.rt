@@ -91,13 +91,10 @@ fn value_of(kind: Kind, m: u32, x: i32) -> Cell
 fn quotient_cell(x: i32, divisor: u32) -> Cell
     ensures { λ r. ⌜ r ≡ quotientCell divisor x ⌝ }
 {
-    if !payloads::is_exact(x) {
-        return Cell::Refused(refusal::NOT_EXACT);
+    if floats::are_exact(payloads::is_exact(x), divisor) {
+        return Cell::Float((x as f32) / (divisor as f32));
     }
-    if !floats::is_exact_divisor(divisor) {
-        return Cell::Refused(refusal::NOT_EXACT);
-    }
-    Cell::Float((x as f32) / (divisor as f32))
+    Cell::Refused(refusal::NOT_EXACT)
 }
 
 // The lowest byte of a number.

@@ -16,6 +16,7 @@ ghost use Rattle.payloads.specs.Laws.Writing.{Filled, HasRoom};
 ghost use Rattle.decoding.specs.Calls.{told, toldFixed, left, asNumber, asByte, countOf, Wrote, mayFollow};
 use codecs::Form;
 use codecs::Size;
+use codecs::Turn;
 use columns::Header;
 use columns::Kind;
 use columns::Wanted;
@@ -164,9 +165,9 @@ fn put_integers(payload: &[u8], form: Form, delta: bool, buffer: &mut [i32])
             Size::Four => write_integers(payload, Form::Plain(Size::Four), delta, buffer),
         },
         Form::Packed(size) => match size {
-            Size::One => write_integers(payload, Form::Packed(Size::One), delta, buffer),
-            Size::Two => write_integers(payload, Form::Packed(Size::Two), delta, buffer),
-            Size::Four => write_integers(payload, Form::Packed(Size::Four), delta, buffer),
+            Size::One => write_packed(payload, Size::One, delta, buffer),
+            Size::Two => write_packed(payload, Size::Two, delta, buffer),
+            Size::Four => write_packed(payload, Size::Four, delta, buffer),
         },
         Form::Runs(range) => write_integers(payload, Form::Runs(range), delta, buffer),
         Form::Names => write_integers(payload, Form::Names, delta, buffer),
@@ -192,6 +193,36 @@ fn write_integers(payload: &[u8], form: Form, delta: bool, buffer: &mut [i32])
                 return;
             }
             Item::End => {
+                return;
+            }
+        }
+    }
+}
+
+// Writes the results of packed numbers, number by number.
+fn write_packed(payload: &[u8], size: Size, delta: bool, buffer: &mut [i32])
+    requires { ⌜ HasRoom (Form.Packed size) (now payload) (length (now buffer)) ⌝ }
+    ensures { λ r. ⌜ Wrote asNumber (Form.Packed size) delta (now (payload .entry)) (now (buffer .entry)) (now (buffer .exit)) ⌝ }
+{
+    let k = codecs::bytes(size);
+    let mut i: usize = 0;
+    let mut o: usize = 0;
+    let mut part: i32 = 0;
+    let mut sum: i32 = 0;
+    while k <= payload.len() - i {
+        let number = codecs::number_at(payload, i, size);
+        i += k;
+        match codecs::unpack_one(part, number, size) {
+            Turn::More(s) => {
+                part = s;
+            }
+            Turn::Done(s) => {
+                sum = next_result(sum, s, delta);
+                buffer[o] = sum;
+                o += 1;
+                part = 0;
+            }
+            Turn::Wrong => {
                 return;
             }
         }

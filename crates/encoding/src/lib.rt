@@ -21,6 +21,9 @@ use columns::Parameter;
 use columns::Wanted;
 use writers::Placed;
 
+// The bytes of a header, which the payload follows.
+const HEADER_BYTES: usize = 12;
+
 // What an encoder says: how many bytes it wrote, or a refusal number.
 pub enum Encoded {
     Written(usize),
@@ -80,7 +83,7 @@ pub fn encode_chars(codec: i32, values: &[u8], buffer: &mut [u8]) -> Encoded
     match make_plan(number, 0, values.len(), Wanted::Only(Kind::Chars)) {
         Plan::Refused(r) => Encoded::Refused(r),
         Plan::Good(_, _, length, parameter) => {
-            let placed = write_runs::place_chars(values, buffer, 12);
+            let placed = write_runs::place_chars(values, buffer, HEADER_BYTES);
             finish(placed, number, length, parameter, buffer)
         }
     }
@@ -96,7 +99,7 @@ pub fn encode_strings(codec: i32, size: i32, names: &[u8], buffer: &mut [u8]) ->
     match make_plan(number, bytes, names.len(), Wanted::Only(Kind::Strings)) {
         Plan::Refused(r) => Encoded::Refused(r),
         Plan::Good(_, _, length, parameter) => {
-            let placed = write_plain::place_names(names, bytes as usize, buffer, 12);
+            let placed = write_plain::place_names(names, bytes as usize, buffer, HEADER_BYTES);
             finish(placed, number, length, parameter, buffer)
         }
     }
@@ -111,7 +114,7 @@ pub fn encode_float32(codec: i32, bits: &[u32], buffer: &mut [u8]) -> Encoded
     match make_plan(number, 0, bits.len(), Wanted::Only(Kind::Float32)) {
         Plan::Refused(r) => Encoded::Refused(r),
         Plan::Good(_, _, length, parameter) => {
-            let placed = write_plain::place_floats(bits, buffer, 12);
+            let placed = write_plain::place_floats(bits, buffer, HEADER_BYTES);
             finish(placed, number, length, parameter, buffer)
         }
     }
@@ -146,9 +149,15 @@ fn place(values: &[i32], form: Form, delta: bool, buffer: &mut [u8]) -> Placed
     ensures buffer { λ r. ⌜ now (buffer .exit) ≡ laid (allowed form 0 (now (values .entry))) (payloadOf form delta (now (values .entry))) (now (buffer .entry)) 12 ⌝ }
 {
     match form {
-        Form::Plain(size) => write_plain::place_numbers(values, size, buffer, 12),
-        Form::Packed(size) => write_packed::place_numbers(values, size, delta, buffer, 12),
-        Form::Runs(range) => write_runs::place_numbers(values, range, delta, buffer, 12),
+        Form::Plain(size) => write_plain::place_numbers(values, size, buffer, HEADER_BYTES),
+        Form::Packed(size) => write_packed::place_numbers(
+            values,
+            size,
+            delta,
+            buffer,
+            HEADER_BYTES,
+        ),
+        Form::Runs(range) => write_runs::place_numbers(values, range, delta, buffer, HEADER_BYTES),
         Form::Names => Placed::NotAllowed,
     }
 }
@@ -234,7 +243,7 @@ fn finish(placed: Placed, codec: u32, count: u32, parameter: u32, buffer: &mut [
         Placed::NoRoom => Encoded::Refused(refusal::BUFFER_TOO_SMALL),
         Placed::Bytes(n) => {
             write_header(buffer, codec, count, parameter);
-            Encoded::Written(12 + n)
+            Encoded::Written(HEADER_BYTES + n)
         }
     }
 }

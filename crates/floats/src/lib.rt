@@ -2,7 +2,7 @@
 // Codec 1 keeps its bits; each integer of codecs 9 to 13 is divided once. On success the buffer begins with the column and everything
 // beyond is unchanged; on refusal nothing has changed.
 ghost use mathlib.Core.Path.{_≡_};
-ghost use mathlib.Core.Bool.{true, false};
+ghost use mathlib.Core.Bool.{true, false, _&&_};
 ghost use Prim.Native.Nat.{_+_, _≤_};
 ghost use lib.ListN.{length, replicate};
 ghost use lib.IntN.{pos};
@@ -54,11 +54,14 @@ pub fn of_bits(bits: u32) -> f32
     }
 }
 
-// Whether a divisor is exact in single precision.
-pub fn is_exact_divisor(divisor: u32) -> bool
-    ensures { λ r. ⌜ r ≡ exact (pos divisor) ⌝ }
+// Whether cells, of which it is known, and a divisor are exact in single precision.
+pub fn are_exact(cells: bool, divisor: u32) -> bool
+    ensures { λ r. ⌜ r ≡ (cells && exact (pos divisor)) ⌝ }
 {
-    divisor <= 16777216
+    if cells {
+        return divisor <= 16777216;
+    }
+    false
 }
 
 // The floats of a payload of codec 1 whose header passed.
@@ -69,11 +72,11 @@ fn kept_in(payload: &[u8], n: usize, m: u32, buffer: &mut [u32]) -> Floats
     match payloads::scan(payload, Form::Plain(Size::Four), false, n, 0) {
         Outcome::Refused(r) => Floats::Refused(r),
         Outcome::Fine(_, _) => {
-            if buffer.len() < n {
-                return Floats::Refused(refusal::BUFFER_TOO_SMALL);
+            if n <= buffer.len() {
+                write_kept(payload, buffer);
+                return Floats::Count(n);
             }
-            write_kept(payload, buffer);
-            Floats::Count(n)
+            Floats::Refused(refusal::BUFFER_TOO_SMALL)
         }
     }
 }
@@ -108,10 +111,8 @@ fn quotients_in(
     match payloads::scan(payload, form, delta, n, 0) {
         Outcome::Refused(r) => Floats::Refused(r),
         Outcome::Fine(exact, _) => {
-            if !exact {
-                return Floats::Refused(refusal::NOT_EXACT);
-            }
-            if !is_exact_divisor(m) {
+            let fine = are_exact(exact, m);
+            if !fine {
                 return Floats::Refused(refusal::NOT_EXACT);
             }
             if buffer.len() < n {

@@ -4,3 +4,4 @@ pub mod Scan
 pub mod Plain
 pub mod Writing
 pub mod Judged
+pub mod Packed

@@ -1,11 +1,12 @@
 // A column's payload, read in one pass: whether its numbers are allowed (18) and as many as the header says (19), whether its results
 // are exact in single precision, and one result of it. A run of any length costs one turn, so that time is linear in the bytes.
 ghost use mathlib.Core.Path.{_≡_};
-ghost use mathlib.Core.Bool.{true, false, _&&_, _||_};
+ghost use mathlib.Core.Bool.{true, false, cond, _&&_, _||_};
 ghost use Prim.Native.Nat.{_-_, _≤_, _<_};
 ghost use lib.ListN.{length};
 ghost use Rattle.payloads.specs.Held.{heldIn, exact};
 ghost use Rattle.payloads.specs.Scan.{scanOf, judgesExact};
+ghost use Rattle.payloads.specs.Laws.Scan.{advance};
 ghost use Rattle.payloads.specs.Items.{readIn, Gives, plusTimes, afterRun, cellAfter, passRun, finished};
 use codecs::Form;
 use codecs::Range;
@@ -49,9 +50,9 @@ pub fn scan(payload: &[u8], form: Form, delta: bool, length: usize, index: usize
             scan_plain(payload, size, length, index)
         }
         Form::Packed(size) => match size {
-            Size::One => scan_items(payload, Form::Packed(Size::One), delta, length, index),
-            Size::Two => scan_items(payload, Form::Packed(Size::Two), delta, length, index),
-            Size::Four => scan_items(payload, Form::Packed(Size::Four), delta, length, index),
+            Size::One => scan_packed(payload, Size::One, delta, length, index),
+            Size::Two => scan_packed(payload, Size::Two, delta, length, index),
+            Size::Four => scan_packed(payload, Size::Four, delta, length, index),
         },
         Form::Runs(range) => scan_items(payload, Form::Runs(range), delta, length, index),
         Form::Names => scan_items(payload, Form::Names, delta, length, index),
@@ -126,6 +127,64 @@ fn scan_items(payload: &[u8], form: Form, delta: bool, length: usize, index: usi
             }
         }
     }
+}
+
+// The same for packed numbers, number by number.
+fn scan_packed(payload: &[u8], size: Size, delta: bool, length: usize, index: usize) -> Outcome
+    ensures { λ r. ⌜ r ≡ scanOf (Form.Packed size) delta length index (readIn (Form.Packed size) (now (payload .entry))) ⌝ }
+{
+    let k = codecs::bytes(size);
+    let mut i: usize = 0;
+    let mut part: i32 = 0;
+    let mut begun = false;
+    let mut count: usize = 0;
+    let mut sum: i32 = 0;
+    let mut exact = true;
+    let mut cell: i32 = 0;
+    while k <= payload.len() - i {
+        let number = codecs::number_at(payload, i, size);
+        i += k;
+        match codecs::unpack_one(part, number, size) {
+            Turn::More(s) => {
+                part = s;
+                begun = true;
+            }
+            Turn::Done(s) => {
+                sum = after_one(sum, s, delta);
+                exact = both(exact, is_exact(sum));
+                cell = choose(count == index, sum, cell);
+                count += 1;
+                part = 0;
+                begun = false;
+            }
+            Turn::Wrong => {
+                return Outcome::Refused(refusal::NUMBER_NOT_ALLOWED);
+            }
+        }
+    }
+    if begun {
+        return Outcome::Refused(refusal::NUMBER_NOT_ALLOWED);
+    }
+    if count != length {
+        return Outcome::Refused(refusal::LENGTH_DIFFERS);
+    }
+    Outcome::Fine(exact, cell)
+}
+
+// The result after `sum`, by a value.
+fn after_one(sum: i32, value: i32, delta: bool) -> i32
+    ensures { λ r. ⌜ r ≡ advance delta sum value ⌝ }
+{
+    if delta {
+        return codecs::add_delta(sum, value);
+    }
+    value
+}
+
+fn choose(test: bool, a: i32, b: i32) -> i32
+    ensures { λ r. ⌜ r ≡ cond test a b ⌝ }
+{
+    if test { a } else { b }
 }
 
 // What a tally says at the payload's end.

@@ -3,6 +3,7 @@ ghost use mathlib.Core.Path.{_≡_};
 ghost use mathlib.Core.List.{[], _∷_, _++_};
 ghost use Prim.Native.Nat.{_+_, _-_, _%_, _<_, _≤_};
 ghost use lib.ListN.{length, replicate};
+ghost use lib.Dec.{ltb};
 ghost use Rattle.numbers.specs.BigEndian.{bytesOf};
 ghost use Rattle.codecs.specs.Width.{sizeOf, upper, lower};
 ghost use Rattle.codecs.specs.Numbers.{bytesFor};
@@ -81,6 +82,16 @@ fn count_numbers(values: &[i32], size: Size, delta: bool, room: usize) -> usize
 fn count_one(x: i32, size: Size) -> usize
     ensures { λ r. ⌜ (r ≡ length (packOne (upper size) (lower size) x)) × (r ≤ 4294967296) ⌝ }
 {
+    if is_short(numbers::to_u32(x), size) {
+        return 1;
+    }
+    count_long(x, size)
+}
+
+// The same for any value: a limit for each time that the value reaches it, and the rest.
+fn count_long(x: i32, size: Size) -> usize
+    ensures { λ r. ⌜ (r ≡ length (packOne (upper size) (lower size) x)) × (r ≤ 4294967296) ⌝ }
+{
     let bits = numbers::to_u32(x);
     if bits < 0x8000_0000 {
         return wide(bits / most(size)) + 1;
@@ -106,6 +117,20 @@ fn write_numbers(values: &[i32], size: Size, delta: bool, buffer: &mut [u8], sta
 
 // One packed value from `at` on; gives the place after it.
 fn write_one(x: i32, size: Size, buffer: &mut [u8], at: usize) -> usize
+    requires { ⌜ at + length (bytesFor size (packOne (upper size) (lower size) x)) ≤ length (now buffer) ⌝ }
+    ensures place { λ r. ⌜ r ≡ at + length (bytesFor size (packOne (upper size) (lower size) x)) ⌝ }
+    ensures buffer { λ r. ⌜ now (buffer .exit) ≡ over (now (buffer .entry)) at (bytesFor size (packOne (upper size) (lower size) x)) ⌝ }
+{
+    let bits = numbers::to_u32(x);
+    if is_short(bits, size) {
+        put(buffer, at, bits, size);
+        return at + codecs::bytes(size);
+    }
+    write_long(x, size, buffer, at)
+}
+
+// The same for any value.
+fn write_long(x: i32, size: Size, buffer: &mut [u8], at: usize) -> usize
     requires { ⌜ at + length (bytesFor size (packOne (upper size) (lower size) x)) ≤ length (now buffer) ⌝ }
     ensures place { λ r. ⌜ r ≡ at + length (bytesFor size (packOne (upper size) (lower size) x)) ⌝ }
     ensures buffer { λ r. ⌜ now (buffer .exit) ≡ over (now (buffer .entry)) at (bytesFor size (packOne (upper size) (lower size) x)) ⌝ }
@@ -170,6 +195,14 @@ fn low_half(number: u32) -> u16
     ensures { λ r. ⌜ r ≡ number % 65536 ⌝ }
 {
     (number % 65536) as u16
+}
+
+// Whether the bits are of a value that is one number of its size: between the limits, by one test.
+fn is_short(bits: u32, size: Size) -> bool
+    ensures { λ r. ⌜ r ≡ ltb ((bits + (lower size - 1)) % 4294967296) (upper size + (lower size - 1)) ⌝ }
+{
+    let q = least(size) - 1;
+    std::num::wrapping_add_u32(bits, q) < most(size) + q
 }
 
 // The largest number of a size.

@@ -154,11 +154,11 @@ fn write_chars(values: &[u8], buffer: &mut [u8], start: usize)
     put_run(buffer, at, v, n);
 }
 
-// How many runs the cell x begins after the cell v.
-fn begun(x: u32, v: u32) -> usize
-    ensures { λ r. ⌜ (r ≡ cond (eqb x v) 0 1) × (r ≤ 1) ⌝ }
+// How many runs a cell begins after another.
+fn begun(cell: u32, last: u32) -> usize
+    ensures { λ r. ⌜ (r ≡ cond (eqb cell last) 0 1) × (r ≤ 1) ⌝ }
 {
-    if x == v { 0 } else { 1 }
+    if cell == last { 0 } else { 1 }
 }
 
 // Whether n runs from `at` on are inside a buffer.

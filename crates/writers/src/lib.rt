@@ -44,45 +44,40 @@ pub fn all_in(values: &[i32], range: Range) -> bool
 fn each_in(values: &[i32], range: Range) -> bool
     ensures { λ r. ⌜ r ≡ allIn range (now (values .entry)) ⌝ }
 {
+    let mut ok = true;
     let mut i: usize = 0;
     while i < values.len() {
-        if !codecs::is_in(values[i], range) {
-            return false;
-        }
+        ok = ok & codecs::is_in(values[i], range);
         i += 1;
     }
-    true
+    ok
 }
 
 // Whether every byte is ASCII.
 pub fn all_ascii(values: &[u8]) -> bool
     ensures { λ r. ⌜ r ≡ allIn Range.Ascii (map pos (now (values .entry))) ⌝ }
 {
+    let mut ok = true;
     let mut i: usize = 0;
     while i < values.len() {
-        if 127 < values[i] {
-            return false;
-        }
+        let b = values[i];
+        ok = ok & (b <= 127);
         i += 1;
     }
-    true
+    ok
 }
 
 // Whether names of `size` bytes each are ASCII and padded. `place` is the next byte's place in its name, `before` the byte before it.
 pub fn are_names(names: &[u8], size: usize) -> bool
     ensures { λ r. ⌜ r ≡ allowed Form.Names size (map pos (now (names .entry))) ⌝ }
 {
+    let mut ok = true;
     let mut before: u8 = 0;
     let mut place: usize = 0;
     let mut i: usize = 0;
     while i < names.len() {
         let b = names[i];
-        if 127 < b {
-            return false;
-        }
-        if !may_follow(place, before, b) {
-            return false;
-        }
+        ok = ok & (b <= 127) & may_follow(place, before, b);
         before = b;
         i += 1;
         place += 1;
@@ -90,20 +85,14 @@ pub fn are_names(names: &[u8], size: usize) -> bool
             place = 0;
         }
     }
-    true
+    ok
 }
 
 // Whether a byte may stand at a place in its name: the first, after a byte that is not 0, or as padding.
 fn may_follow(place: usize, before: u8, b: u8) -> bool
     ensures { λ r. ⌜ r ≡ (eqb place 0 || not (eqb before 0) || eqb b 0) ⌝ }
 {
-    if place == 0 {
-        return true;
-    }
-    if before != 0 {
-        return true;
-    }
-    b == 0
+    (place == 0) | (before != 0) | (b == 0)
 }
 
 // What a payload holds for a cell, by the cell before it.

@@ -1,52 +1,49 @@
--- 27 where the number or the divisor is not exact; else both may be converted (`exact-in`).
-use mathlib.Core.Path.{sym, ap, _∙_}
-use mathlib.Core.Bool.{not}
+-- Where number and divisor are exact both may be converted (`exact-in`), else 27.
+use mathlib.Core.Path.{_≡_, sym, ap, _∙_}
+use mathlib.Core.Bool.{Bool, true, _&&_}
 use lib.IntN.{ℤ, pos}
 use mir.Syntax.{w32}
 use mir.Facts.{toZ-ofZ}
 use borrow.Author.Needs.{needs}
 use Rattle.payloads.specs.Held.{exact}
-use Rattle.floats.specs.Laws.Tests.{not-true, not-false}
 use Rattle.floats.specs.Calls.{quotient}
+use Rattle.floats.specs.Laws.Tests.{and-both}
 use Rattle.floats.specs.Laws.Quotient.{exact-in}
 use Rattle.cells.specs.declared.Cell.the-variants.{Float}
 use Rattle.cells.proofs.quotient_cell.Statement.{statement}
 use Rattle.cells.proofs.quotient_cell.Tie as tie
 
-returns : tie.Need-returns
-returns c =
+-- the test that was made
+tested : (c : tie.After-are-exact) → (exact (c .before .before .args .x) && exact (pos (c .before .before .args .divisor))) ≡ c .are-exact .result
+tested c =
     let a = c .before .before in
-    let x = ap exact (sym (toZ-ofZ {w = w32} (a .fits .x))) ∙ sym (c .before .is-exact .ensures) ∙ not-true _ (c .if1 .taken) in
-    rw x
+    sym (c .are-exact .ensures ∙ ap (λ (t : Bool). t && exact (pos (a .args .divisor))) (c .before .is-exact .ensures ∙ ap exact (toZ-ofZ {w = w32} (a .fits .x))))
 
-returns-2 : tie.Need-returns-2
-returns-2 c =
-    let a = c .before .before .before .before in
-    let x = ap exact (sym (toZ-ofZ {w = w32} (a .fits .x))) ∙ sym (c .before .before .before .is-exact .ensures) ∙ not-false _ (c .before .before .if1 .left) in
-    let d = sym (c .before .is-exact-divisor .ensures) ∙ not-true _ (c .if2 .taken) in
-    rw (x, d)
+both : (c : tie.Then1) → (exact (c .before .before .before .args .x) ≡ true) × (exact (pos (c .before .before .before .args .divisor)) ≡ true)
+both c = and-both _ _ (tested (c .before) ∙ c .if1 .taken)
 
 int-to-float-t5 : tie.Need-int-to-float-t5
-int-to-float-t5 c = exact-in _ (sym (c .before .before .before .before .is-exact .ensures) ∙ not-false _ (c .before .before .before .if1 .left))
+int-to-float-t5 c = let a = c .before .before .before .before in rw (toZ-ofZ {w = w32} (a .fits .x)) (exact-in (a .args .x) (both (c .before) .0))
 
 int-to-float-t6 : tie.Need-int-to-float-t6
-int-to-float-t6 c = exact-in (pos (c .before .before .before .before .before .before .args .divisor)) (sym (c .before .before .before .is-exact-divisor .ensures) ∙ not-false _ (c .before .before .if2 .left))
+int-to-float-t6 c = exact-in (pos (c .before .before .before .before .before .args .divisor)) (both (c .before .before) .1)
 
-returns-3 : tie.Need-returns-3
-returns-3 c =
-    let a = c .before .before .before .before .before .before in
-    let x = ap exact (sym (toZ-ofZ {w = w32} (a .fits .x))) ∙ sym (c .before .before .before .before .before .is-exact .ensures) ∙ not-false _ (c .before .before .before .before .if1 .left) in
-    let d = sym (c .before .before .before .is-exact-divisor .ensures) ∙ not-false _ (c .before .before .if2 .left) in
-    rw (x, d) (ap (λ (z : ℤ). Float (quotient z (pos (a .args .divisor)))) (toZ-ofZ {w = w32} (a .fits .x)))
+returns : tie.Need-returns
+returns c =
+    let a = c .before .before .before .before .before in
+    let e = tested (c .before .before .before) ∙ c .before .before .if1 .taken in
+    rw e (ap (λ (z : ℤ). Float (quotient z (pos (a .args .divisor)))) (toZ-ofZ {w = w32} (a .fits .x)))
+
+returns-2 : tie.Need-returns-2
+returns-2 c = let e = tested (c .before) ∙ c .if1 .left in rw e
 
 pub quotient-cell-spec : {M : Type 1} → statement M
 quotient-cell-spec =
     tie.close
     (tie.spec
     (λ c κs. search needs)
-    returns
     (λ c κs. search needs)
-    returns-2
     int-to-float-t5
     int-to-float-t6
-    returns-3)
+    returns
+    returns-2)

@@ -21,14 +21,14 @@ held c =
     let b = bytes-of (a .payload .now) (λ i. omega (arith, c .before .before .before .before .shared-slice-known .given i)) in
     scan-fine (a .n) (a .m) kind.Float32 (Plain Four) false 0 (a .payload .now) refl b (c .enum-told .given .0 .0) (c .enum-told .given .0 .1 .0) (sym (c .before .before .scan .ensures) ∙ c .enum-told .given .1)
 
-returns : tie.Need-returns
-returns c =
-    let a = c .before .before .before .before .before .before .args in
-    let k = c .before .enum-told .given .0 in
-    answer-short (a .n) (a .m) kind.Float32 (Plain Four) false 0 (a .payload .now) refl (k .0) (k .1 .0) (held (c .before)) (a .buffer .now) refl (c .if1 .taken)
-
 write-kept-requires : tie.Need-write-kept-requires
 write-kept-requires c κs = let h = held (c .before .before) in (h .0, h .1, omega arith)
+
+returns : tie.Need-returns
+returns c =
+    let a = c .before .before .before .before .before .before .before .before .before .before .args in
+    let k = c .before .before .before .before .before .enum-told .given .0 in
+    answer-count (a .n) (a .m) kind.Float32 (Plain Four) false 0 (a .payload .now) refl (k .0) (k .1 .0) (held (c .before .before .before .before .before)) (a .buffer .now) refl (c .before .before .write-kept .last .1 .0) (c .before .before .before .before .if1 .taken) (c .before .before .write-kept .ensures)
 
 returns-2 : tie.Need-returns-2
 returns-2 c =
@@ -38,9 +38,9 @@ returns-2 c =
 
 returns-3 : tie.Need-returns-3
 returns-3 c =
-    let a = c .before .before .before .before .before .before .before .before .before .before .args in
-    let k = c .before .before .before .before .before .enum-told .given .0 in
-    answer-count (a .n) (a .m) kind.Float32 (Plain Four) false 0 (a .payload .now) refl (k .0) (k .1 .0) (held (c .before .before .before .before .before)) (a .buffer .now) refl (c .before .before .write-kept .last .1 .0) (c .before .before .before .before .if1 .left) (c .before .before .write-kept .ensures)
+    let a = c .before .before .before .before .before .before .args in
+    let k = c .before .enum-told .given .0 in
+    answer-short (a .n) (a .m) kind.Float32 (Plain Four) false 0 (a .payload .now) refl (k .0) (k .1 .0) (held (c .before)) (a .buffer .now) refl (c .if1 .left)
 
 pub kept-in-spec : {M : Type 1} → statement M
 kept-in-spec =
@@ -49,8 +49,8 @@ kept-in-spec =
     (λ c κs. search needs)
     (λ c. search needs)
     (λ c. search needs)
-    returns
     write-kept-requires
-    returns-2
     (λ c. search needs)
+    returns
+    returns-2
     returns-3)

@@ -1,6 +1,6 @@
--- 18 and 19 by the scan, 27 by its answer and by the divisor, then 25, and the quotients (`answer-count`).
-use mathlib.Core.Path.{_≡_, refl, sym, ap, ap₂, _∙_}
-use mathlib.Core.Bool.{Bool, false, not, _&&_}
+-- 18 and 19 by the scan, 27 by its answer and by the divisor (`both`), then 25, and the quotients (`answer-count`).
+use mathlib.Core.Path.{_≡_, refl, sym, ap, _∙_}
+use mathlib.Core.Bool.{Bool, true, false, not, _&&_}
 use native.Mathlib.Omega.{arith}
 use lib.IntN.{pos}
 use borrow.Author.Needs.{needs}
@@ -10,7 +10,7 @@ use Rattle.codecs.specs.Payload.{valuesIn}
 use Rattle.columns.specs.declared.Kind.the-variants as kind
 use Rattle.columns.specs.Decode.{judgedValues}
 use Rattle.payloads.specs.Held.{exact, allExact}
-use Rattle.floats.specs.Laws.Tests.{not-true, not-false}
+use Rattle.floats.specs.Laws.Tests.{and-both, not-true, not-false}
 use Rattle.floats.specs.Laws.Table.{exact-names}
 use Rattle.floats.specs.Laws.Quotient.{exact-in, divisor-positive}
 use Rattle.floats.specs.Laws.Calls.{Holds, scan-refused, scan-fine, holds-exact, all-results, answer-refused, answer-inexact, answer-short, answer-count}
@@ -29,51 +29,52 @@ held c =
 cells : (c : tie.After-exact) → allExact (sumsIf (c .before .before .before .before .before .args .delta) (held c .0)) ≡ c .exact .given .0 .0
 cells c = let a = c .before .before .before .before .before in holds-exact (a .args .n) (a .args .m) kind.FixedPoint (a .args .form) (a .args .delta) 0 (a .args .payload .now) (exact-names (a .args .form) (a .args .delta) (a .pre .0)) (c .exact .given .0 .0) (c .exact .given .0 .1 .0) (held c) (a .pre .0)
 
--- cells and divisor are
-fine : (c : tie.Else2) → (not (allExact (sumsIf (c .before .before .before .before .before .before .before .before .before .args .delta) (held (c .before .before .before .before) .0)) && exact (pos (c .before .before .before .before .before .before .before .before .before .args .m)))) ≡ false
-fine c = ap₂ (λ (x y : Bool). not (x && y)) (cells (c .before .before .before .before) ∙ not-false _ (c .before .before .if1 .left)) (sym (c .before .is-exact-divisor .ensures) ∙ not-false _ (c .if2 .left))
+-- and so are cells and divisor
+both : (c : tie.After-are-exact) → (allExact (sumsIf (c .before .before .before .before .before .before .before .args .delta) (held (c .before .before) .0)) && exact (pos (c .before .before .before .before .before .before .before .args .m))) ≡ c .are-exact .result
+both c = ap (λ (x : Bool). x && exact (pos (c .before .before .before .before .before .before .before .args .m))) (cells (c .before .before)) ∙ sym (c .are-exact .ensures)
+
+fine : (c : tie.Else1) → not (allExact (sumsIf (c .before .before .before .before .before .before .before .before .args .delta) (held (c .before .before .before) .0)) && exact (pos (c .before .before .before .before .before .before .before .before .args .m))) ≡ false
+fine c = ap not (both (c .before)) ∙ c .if1 .left
+
+-- each of them
+parts : (c : tie.Else1) → (allExact (sumsIf (c .before .before .before .before .before .before .before .before .args .delta) (held (c .before .before .before) .0)) ≡ true) × (exact (pos (c .before .before .before .before .before .before .before .before .args .m)) ≡ true)
+parts c = and-both _ _ (both (c .before) ∙ not-false _ (c .if1 .left))
 
 returns : tie.Need-returns
 returns c =
-    let a = c .before .before .before .before .before .before .before in
-    let k = c .before .before .exact .given .0 in
-    answer-inexact (a .args .n) (a .args .m) kind.FixedPoint (a .args .form) (a .args .delta) 0 (a .args .payload .now) (exact-names (a .args .form) (a .args .delta) (a .pre .0)) (k .0) (k .1 .0) (held (c .before .before)) (a .args .buffer .now) refl (ap (λ (x : Bool). x && exact (pos (a .args .m))) (cells (c .before .before) ∙ not-true _ (c .if1 .taken)))
+    let a = c .before .before .before .before .before .before .before .before in
+    let k = c .before .before .before .exact .given .0 in
+    answer-inexact (a .args .n) (a .args .m) kind.FixedPoint (a .args .form) (a .args .delta) 0 (a .args .payload .now) (exact-names (a .args .form) (a .args .delta) (a .pre .0)) (k .0) (k .1 .0) (held (c .before .before .before)) (a .args .buffer .now) refl (both (c .before) ∙ not-true _ (c .if1 .taken))
 
 returns-2 : tie.Need-returns-2
 returns-2 c =
     let a = c .before .before .before .before .before .before .before .before .before in
     let k = c .before .before .before .before .exact .given .0 in
-    answer-inexact (a .args .n) (a .args .m) kind.FixedPoint (a .args .form) (a .args .delta) 0 (a .args .payload .now) (exact-names (a .args .form) (a .args .delta) (a .pre .0)) (k .0) (k .1 .0) (held (c .before .before .before .before)) (a .args .buffer .now) refl (ap₂ (λ (x y : Bool). x && y) (cells (c .before .before .before .before) ∙ not-false _ (c .before .before .if1 .left)) (sym (c .before .is-exact-divisor .ensures) ∙ not-true _ (c .if2 .taken)))
-
-returns-3 : tie.Need-returns-3
-returns-3 c =
-    let a = c .before .before .before .before .before .before .before .before .before .before in
-    let k = c .before .before .before .before .before .exact .given .0 in
-    answer-short (a .args .n) (a .args .m) kind.FixedPoint (a .args .form) (a .args .delta) 0 (a .args .payload .now) (exact-names (a .args .form) (a .args .delta) (a .pre .0)) (k .0) (k .1 .0) (held (c .before .before .before .before .before)) (a .args .buffer .now) (fine (c .before)) (c .if3 .taken)
+    answer-short (a .args .n) (a .args .m) kind.FixedPoint (a .args .form) (a .args .delta) 0 (a .args .payload .now) (exact-names (a .args .form) (a .args .delta) (a .pre .0)) (k .0) (k .1 .0) (held (c .before .before .before .before)) (a .args .buffer .now) (fine (c .before)) (c .if2 .taken)
 
 int-to-float-put-quotients : tie.Need-int-to-float-put-quotients
-int-to-float-put-quotients c = exact-in (pos (c .before .before .before .before .before .before .before .before .before .before .before .args .m)) (sym (c .before .before .before .is-exact-divisor .ensures) ∙ not-false _ (c .before .before .if2 .left))
+int-to-float-put-quotients c = exact-in (pos (c .before .before .before .before .before .before .before .before .before .before .args .m)) (parts (c .before .before) .1)
 
 put-quotients-requires : tie.Need-put-quotients-requires
 put-quotients-requires c κs =
-    let a = c .before .before .before .before .before .before .before .before .before .before .before .before in
-    let h = held (c .before .before .before .before .before .before .before) in (
+    let a = c .before .before .before .before .before .before .before .before .before .before .before in
+    let h = held (c .before .before .before .before .before .before) in (
       (h .0, h .1, omega (arith, h .2)),
-      all-results (a .args .n) (a .args .m) kind.FixedPoint (a .args .form) (a .args .delta) 0 (a .args .payload .now) (exact-names (a .args .form) (a .args .delta) (a .pre .0)) (c .before .before .before .before .before .before .before .exact .given .0 .0) (c .before .before .before .before .before .before .before .exact .given .0 .1 .0) h (cells (c .before .before .before .before .before .before .before) ∙ not-false _ (c .before .before .before .before .before .if1 .left)),
-      divisor-positive (a .args .m) (sym (c .before .before .before .before .is-exact-divisor .ensures) ∙ not-false _ (c .before .before .before .if2 .left)) (a .pre .1),
+      all-results (a .args .n) (a .args .m) kind.FixedPoint (a .args .form) (a .args .delta) 0 (a .args .payload .now) (exact-names (a .args .form) (a .args .delta) (a .pre .0)) (c .before .before .before .before .before .before .exact .given .0 .0) (c .before .before .before .before .before .before .exact .given .0 .1 .0) h (parts (c .before .before .before) .0),
+      divisor-positive (a .args .m) (parts (c .before .before .before) .1) (a .pre .1),
     )
 
-returns-4 : tie.Need-returns-4
-returns-4 c =
+returns-3 : tie.Need-returns-3
+returns-3 c =
     let a = c .before .before .before .before .before .before in
     answer-refused (judgedValues (a .args .n) (a .args .m) kind.FixedPoint (a .args .form) (a .args .delta) (valuesIn (a .args .form) (a .args .payload .now))) (c .before .r .given .0 .0) (a .args .buffer .now)
     (scan-refused (a .args .n) (a .args .m) kind.FixedPoint (a .args .form) (a .args .delta) 0 (a .args .payload .now) (exact-names (a .args .form) (a .args .delta) (a .pre .0)) (c .before .r .given .0 .0) (sym (c .before .before .before .scan .ensures) ∙ c .before .r .given .1))
 
-returns-5 : tie.Need-returns-5
-returns-5 c =
-    let a = c .before .before .before .before .before .before .before .before .before .before .before .before .before .before .before in
-    let k = c .before .before .before .before .before .before .before .before .before .before .exact .given .0 in
-    answer-count (a .args .n) (a .args .m) kind.FixedPoint (a .args .form) (a .args .delta) 0 (a .args .payload .now) (exact-names (a .args .form) (a .args .delta) (a .pre .0)) (k .0) (k .1 .0) (held (c .before .before .before .before .before .before .before .before .before .before)) (a .args .buffer .now) (fine (c .before .before .before .before .before .before)) (c .before .before .put-quotients .last .1 .1 .1 .1 .0) (c .before .before .before .before .before .if3 .left) (c .before .before .put-quotients .ensures)
+returns-4 : tie.Need-returns-4
+returns-4 c =
+    let a = c .before .before .before .before .before .before .before .before .before .before .before .before .before .before in
+    let k = c .before .before .before .before .before .before .before .before .before .exact .given .0 in
+    answer-count (a .args .n) (a .args .m) kind.FixedPoint (a .args .form) (a .args .delta) 0 (a .args .payload .now) (exact-names (a .args .form) (a .args .delta) (a .pre .0)) (k .0) (k .1 .0) (held (c .before .before .before .before .before .before .before .before .before)) (a .args .buffer .now) (fine (c .before .before .before .before .before .before)) (c .before .before .put-quotients .last .1 .1 .1 .1 .0) (c .before .before .before .before .before .if2 .left) (c .before .before .put-quotients .ensures)
 
 pub quotients-in-spec : {M : Type 1} → statement M
 quotients-in-spec =
@@ -82,12 +83,11 @@ quotients-in-spec =
     (λ c κs. search needs)
     (λ c. search needs)
     (λ c. search needs)
-    returns
     (λ c κs. search needs)
+    returns
     returns-2
-    returns-3
     int-to-float-put-quotients
     put-quotients-requires
-    returns-4
+    returns-3
     (λ c. search needs)
-    returns-5)
+    returns-4)

@@ -3,7 +3,7 @@ use mathlib.Core.Path.{_≡_, sym, _∙_}
 use mathlib.Core.Bool.{false}
 use Prim.Native.Nat.{_+_, _-_, _≤_, _<_}
 use native.Mathlib.Omega.{arith}
-use lib.ListN.{length, set}
+use lib.ListN.{length, drop, set}
 use lib.IntN.{ℤ, pos}
 use mir.Syntax.{w32}
 use mir.Facts.{ofZ-toZ}
@@ -11,6 +11,7 @@ use borrow.Author.Needs.{needs}
 use Rattle.numbers.specs.BigEndian.{signedAt, unsignedAt}
 use Rattle.codecs.specs.declared.Size.the-variants.{Four}
 use Rattle.codecs.specs.declared.Form.the-variants.{Plain}
+use Rattle.payloads.specs.Items.{readIn}
 use Rattle.payloads.specs.Laws.Items.{plain-run, plain-end}
 use Rattle.payloads.specs.Laws.Writing.{HasRoom, Written, written-start, written-length, written-room, written-run, written-end}
 use Rattle.floats.specs.Calls.{kept}
@@ -38,8 +39,8 @@ placed c =
     let p = c .before .before .loop in
     let w = p .inv .1 (a .pre) in
     let h : p .at + 4 ≤ length (a .args .payload .now) = omega arith in (
-      written-room kept (Plain Four) false (a .args .payload .now) (a .args .buffer .now) (a .pre) (p .at) (p .o) (p .buffer) (w .0) (w .1) (signedAt w32 (a .args .payload .now) (p .at)) 1 (p .at + 4) (plain-run Four (a .args .payload .now) (p .at) h),
-      written-length kept (Plain Four) false (a .args .payload .now) (a .args .buffer .now) (a .pre) (p .at) (p .o) (p .buffer) (w .0) (w .1),
+      written-room kept (Plain Four) false (a .args .payload .now) (a .args .buffer .now) (a .pre) (readIn (Plain Four) (drop (p .at) (a .args .payload .now))) (p .o) (p .buffer) (w .0) (w .1) (signedAt w32 (a .args .payload .now) (p .at)) 1 (readIn (Plain Four) (drop (p .at + 4) (a .args .payload .now))) (plain-run Four (a .args .payload .now) (p .at) h),
+      written-length kept (Plain Four) false (a .args .payload .now) (a .args .buffer .now) (a .pre) (readIn (Plain Four) (drop (p .at) (a .args .payload .now))) (p .o) (p .buffer) (w .0) (w .1),
     )
 
 mul-buffer : tie.Need-mul-buffer Inv-loop μ-loop
@@ -63,7 +64,7 @@ loop-again c =
     let u : unsignedAt 4 (a .args .payload .now) (p .at) < 4294967296 = omega (arith, c .read-u32 .ensures, c .read-u32 .ok) in
     let b = c .read-u32 .ensures ∙ sym (ofZ-toZ {w = w32} {n = unsignedAt 4 (a .args .payload .now) (p .at)} (record { fits = u })) in (
       h,
-      (λ room. (v, written-run kept (Plain Four) false (a .args .payload .now) (a .args .buffer .now) room (p .at) (p .o) (p .buffer) (p .inv .1 room .0) (p .inv .1 room .1) v 1 (p .at + 4) (plain-run Four (a .args .payload .now) (p .at) h) (set (p .buffer) (p .o) (c .read-u32 .result)) v (one-filled (p .buffer) (p .o) (c .read-u32 .result) (p .inv .1 room .0) v (omega arith) b))),
+      (λ room. (v, written-run kept (Plain Four) false (a .args .payload .now) (a .args .buffer .now) room (readIn (Plain Four) (drop (p .at) (a .args .payload .now))) (p .o) (p .buffer) (p .inv .1 room .0) (p .inv .1 room .1) v 1 (readIn (Plain Four) (drop (p .at + 4) (a .args .payload .now))) (plain-run Four (a .args .payload .now) (p .at) h) (set (p .buffer) (p .o) (c .read-u32 .result)) v (one-filled (p .buffer) (p .o) (c .read-u32 .result) (p .inv .1 room .0) v (omega arith) b))),
     )
 
 same-length : tie.Need-same-length Inv-loop μ-loop
@@ -71,14 +72,14 @@ same-length c =
     let a = c .before .before .before .before in
     let p = c .before .loop in
     let w = p .inv .1 (a .pre) in
-    written-length kept (Plain Four) false (a .args .payload .now) (a .args .buffer .now) (a .pre) (p .at) (p .o) (p .buffer) (w .0) (w .1)
+    written-length kept (Plain Four) false (a .args .payload .now) (a .args .buffer .now) (a .pre) (readIn (Plain Four) (drop (p .at) (a .args .payload .now))) (p .o) (p .buffer) (w .0) (w .1)
 
 returns : tie.Need-returns Inv-loop μ-loop
 returns c =
     let a = c .before .before .before .before in
     let p = c .before .loop in
     let w = p .inv .1 (a .pre) in
-    written-end kept (Plain Four) false (a .args .payload .now) (a .args .buffer .now) (a .pre) (p .at) (p .o) (p .buffer) (w .0) (w .1) (plain-end Four (a .args .payload .now) (p .at) (omega arith))
+    written-end kept (Plain Four) false (a .args .payload .now) (a .args .buffer .now) (a .pre) (readIn (Plain Four) (drop (p .at) (a .args .payload .now))) (p .o) (p .buffer) (w .0) (w .1) (plain-end Four (a .args .payload .now) (p .at) (omega arith))
 
 pub write-kept-spec : {M : Type 1} → statement M
 write-kept-spec =

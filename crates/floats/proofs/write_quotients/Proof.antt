@@ -2,14 +2,14 @@
 use mathlib.Core.Path.{subst, _∙_}
 use Prim.Native.Nat.{_-_, _≤_}
 use native.Mathlib.Omega.{arith}
-use lib.ListN.{length}
+use lib.ListN.{length, drop}
 use mir.Syntax.{w32}
 use mir.Val.{toZ, ofZ}
 use mir.Facts.{toZ-ofZ}
 use borrow.Author.Needs.{needs}
 use Rattle.payloads.specs.declared.Item.{Item}
 use Rattle.payloads.specs.declared.Item.the-variants.{Run}
-use Rattle.payloads.specs.Items.{Gives}
+use Rattle.payloads.specs.Items.{readIn, Gives}
 use Rattle.payloads.specs.Laws.Writing.{HasRoom, Written, written-start, written-length, written-room, written-run, written-end, written-wrong}
 use Rattle.floats.specs.Calls.{bitsBy}
 use Rattle.floats.specs.Laws.Calls.{written-exact}
@@ -41,7 +41,7 @@ fill-quotients-requires c κs =
     let w = p .inv .1 (a .pre .0) in
     let g = read (c .before .before) in
     let v = toZ-ofZ {w = w32} {z = k .0} (record { sfits = c .before .known-told .given .0 .1 }) in (
-      written-room (bitsBy (a .args .divisor)) (a .args .form) (a .args .delta) (a .args .payload .now) (a .args .buffer .now) (a .pre .0) (p .at) (p .o) (p .buffer) (toZ w32 (p .sum)) w (k .0) (k .1 .0) (k .1 .1 .0) (g .4),
+      written-room (bitsBy (a .args .divisor)) (a .args .form) (a .args .delta) (a .args .payload .now) (a .args .buffer .now) (a .pre .0) (readIn (a .args .form) (drop (p .at) (a .args .payload .now))) (p .o) (p .buffer) (toZ w32 (p .sum)) w (k .0) (k .1 .0) (readIn (a .args .form) (drop (k .1 .1 .0) (a .args .payload .now))) (g .4),
       rw v (written-exact (a .args .form) (a .args .delta) (a .args .payload .now) (p .at) (k .1 .1 .0) (k .1 .0) (w .0) (a .pre .0 .0) (toZ w32 (p .sum)) (k .0) (a .pre .1) (a .pre .0 .1) (w .1) (w .3) (g .4)),
       a .pre .2,
     )
@@ -51,8 +51,8 @@ add-o c =
     let a = c .before .before .before .before .before .before .before .before .before .before .before in
     let p = c .before .before .before .before .before .before .before .before .loop in
     let k = c .before .before .before .before .before .value .given .0 in
-    let r = written-room (bitsBy (a .args .divisor)) (a .args .form) (a .args .delta) (a .args .payload .now) (a .args .buffer .now) (a .pre .0) (p .at) (p .o) (p .buffer) (toZ w32 (p .sum)) (p .inv .1 (a .pre .0)) (k .0) (k .1 .0) (k .1 .1 .0) (read (c .before .before .before .before .before) .4) in
-    let l = written-length (bitsBy (a .args .divisor)) (a .args .form) (a .args .delta) (a .args .payload .now) (a .args .buffer .now) (a .pre .0) (p .at) (p .o) (p .buffer) (toZ w32 (p .sum)) (p .inv .1 (a .pre .0)) in
+    let r = written-room (bitsBy (a .args .divisor)) (a .args .form) (a .args .delta) (a .args .payload .now) (a .args .buffer .now) (a .pre .0) (readIn (a .args .form) (drop (p .at) (a .args .payload .now))) (p .o) (p .buffer) (toZ w32 (p .sum)) (p .inv .1 (a .pre .0)) (k .0) (k .1 .0) (readIn (a .args .form) (drop (k .1 .1 .0) (a .args .payload .now))) (read (c .before .before .before .before .before) .4) in
+    let l = written-length (bitsBy (a .args .divisor)) (a .args .form) (a .args .delta) (a .args .payload .now) (a .args .buffer .now) (a .pre .0) (readIn (a .args .form) (drop (p .at) (a .args .payload .now))) (p .o) (p .buffer) (toZ w32 (p .sum)) (p .inv .1 (a .pre .0)) in
     record { fits = omega arith }
 
 loop-less : tie.Need-loop-less Inv-loop μ-loop
@@ -68,33 +68,33 @@ loop-again c =
     let x = toZ-ofZ {w = w32} {z = c .before .before .fill-quotients .result} (record { sfits = c .before .before .fill-quotients .ok }) in
     let f = c .before .before .fill-quotients .ensures in (
       g .1,
-      (λ room. written-run (bitsBy (a .args .divisor)) (a .args .form) (a .args .delta) (a .args .payload .now) (a .args .buffer .now) room (p .at) (p .o) (p .buffer) (toZ w32 (p .sum)) (p .inv .1 room) (k .0) (k .1 .0) (k .1 .1 .0) (g .4) (c .before .before .fill-quotients .last .0) (toZ w32 (ofZ w32 (c .before .before .fill-quotients .result))) (rw v at (f .0), x ∙ (rw v at (f .1)))),
+      (λ room. written-run (bitsBy (a .args .divisor)) (a .args .form) (a .args .delta) (a .args .payload .now) (a .args .buffer .now) room (readIn (a .args .form) (drop (p .at) (a .args .payload .now))) (p .o) (p .buffer) (toZ w32 (p .sum)) (p .inv .1 room) (k .0) (k .1 .0) (readIn (a .args .form) (drop (k .1 .1 .0) (a .args .payload .now))) (g .4) (c .before .before .fill-quotients .last .0) (toZ w32 (ofZ w32 (c .before .before .fill-quotients .result))) (rw v at (f .0), x ∙ (rw v at (f .1)))),
     )
 
 same-length : tie.Need-same-length Inv-loop μ-loop
 same-length c =
     let a = c .before .before .before .before .before .before in
     let p = c .before .before .before .loop in
-    written-length (bitsBy (a .args .divisor)) (a .args .form) (a .args .delta) (a .args .payload .now) (a .args .buffer .now) (a .pre .0) (p .at) (p .o) (p .buffer) (toZ w32 (p .sum)) (p .inv .1 (a .pre .0))
+    written-length (bitsBy (a .args .divisor)) (a .args .form) (a .args .delta) (a .args .payload .now) (a .args .buffer .now) (a .pre .0) (readIn (a .args .form) (drop (p .at) (a .args .payload .now))) (p .o) (p .buffer) (toZ w32 (p .sum)) (p .inv .1 (a .pre .0))
 
 same-length-2 : tie.Need-same-length-2 Inv-loop μ-loop
 same-length-2 c =
     let a = c .before .before .before .before .before .before in
     let p = c .before .before .before .loop in
-    written-length (bitsBy (a .args .divisor)) (a .args .form) (a .args .delta) (a .args .payload .now) (a .args .buffer .now) (a .pre .0) (p .at) (p .o) (p .buffer) (toZ w32 (p .sum)) (p .inv .1 (a .pre .0))
+    written-length (bitsBy (a .args .divisor)) (a .args .form) (a .args .delta) (a .args .payload .now) (a .args .buffer .now) (a .pre .0) (readIn (a .args .form) (drop (p .at) (a .args .payload .now))) (p .o) (p .buffer) (toZ w32 (p .sum)) (p .inv .1 (a .pre .0))
 
 returns : tie.Need-returns Inv-loop μ-loop
 returns c =
     let a = c .before .before .before .before .before .before in
     let p = c .before .before .before .loop in
-    written-wrong (bitsBy (a .args .divisor)) (a .args .form) (a .args .delta) (a .args .payload .now) (a .args .buffer .now) (a .pre .0) (p .at) (p .o) (p .buffer) (toZ w32 (p .sum)) (p .inv .1 (a .pre .0))
+    written-wrong (bitsBy (a .args .divisor)) (a .args .form) (a .args .delta) (a .args .payload .now) (a .args .buffer .now) (a .pre .0) (readIn (a .args .form) (drop (p .at) (a .args .payload .now))) (p .o) (p .buffer) (toZ w32 (p .sum)) (p .inv .1 (a .pre .0))
     (subst (λ (i : Item). Gives (a .args .form) (a .args .payload .now) (p .at) i) (c .enum-told .given .1) (c .before .before .item-at .ensures))
 
 returns-2 : tie.Need-returns-2 Inv-loop μ-loop
 returns-2 c =
     let a = c .before .before .before .before .before .before in
     let p = c .before .before .before .loop in
-    written-end (bitsBy (a .args .divisor)) (a .args .form) (a .args .delta) (a .args .payload .now) (a .args .buffer .now) (a .pre .0) (p .at) (p .o) (p .buffer) (toZ w32 (p .sum)) (p .inv .1 (a .pre .0))
+    written-end (bitsBy (a .args .divisor)) (a .args .form) (a .args .delta) (a .args .payload .now) (a .args .buffer .now) (a .pre .0) (readIn (a .args .form) (drop (p .at) (a .args .payload .now))) (p .o) (p .buffer) (toZ w32 (p .sum)) (p .inv .1 (a .pre .0))
     (subst (λ (i : Item). Gives (a .args .form) (a .args .payload .now) (p .at) i) (c .enum-told2 .given .1) (c .before .before .item-at .ensures))
 
 pub write-quotients-spec : {M : Type 1} → statement M

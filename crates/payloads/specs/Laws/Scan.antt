@@ -108,7 +108,7 @@ run-last false a v (suc (suc k)) h = run-last false v v (suc k) (omega arith)
 
 -- Exact results
 
-exact-append : (p q : List ℤ) → allExact (p ++ q) ≡ (allExact p && allExact q)
+pub exact-append : (p q : List ℤ) → allExact (p ++ q) ≡ (allExact p && allExact q)
 unfolding allExact
 exact-append [] q = refl
 exact-append (x ∷ p) q = by (exact x) (exact-append p q)
@@ -152,12 +152,12 @@ run-exact Names true a v k h s j = let y : _≡_ {A = ℕ} 0 1 = cc in absurd (o
 
 -- Places in two lists
 
-getD-left : (p q : List ℤ) (i : ℕ) → i < length p → getD (p ++ q) i (pos 0) ≡ getD p i (pos 0)
+pub getD-left : (p q : List ℤ) (i : ℕ) → i < length p → getD (p ++ q) i (pos 0) ≡ getD p i (pos 0)
 getD-left [] q i h = absurd (omega arith)
 getD-left (x ∷ p) q zero h = refl
 getD-left (x ∷ p) q (suc i) h = getD-left p q i (omega arith)
 
-getD-right : (p q : List ℤ) (i : ℕ) → length p ≤ i → getD (p ++ q) i (pos 0) ≡ getD q (i - length p) (pos 0)
+pub getD-right : (p q : List ℤ) (i : ℕ) → length p ≤ i → getD (p ++ q) i (pos 0) ≡ getD q (i - length p) (pos 0)
 getD-right [] q i h = let e : i - 0 ≡ i = omega arith in rw e
 getD-right (x ∷ p) q zero h = absurd (omega arith)
 getD-right (x ∷ p) q (suc i) h = let e : suc i - suc (length p) ≡ i - length p = omega arith in rw e (getD-right p q i (omega arith))
@@ -186,7 +186,7 @@ Tells f d n i p t =
 abbrev pub Passed : Form → Bool → ℕ → ℕ → List ℕ → ℕ → Tally → Type 0
 Passed f d n i s at t = (p : List ℤ) × (readIn f s ≡ Option·map (λ (l : List ℤ). p ++ l) (readIn f (drop at s))) × Tells f d n i p t
 
-map-id : (o : Option (List ℤ)) → o ≡ Option·map (λ (l : List ℤ). l) o
+pub map-id : (o : Option (List ℤ)) → o ≡ Option·map (λ (l : List ℤ). l) o
 map-id none = refl
 map-id (some l) = refl
 
@@ -198,10 +198,13 @@ and-true : (b : Bool) → b ≡ (b && true)
 and-true true = refl
 and-true false = refl
 
+pub tells-start : (f : Form) (d : Bool) (n i : ℕ) → Tells f d n i [] (record { left = n; over = false; wait = i; found = false; sum = pos 0; exact = judgesExact f d; cell = pos 0 })
+unfolding lastFrom resultsFrom allExact
+tells-start f d n i = (omega arith, sym (le-ltb n 0 (omega arith)), omega arith, sym (le-ltb i 0 (omega arith)), refl, and-true (judgesExact f d), refl)
+
 pub passed-start : (f : Form) (d : Bool) (n i : ℕ) (s : List ℕ)
     → Passed f d n i s 0 (record { left = n; over = false; wait = i; found = false; sum = pos 0; exact = judgesExact f d; cell = pos 0 })
-unfolding lastFrom resultsFrom allExact
-passed-start f d n i s = ([], map-id (readIn f s), (omega arith, sym (le-ltb n 0 (omega arith)), omega arith, sym (le-ltb i 0 (omega arith)), refl, and-true (judgesExact f d), refl))
+passed-start f d n i s = ([], map-id (readIn f s), tells-start f d n i)
 
 module _ (f : Form) (d : Bool) (n i : ℕ) (p : List ℤ) (t : Tally) (w : Tells f d n i p t) (v : ℤ) (k : ℕ) (h : 1 ≤ k) (s : single f ≡ true → k ≡ 1) where
   more : length (p ++ replicate k v) ≡ length p + k
@@ -256,7 +259,7 @@ module _ (f : Form) (d : Bool) (n i : ℕ) (p : List ℤ) (t : Tally) (w : Tells
       by true e = w .6 ∙ sym (getD-left P Q i (omega (arith, long, ltb-true i (length p) e)))
       by false e = rest (ltb-false i (length p) e) (ltb (t .wait) k) refl
 
-  tells-run : Tells f d n i (p ++ replicate k v) (passRun d t v k)
+  pub tells-run : Tells f d n i (p ++ replicate k v) (passRun d t v k)
   tells-run =
       let l = more in (
         let a = w .0 in omega arith,
@@ -267,6 +270,26 @@ module _ (f : Form) (d : Bool) (n i : ℕ) (p : List ℤ) (t : Tally) (w : Tells
         tells-exact,
         tells-cell,
       )
+
+-- at the payload's end a tally says the answer
+pub tells-finished : (f : Form) (d : Bool) (n i : ℕ) (p : List ℤ) (t : Tally) → Tells f d n i p t → finished t ≡ scanOf f d n i (some p)
+tells-finished f d n i p t w = ended (ltb n (length p)) refl
+  where
+    fine : Fine (t .exact) (t .cell) ≡ Fine (judgesExact f d && allExact (sumsIf d p)) (getD (sumsIf d p) i (pos 0))
+    fine = rw (results-if d p) (ap₂ Fine (w .5) (w .6))
+
+    ended : (b : Bool) → ltb n (length p) ≡ b → finished t ≡ scanOf f d n i (some p)
+    ended true e =
+        let o : t .over ≡ true = w .1 ∙ e in
+        rw (o, ne-eqb (length p) n (λ x. omega (arith, ltb-true n (length p) e)))
+    ended false e = left (eqb (t .left) 0) refl
+      where
+        o : t .over ≡ false
+        o = w .1 ∙ e
+
+        left : (b : Bool) → eqb (t .left) 0 ≡ b → finished t ≡ scanOf f d n i (some p)
+        left true g = let z = eqb-true (t .left) 0 g in let y = w .0 in rw (o, g, eq-eqb (length p) n (omega (arith, ltb-false n (length p) e))) fine
+        left false g = let z = eqb-false (t .left) 0 g in let y = w .0 in rw (o, g, ne-eqb (length p) n (λ x. z (omega arith)))
 
 module _ (f : Form) (d : Bool) (n i : ℕ) (s : List ℕ) (at : ℕ) (t : Tally) (w : Passed f d n i s at t) where
   -- a run more
@@ -283,32 +306,9 @@ module _ (f : Form) (d : Bool) (n i : ℕ) (s : List ℕ) (at : ℕ) (t : Tally)
 
   -- the end
   pub passed-end : readIn f (drop at s) ≡ some [] → finished t ≡ scanOf f d n i (readIn f s)
-  passed-end q = ended (ltb n (length (w .0))) refl ∙ sym (ap (scanOf f d n i) whole)
-    where
-      p : List ℤ
-      p = w .0
-
-      c : Tells f d n i (w .0) t
-      c = w .2
-
-      whole : readIn f s ≡ some (w .0)
-      whole = w .1 ∙ ap (Option·map (λ (l : List ℤ). w .0 ++ l)) q ∙ ap some (append-nil (w .0))
-
-      fine : Fine (t .exact) (t .cell) ≡ Fine (judgesExact f d && allExact (sumsIf d (w .0))) (getD (sumsIf d (w .0)) i (pos 0))
-      fine = rw (results-if d (w .0)) (ap₂ Fine (w .2 .5) (w .2 .6))
-
-      ended : (b : Bool) → ltb n (length (w .0)) ≡ b → finished t ≡ scanOf f d n i (some (w .0))
-      ended true e =
-          let o : t .over ≡ true = w .2 .1 ∙ e in
-          rw (o, ne-eqb (length (w .0)) n (λ x. omega (arith, ltb-true n (length (w .0)) e)))
-      ended false e = left (eqb (t .left) 0) refl
-        where
-          o : t .over ≡ false
-          o = w .2 .1 ∙ e
-
-          left : (b : Bool) → eqb (t .left) 0 ≡ b → finished t ≡ scanOf f d n i (some (w .0))
-          left true g = let z = eqb-true (t .left) 0 g in let y = w .2 .0 in rw (o, g, eq-eqb (length (w .0)) n (omega (arith, ltb-false n (length (w .0)) e))) fine
-          left false g = let z = eqb-false (t .left) 0 g in let y = w .2 .0 in rw (o, g, ne-eqb (length (w .0)) n (λ x. z (omega arith)))
+  passed-end q =
+      let whole : readIn f s ≡ some (w .0) = w .1 ∙ ap (Option·map (λ (l : List ℤ). w .0 ++ l)) q ∙ ap some (append-nil (w .0)) in
+      tells-finished f d n i (w .0) t (w .2) ∙ sym (ap (scanOf f d n i) whole)
 
 -- A count may be taken modulo 2 ^ 32
 

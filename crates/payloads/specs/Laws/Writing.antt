@@ -12,7 +12,7 @@ use lib.IntN.{ℤ, pos}
 use Rattle.codecs.specs.declared.Form.{Form}
 use Rattle.codecs.specs.Delta.{sumsIf}
 use Rattle.payloads.specs.Items.{readIn}
-use Rattle.payloads.specs.Laws.Scan.{advance, resultsFrom, lastFrom, results-if, length-results, results-append, last-append, map-both}
+use Rattle.payloads.specs.Laws.Scan.{advance, resultsFrom, lastFrom, results-if, length-results, results-append, last-append, map-id, map-both}
 
 -- Lists
 
@@ -112,26 +112,26 @@ abbrev pub HasRoom : Form → List ℕ → ℕ → Type 0
 HasRoom f s room = (l : List ℤ) × (readIn f s ≡ some l) × (length l ≤ room)
 
 module _ {B : Type 0} (g : ℤ → B) (f : Form) (d : Bool) (s : List ℕ) (old : List B) (room : HasRoom f s (length old)) where
-  -- the values p stand before the place `at`, and their results at the buffer's start
-  abbrev pub Written : ℕ → ℕ → List B → ℤ → Type 0
-  Written at o new x =
-      (p : List ℤ) × (readIn f s ≡ Option·map (λ (l : List ℤ). p ++ l) (readIn f (drop at s))) × (o ≡ length p) × (x ≡ lastFrom d (pos 0) p)
+  -- the values p are read before those that are left, and their results stand at the buffer's start
+  abbrev pub WrittenTo : Option (List ℤ) → ℕ → List B → ℤ → Type 0
+  WrittenTo left o new x =
+      (p : List ℤ) × (readIn f s ≡ Option·map (λ (l : List ℤ). p ++ l) left) × (o ≡ length p) × (x ≡ lastFrom d (pos 0) p)
       × (new ≡ map g (resultsFrom d (pos 0) p) ++ drop (length p) old)
 
-  map-id : (o : Option (List ℤ)) → o ≡ Option·map (λ (l : List ℤ). l) o
-  map-id none = refl
-  map-id (some l) = refl
+  -- those that are left stand from the place `at` on
+  abbrev pub Written : ℕ → ℕ → List B → ℤ → Type 0
+  Written at o new x = WrittenTo (readIn f (drop at s)) o new x
 
   pub written-start : Written 0 0 old (pos 0)
   unfolding resultsFrom lastFrom
   written-start = ([], map-id (readIn f s), refl, refl, refl)
 
-  module _ (at o : ℕ) (new : List B) (x : ℤ) (w : Written at o new x) where
+  module _ (left : Option (List ℤ)) (o : ℕ) (new : List B) (x : ℤ) (w : WrittenTo left o new x) where
     -- the rest of the values
-    rest : (r : List ℤ) × (readIn f (drop at s) ≡ some r) × (w .0 ++ r ≡ room .0)
-    rest = by (readIn f (drop at s)) refl
+    rest : (r : List ℤ) × (left ≡ some r) × (w .0 ++ r ≡ room .0)
+    rest = by left refl
       where
-        by : (y : Option (List ℤ)) → readIn f (drop at s) ≡ y → (r : List ℤ) × (readIn f (drop at s) ≡ some r) × (w .0 ++ r ≡ room .0)
+        by : (y : Option (List ℤ)) → left ≡ y → (r : List ℤ) × (left ≡ some r) × (w .0 ++ r ≡ room .0)
         by none e =
             let q : none ≡ some (room .0) = sym (ap (Option·map (λ (l : List ℤ). w .0 ++ l)) e) ∙ sym (w .1) ∙ room .1 in
             let z : _≡_ {A = ℕ} 0 1 = cc in absurd (omega arith)
@@ -151,12 +151,12 @@ module _ {B : Type 0} (g : ℤ → B) (f : Form) (d : Bool) (s : List ℕ) (old 
         let n = ap length (w .4) in
         omega arith
 
-    module _ (v : ℤ) (k next : ℕ) (q : readIn f (drop at s) ≡ Option·map (λ (l : List ℤ). replicate k v ++ l) (readIn f (drop next s))) where
+    module _ (v : ℤ) (k : ℕ) (left′ : Option (List ℤ)) (q : left ≡ Option·map (λ (l : List ℤ). replicate k v ++ l) left′) where
       -- there is room for a run
       pub written-room : o + k ≤ length new
-      written-room = by (readIn f (drop next s)) refl
+      written-room = by (left′) refl
         where
-          by : (y : Option (List ℤ)) → readIn f (drop next s) ≡ y → o + k ≤ length new
+          by : (y : Option (List ℤ)) → left′ ≡ y → o + k ≤ length new
           by none e =
               let z : none ≡ some (rest .0) = sym (ap (Option·map (λ (l : List ℤ). replicate k v ++ l)) e) ∙ sym q ∙ rest .1 in
               let y : _≡_ {A = ℕ} 0 1 = cc in absurd (omega arith)
@@ -174,10 +174,10 @@ module _ {B : Type 0} (g : ℤ → B) (f : Form) (d : Bool) (s : List ℕ) (old 
               omega arith
 
       -- a run more
-      pub written-run : (new′ : List B) (x′ : ℤ) → Filled g d x v new o k new′ x′ → Written next (o + k) new′ x′
+      pub written-run : (new′ : List B) (x′ : ℤ) → Filled g d x v new o k new′ x′ → WrittenTo left′ (o + k) new′ x′
       written-run new′ x′ t =
           let p = w .0 in
-          let a = w .1 ∙ ap (Option·map (λ (l : List ℤ). w .0 ++ l)) q ∙ map-both (λ (l : List ℤ). w .0 ++ l) (λ (l : List ℤ). replicate k v ++ l) (readIn f (drop next s)) in
+          let a = w .1 ∙ ap (Option·map (λ (l : List ℤ). w .0 ++ l)) q ∙ map-both (λ (l : List ℤ). w .0 ++ l) (λ (l : List ℤ). replicate k v ++ l) (left′) in
           let n = length-append (w .0) (replicate k v) in
           let c = length-replicate k v in
           let j = w .2 in
@@ -213,13 +213,23 @@ module _ {B : Type 0} (g : ℤ → B) (f : Form) (d : Bool) (s : List ℕ) (old 
               ap₂ (λ (l : List B) (i : ℕ). paste l i Q) (w .4 ∙ ap (λ (i : ℕ). P ++ drop i old) (sym size)) (w .2 ∙ sym size)
               ∙ paste-front old P Q fits ∙ ap₂ (λ (l : List B) (i : ℕ). l ++ drop i old) whole all
 
+      -- one value more
+      pub written-one : k ≡ 1 → (y : ℤ) (b e : B) → y ≡ advance d x v → b ≡ g y → WrittenTo left′ (o + 1) (set new o b) y
+      written-one one y b e h z =
+          let r = written-room in
+          let n : o + 0 ≡ o = omega arith in
+          let t = filled-next g d x v new o 0 new x y b e (omega arith) (filled-start g d x v new o) h z in
+          let m = subst (λ (i : ℕ). Filled g d x v new o 1 (set new i b) y) n t in
+          let u : Filled g d x v new o k (set new o b) y = rw one m in
+          subst (λ (i : ℕ). WrittenTo left′ (o + i) (set new o b) y) one (written-run (set new o b) y u)
+
     -- where the reading ends all is written
-    pub written-end : readIn f (drop at s) ≡ some [] → (l : List ℤ) → readIn f s ≡ some l → new ≡ map g (sumsIf d l) ++ drop (length l) old
+    pub written-end : left ≡ some [] → (l : List ℤ) → readIn f s ≡ some l → new ≡ map g (sumsIf d l) ++ drop (length l) old
     written-end q l e =
         let a : some (w .0) ≡ some l = sym (w .1 ∙ ap (Option·map (λ (l : List ℤ). w .0 ++ l)) q ∙ ap some (append-nil (w .0))) ∙ e in
         let p : w .0 ≡ l = cc in
         w .4 ∙ ap (λ (t : List ℤ). map g (resultsFrom d (pos 0) t) ++ drop (length t) old) p ∙ ap (λ (t : List ℤ). map g t ++ drop (length l) old) (sym (results-if d l))
 
     -- and it ends nowhere else
-    pub written-wrong : {A : Type 0} → readIn f (drop at s) ≡ none → A
+    pub written-wrong : {A : Type 0} → left ≡ none → A
     written-wrong q = let z : none ≡ some (rest .0) = sym q ∙ rest .1 in let y : _≡_ {A = ℕ} 0 1 = cc in absurd (omega arith)

@@ -1,42 +1,36 @@
--- The parts of the value by its bits, for either sign.
-use mathlib.Core.Path.{_≡_, sym, ap, ap₂, _∙_}
-use mathlib.Core.List.{[], _∷_, _++_}
-use Prim.Native.Nat.{ℕ, _+_, _-_, _/_, _%_}
+-- A value between the limits is one number.
+use mathlib.Core.Path.{_≡_, sym, ap, _∙_}
+use Prim.Native.Nat.{ℕ, _+_, _-_}
 use native.Mathlib.Omega.{arith}
-use lib.ListN.{replicate}
+use lib.ListN.{length}
 use mir.Syntax.{w32}
 use mir.Val.{ofZ}
 use mir.Facts.{toZ-ofZ}
 use borrow.Author.Needs.{needs}
-use Rattle.codecs.specs.Width.{upper, lower}
+use Rattle.numbers.specs.BigEndian.{bytesOf}
+use Rattle.numbers.specs.Laws.BigEndian.{length-bytesOf}
+use Rattle.codecs.specs.Width.{sizeOf, upper, lower}
 use Rattle.codecs.specs.Numbers.{bytesFor}
 use Rattle.codecs.specs.Packing.{packOne}
-use Rattle.codecs.specs.Laws.Packing.{limits}
-use Rattle.write_packed.specs.Bits.{bitsFor}
-use Rattle.write_packed.specs.Laws.Packed.{parts-up, parts-down}
+use Rattle.writers.specs.Placed.{over}
+use Rattle.write_packed.specs.Laws.Packed.{short-bytes}
 use Rattle.write_packed.proofs.write_one.Statement.{statement}
 use Rattle.write_packed.proofs.write_one.Tie as tie
 
-up : (c : tie.After-most)
-    → bytesFor (c .before .before .before .before .args .size) (packOne (upper (c .before .before .before .before .args .size)) (lower (c .before .before .before .before .args .size)) (c .before .before .before .before .args .x))
-    ≡ bitsFor (c .before .before .before .before .args .size) (replicate (c .before .before .to-u32 .result / c .most .result) (c .most .result) ++ (c .before .before .to-u32 .result % c .most .result ∷ []))
-up c =
+short : (c : tie.Then1) → bytesFor (c .before .before .before .before .args .size) (packOne (upper (c .before .before .before .before .args .size)) (lower (c .before .before .before .before .args .size)) (c .before .before .before .before .args .x)) ≡ bytesOf (sizeOf (c .before .before .before .before .args .size)) (c .before .before .to-u32 .result)
+short c =
     let a = c .before .before .before .before in
-    let u = c .before .before .to-u32 .result in
-    parts-up (a .args .size) u (a .args .x) (a .fits .x) (c .before .before .to-u32 .ensures ∙ ap (ofZ w32) (toZ-ofZ {w = w32} (a .fits .x))) (c .before .if1 .taken)
-    ∙ ap (λ (p : ℕ). bitsFor (a .args .size) (replicate (u / p) p ++ (u % p ∷ []))) (sym (c .most .ensures))
+    short-bytes (a .args .size) (c .before .before .to-u32 .result) (a .args .x) (a .fits .x) (c .before .before .to-u32 .ensures ∙ ap (ofZ w32) (toZ-ofZ {w = w32} (a .fits .x))) (sym (c .before .is-short .ensures) ∙ c .if1 .taken)
 
-down : (c : tie.After-negated3)
-    → bytesFor (c .before .before .before .before .before .before .before .args .size) (packOne (upper (c .before .before .before .before .before .before .before .args .size)) (lower (c .before .before .before .before .before .before .before .args .size)) (c .before .before .before .before .before .before .before .args .x))
-    ≡ bitsFor (c .before .before .before .before .before .before .before .args .size) (replicate (c .before .before .negated .result / c .before .before .before .least .result) (c .before .negated2 .result) ++ (c .negated3 .result ∷ []))
-down c =
-    let a = c .before .before .before .before .before .before .before in
-    let z = a .args .size in
-    let m = c .before .before .negated .result in
-    let q = sym (c .before .before .before .least .ensures) in
-    parts-down z (c .before .before .before .before .before .to-u32 .result) (a .args .x) m (a .fits .x) (c .before .before .before .before .before .to-u32 .ensures ∙ ap (ofZ w32) (toZ-ofZ {w = w32} (a .fits .x))) (c .before .before .before .before .if1 .left) (c .before .before .negated .ensures)
-    ∙ ap (λ (n : ℕ). bitsFor z (replicate (m / n) ((4294967296 - n) % 4294967296) ++ ((4294967296 - m % n) % 4294967296 ∷ []))) q
-    ∙ ap₂ (λ (l r : ℕ). bitsFor z (replicate (m / c .before .before .before .least .result) l ++ (r ∷ []))) (sym (c .before .negated2 .ensures)) (sym (c .negated3 .ensures))
+add-result : tie.Need-add-result
+add-result c =
+    let k = c .bytes .ensures in
+    omega (arith, ap length (short (c .before .before .before .before .before)), length-bytesOf (sizeOf (c .before .before .before .before .before .before .before .before .before .args .size)) (c .before .before .before .before .before .before .before .to-u32 .result), c .before .before .before .before .before .before .before .before .before .pre)
+
+returns : tie.Need-returns
+returns c =
+    let a = c .before .before .before .before .before .before .before .before .before .args in
+    (ap (λ (n : ℕ). a .at + n) (c .bytes .ensures ∙ sym (ap length (short (c .before .before .before .before .before)) ∙ length-bytesOf (sizeOf (a .size)) (c .before .before .before .before .before .before .before .to-u32 .result))), c .before .before .before .put .ensures ∙ ap (over (a .buffer .now) (a .at)) (sym (short (c .before .before .before .before .before))))
 
 pub write-one-spec : {M : Type 1} → statement M
 write-one-spec =
@@ -44,17 +38,11 @@ write-one-spec =
     (tie.spec
     (λ c κs. search needs)
     (λ c κs. search needs)
-    (λ c. omega (arith, limits (c .before .before .before .before .args .size) .0, c .most .ensures))
-    (λ c. omega (arith, limits (c .before .before .before .before .args .size) .0, c .most .ensures))
-    (λ c κs. rw (up (c .before)) at (c .before .before .before .before .before .pre))
+    (λ c κs. omega (arith, ap length (short (c .before)), length-bytesOf (sizeOf (c .before .before .before .before .before .args .size)) (c .before .before .before .to-u32 .result), c .before .before .before .before .before .pre))
+    (λ c κs. search needs)
+    add-result
     (λ c. search needs)
-    (λ c. rw (up (c .before .before .before .before)) (c .before .before .write-parts .ensures))
-    (λ c κs. search needs)
-    (λ c κs. search needs)
-    (λ c. omega (arith, limits (c .before .before .before .before .before .args .size) .2, c .before .least .ensures))
-    (λ c κs. search needs)
-    (λ c. omega (arith, limits (c .before .before .before .before .before .before .args .size) .2, c .before .before .least .ensures))
-    (λ c κs. search needs)
-    (λ c κs. rw (down (c .before)) at (c .before .before .before .before .before .before .before .before .pre))
+    returns
+    (λ c κs. rw (toZ-ofZ {w = w32} (c .before .before .before .before .before .fits .x)) (c .before .before .before .before .before .pre))
     (λ c. search needs)
-    (λ c. rw (down (c .before .before .before .before)) (c .before .before .write-parts2 .ensures)))
+    (λ c. rw (toZ-ofZ {w = w32} (c .before .before .before .before .before .before .before .before .fits .x)) at (c .before .before .write-long .ensures)))

@@ -1,16 +1,16 @@
 -- Laws of packed numbers, one value after the other: how many they are, and their bytes by the bits. Assumes nothing.
 use mathlib.Core.Path.{_≡_, refl, sym, ap, ap₂, _∙_}
 use mathlib.Core.Bool.{Bool, true, false}
-use mathlib.Core.List.{List, [], _∷_, _++_}
+use mathlib.Core.List.{List, [], _∷_, _++_, append-nil}
 use Prim.Native.Nat.{ℕ, zero, suc, _+_, _-_, _*_, _/_, _%_, _<_, _≤_}
-use native.Mathlib.Nat.{mod-eq-of-lt, mod-lt, div-add-mod'}
+use native.Mathlib.Nat.{mod-eq-of-lt, mod-lt, div-eq-of-lt, div-add-mod'}
 use native.Mathlib.Omega.{arith}
 use lib.ListN.{length, replicate, length-append, length-replicate}
 use lib.IntN.{ℤ, pos, negsuc, negℤ}
-use lib.Dec.{leb}
+use lib.Dec.{leb, ltb}
 use mir.Syntax.{w32}
 use mir.Val.{SFits, ofZ}
-use borrow.Author.Tests.{le-leb, lt-leb, leb-true, leb-false}
+use borrow.Author.Tests.{le-leb, lt-leb, leb-true, leb-false, ltb-true, ltb-false}
 use Rattle.numbers.specs.BigEndian.{bytesOf}
 use Rattle.numbers.specs.Laws.BigEndian.{bytesOf-above}
 use Rattle.codecs.specs.declared.Size.{Size}
@@ -121,6 +121,45 @@ module _ (z : Size) (u : ℕ) where
       let t = mod-lt (suc n) {m = lower z} (limits z .2) in
       bits-parts z (suc n / lower z) (negℤ (pos (lower z))) (negℤ (pos (suc n % lower z))) ((4294967296 - lower z) % 4294967296) ((4294967296 - suc n % lower z) % 4294967296) (neg-bits z (lower z) (omega arith)) (neg-bits z (suc n % lower z) (omega arith))
       ∙ ap (λ (i : ℕ). bitsFor z (replicate (i / lower z) ((4294967296 - lower z) % 4294967296) ++ ((4294967296 - i % lower z) % 4294967296 ∷ []))) (sym s)
+
+-- A value between the limits
+
+abbrev Short : ℕ → ℕ → ℤ → Type 0
+Short p q (pos n) = n < p
+Short p q (negsuc n) = suc n < q
+
+module _ (p q : ℕ) (p-small : p < 2147483648) (q-pos : 0 < q) (q-small : q ≤ 2147483648) where
+  short : (u : ℕ) (x : ℤ) → SFits w32 x → u ≡ ofZ w32 x → (u + (q - 1)) % 4294967296 < p + (q - 1) → Short p q x
+  short u (pos n) f e h = let k : (u + (q - 1)) % 4294967296 ≡ u + (q - 1) = mod-eq-of-lt (omega (arith, f .sfits)) in omega arith
+  short u (negsuc n) f e h = by (ltb (suc n) q) refl
+    where
+      by : (t : Bool) → ltb (suc n) q ≡ t → suc n < q
+      by true t = ltb-true (suc n) q t
+      by false t =
+          let l = ltb-false (suc n) q t in
+          let k : (u + (q - 1)) % 4294967296 ≡ u + (q - 1) = mod-eq-of-lt (omega (arith, f .sfits)) in
+          absurd (omega (arith, f .sfits))
+
+short-pack : (p q : ℕ) (x : ℤ) → Short p q x → packOne p q x ≡ x ∷ []
+unfolding packOne
+short-pack p q (pos n) h = let d : n / p ≡ 0 = div-eq-of-lt h in let m : n % p ≡ n = mod-eq-of-lt h in rw (d, m)
+short-pack p q (negsuc n) h = let d : suc n / q ≡ 0 = div-eq-of-lt h in let m : suc n % q ≡ suc n = mod-eq-of-lt h in rw (d, m)
+
+short-bits : (z : Size) (x : ℤ) → Short (upper z) (lower z) x → bytesOf (sizeOf z) (ofZ w32 x) ≡ bytesOf (sizeOf z) (ofZ (widthOf z) x)
+short-bits z (pos n) h = refl
+short-bits z (negsuc n) h = narrow z (negsuc n) (omega arith)
+
+module _ (z : Size) (u : ℕ) (x : ℤ) (f : SFits w32 x) (e : u ≡ ofZ w32 x) (h : ltb ((u + (lower z - 1)) % 4294967296) (upper z + (lower z - 1)) ≡ true) where
+  is-short : Short (upper z) (lower z) x
+  is-short = let l = limits z in short (upper z) (lower z) (l .1) (l .2) (l .3) u x f e (ltb-true _ _ h)
+
+  pub short-count : length (packOne (upper z) (lower z) x) ≡ 1
+  short-count = ap length (short-pack (upper z) (lower z) x is-short)
+
+  pub short-bytes : bytesFor z (packOne (upper z) (lower z) x) ≡ bytesOf (sizeOf z) u
+  short-bytes =
+      ap (bytesFor z) (short-pack (upper z) (lower z) x is-short) ∙ bytes-more z x [] ∙ ap (λ (l : List ℕ). bytesOf (sizeOf z) (ofZ (widthOf z) x) ++ l) (bytes-none z) ∙ append-nil (bytesOf (sizeOf z) (ofZ (widthOf z) x))
+      ∙ sym (short-bits z x is-short) ∙ ap (bytesOf (sizeOf z)) (sym e)
 
 -- One number of the parts
 

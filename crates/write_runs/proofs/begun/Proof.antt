@@ -9,5 +9,5 @@ pub begun-spec : {M : Type 1} → statement M
 begun-spec =
     tie.close
     (tie.spec
-    (λ c. (rw (eq-eqb (c .before .args .x) (c .before .args .v) (c .if1 .taken)), omega arith))
-    (λ c. (rw (ne-eqb (c .before .args .x) (c .before .args .v) (c .if1 .left)), omega arith)))
+    (λ c. (rw (eq-eqb (c .before .args .cell) (c .before .args .last) (c .if1 .taken)), omega arith))
+    (λ c. (rw (ne-eqb (c .before .args .cell) (c .before .args .last) (c .if1 .left)), omega arith)))

@@ -1,0 +1,12 @@
+-- The test is the definition's where the cells are exact.
+use Rattle.floats.proofs.are_exact.Statement.{statement}
+use Rattle.floats.proofs.are_exact.Tie as tie
+
+returns : tie.Need-returns
+returns c = rw (c .if1 .taken)
+
+returns-2 : tie.Need-returns-2
+returns-2 c = rw (c .if1 .left)
+
+pub are-exact-spec : {M : Type 1} → statement M
+are-exact-spec = tie.close (tie.spec returns returns-2)
