@@ -83,7 +83,7 @@ fn value_of(kind: Kind, m: u32, x: i32) -> Cell
         Kind::Int16 => Cell::Int(x),
         Kind::Int32 => Cell::Int(x),
         Kind::Strings => Cell::Refused(refusal::CODEC_UNKNOWN),
-        Kind::Chars => Cell::Char(low_byte(x)),
+        Kind::Chars => Cell::Char(decoding::low_byte(x)),
     }
 }
 
@@ -95,11 +95,4 @@ fn quotient_cell(x: i32, divisor: u32) -> Cell
         return Cell::Float((x as f32) / (divisor as f32));
     }
     Cell::Refused(refusal::NOT_EXACT)
-}
-
-// The lowest byte of a number.
-fn low_byte(number: i32) -> u8
-    ensures { λ r. ⌜ r ≡ asByte number ⌝ }
-{
-    (numbers::to_u32(number) % 256) as u8
 }

@@ -11,8 +11,7 @@ ghost use Rattle.codecs.specs.Payload.{paddedFrom};
 ghost use Rattle.columns.specs.Table.{suits};
 ghost use Rattle.columns.specs.Decode.{decode, judgedPayload};
 ghost use Rattle.payloads.specs.Items.{isNames};
-ghost use Rattle.payloads.specs.Laws.Scan.{advance};
-ghost use Rattle.payloads.specs.Laws.Writing.{Filled, HasRoom};
+ghost use Rattle.payloads.specs.Results.{Filled, HasRoom};
 ghost use Rattle.decoding.specs.Calls.{told, toldFixed, left, asNumber, asByte, countOf, Wrote, mayFollow};
 use codecs::Form;
 use codecs::Size;
@@ -217,7 +216,7 @@ fn write_packed(payload: &[u8], size: Size, delta: bool, buffer: &mut [i32])
                 part = s;
             }
             Turn::Done(s) => {
-                sum = next_result(sum, s, delta);
+                sum = payloads::next_result(sum, s, delta);
                 buffer[o] = sum;
                 o += 1;
                 part = 0;
@@ -244,21 +243,11 @@ fn fill_integers(
     let mut x = sum;
     let mut n: usize = 0;
     while n < count {
-        x = next_result(x, value, delta);
+        x = payloads::next_result(x, value, delta);
         buffer[from + n] = x;
         n += 1;
     }
     x
-}
-
-// The result after `sum`, by a value.
-fn next_result(sum: i32, value: i32, delta: bool) -> i32
-    ensures { λ r. ⌜ r ≡ advance delta sum value ⌝ }
-{
-    if delta {
-        return codecs::add_delta(sum, value);
-    }
-    value
 }
 
 // The characters of a payload whose header passed.
@@ -327,7 +316,7 @@ fn fill_bytes(
     let mut x = sum;
     let mut n: usize = 0;
     while n < count {
-        x = next_result(x, value, delta);
+        x = payloads::next_result(x, value, delta);
         buffer[from + n] = low_byte(x);
         n += 1;
     }
@@ -335,7 +324,7 @@ fn fill_bytes(
 }
 
 // The lowest byte of a number.
-fn low_byte(number: i32) -> u8
+pub fn low_byte(number: i32) -> u8
     ensures { λ r. ⌜ r ≡ asByte number ⌝ }
 {
     (numbers::to_u32(number) % 256) as u8

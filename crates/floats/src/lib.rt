@@ -12,8 +12,7 @@ ghost use lib.Ieee.Positive.{positive};
 ghost use Rattle.columns.specs.Decode.{decode, judgedPayload};
 ghost use Rattle.payloads.specs.Held.{exact, allExact};
 ghost use Rattle.payloads.specs.Scan.{judgesExact};
-ghost use Rattle.payloads.specs.Laws.Scan.{advance, resultsFrom};
-ghost use Rattle.payloads.specs.Laws.Writing.{Filled, HasRoom};
+ghost use Rattle.payloads.specs.Results.{resultsFrom, Filled, HasRoom};
 ghost use Rattle.floats.specs.Calls.{kept, bitsBy, exactly, told, left, Wrote, ResultsExact};
 use codecs::Form;
 use codecs::Size;
@@ -188,7 +187,7 @@ fn fill_quotients(
     let mut x = sum;
     let mut n: usize = 0;
     while n < count {
-        x = next_result(x, value, delta);
+        x = payloads::next_result(x, value, delta);
         buffer[from + n] = quotient_bits(x, divisor);
         n += 1;
     }
@@ -201,14 +200,4 @@ fn quotient_bits(number: i32, divisor: f32) -> u32
     ensures { λ r. ⌜ r ≡ bitsBy divisor number ⌝ }
 {
     f32::to_bits((number as f32) / divisor)
-}
-
-// The result after `sum`, by a value.
-fn next_result(sum: i32, value: i32, delta: bool) -> i32
-    ensures { λ r. ⌜ r ≡ advance delta sum value ⌝ }
-{
-    if delta {
-        return codecs::add_delta(sum, value);
-    }
-    value
 }

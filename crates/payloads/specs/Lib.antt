@@ -1,4 +1,5 @@
 pub mod Held
 pub mod Scan
 pub mod Items
+pub mod Results
 pub mod Laws

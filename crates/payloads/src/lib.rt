@@ -6,7 +6,7 @@ ghost use Prim.Native.Nat.{_-_, _≤_, _<_};
 ghost use lib.ListN.{length};
 ghost use Rattle.payloads.specs.Held.{heldIn, exact};
 ghost use Rattle.payloads.specs.Scan.{scanOf, judgesExact};
-ghost use Rattle.payloads.specs.Laws.Scan.{advance};
+ghost use Rattle.payloads.specs.Results.{advance};
 ghost use Rattle.payloads.specs.Items.{readIn, Gives, plusTimes, afterRun, cellAfter, passRun, finished};
 use codecs::Form;
 use codecs::Range;
@@ -67,6 +67,16 @@ pub fn is_exact(number: i32) -> bool
         return false;
     }
     number <= 16777216
+}
+
+// The result after `sum`, by a value.
+pub fn next_result(sum: i32, value: i32, delta: bool) -> i32
+    ensures { λ r. ⌜ r ≡ advance delta sum value ⌝ }
+{
+    if delta {
+        return codecs::add_delta(sum, value);
+    }
+    value
 }
 
 // The item at a place of a payload.
@@ -150,7 +160,7 @@ fn scan_packed(payload: &[u8], size: Size, delta: bool, length: usize, index: us
                 begun = true;
             }
             Turn::Done(s) => {
-                sum = after_one(sum, s, delta);
+                sum = next_result(sum, s, delta);
                 exact = both(exact, is_exact(sum));
                 cell = choose(count == index, sum, cell);
                 count += 1;
@@ -169,16 +179,6 @@ fn scan_packed(payload: &[u8], size: Size, delta: bool, length: usize, index: us
         return Outcome::Refused(refusal::LENGTH_DIFFERS);
     }
     Outcome::Fine(exact, cell)
-}
-
-// The result after `sum`, by a value.
-fn after_one(sum: i32, value: i32, delta: bool) -> i32
-    ensures { λ r. ⌜ r ≡ advance delta sum value ⌝ }
-{
-    if delta {
-        return codecs::add_delta(sum, value);
-    }
-    value
 }
 
 fn choose(test: bool, a: i32, b: i32) -> i32

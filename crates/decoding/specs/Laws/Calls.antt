@@ -26,7 +26,7 @@ use Rattle.payloads.specs.Held.{heldIn}
 use Rattle.payloads.specs.Items.{readIn}
 use Rattle.payloads.specs.Laws.Held.{held-read}
 use Rattle.payloads.specs.Laws.Scan.{results-if, length-results}
-use Rattle.payloads.specs.Laws.Writing.{HasRoom}
+use Rattle.payloads.specs.Results.{HasRoom}
 use Rattle.decoding.specs.declared.Decoded.the-variants as decoded
 use Rattle.decoding.specs.declared.Fixed.{Fixed}
 use Rattle.decoding.specs.declared.Fixed.the-variants as fixed

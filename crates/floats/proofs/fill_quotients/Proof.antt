@@ -8,7 +8,8 @@ use mir.Val.{toZ, ofZ}
 use mir.Facts.{toZ-ofZ}
 use borrow.Author.Needs.{needs}
 use Rattle.payloads.specs.Held.{exact}
-use Rattle.payloads.specs.Laws.Writing.{Filled, filled-start, filled-next}
+use Rattle.payloads.specs.Results.{Filled}
+use Rattle.payloads.specs.Laws.Writing.{filled-start, filled-next}
 use Rattle.floats.specs.Calls.{bitsBy}
 use Rattle.floats.specs.Laws.Quotient.{run-exact}
 use Rattle.floats.proofs.fill_quotients.Statement.{statement}

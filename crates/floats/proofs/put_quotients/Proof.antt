@@ -11,7 +11,7 @@ use borrow.Author.Needs.{needs}
 use Rattle.codecs.specs.declared.Size.the-variants.{One, Two, Four}
 use Rattle.codecs.specs.declared.Form.{Form}
 use Rattle.codecs.specs.declared.Form.the-variants.{Plain, Packed, Runs, Names}
-use Rattle.payloads.specs.Laws.Writing.{HasRoom}
+use Rattle.payloads.specs.Results.{HasRoom}
 use Rattle.floats.specs.Calls.{bitsBy, Wrote, ResultsExact}
 use Rattle.floats.proofs.put_quotients.Statement.{statement}
 use Rattle.floats.proofs.put_quotients.Tie as tie

@@ -12,8 +12,9 @@ use Rattle.numbers.specs.BigEndian.{signedAt, unsignedAt}
 use Rattle.codecs.specs.declared.Size.the-variants.{Four}
 use Rattle.codecs.specs.declared.Form.the-variants.{Plain}
 use Rattle.payloads.specs.Items.{readIn}
+use Rattle.payloads.specs.Results.{HasRoom}
 use Rattle.payloads.specs.Laws.Items.{plain-run, plain-end}
-use Rattle.payloads.specs.Laws.Writing.{HasRoom, Written, written-start, written-length, written-room, written-run, written-end}
+use Rattle.payloads.specs.Laws.Writing.{Written, written-start, written-length, written-room, written-run, written-end}
 use Rattle.floats.specs.Calls.{kept}
 use Rattle.floats.specs.Laws.Calls.{one-filled}
 use Rattle.floats.proofs.write_kept.Statement.{statement}

@@ -10,7 +10,8 @@ use borrow.Author.Needs.{needs}
 use Rattle.payloads.specs.declared.Item.{Item}
 use Rattle.payloads.specs.declared.Item.the-variants.{Run}
 use Rattle.payloads.specs.Items.{readIn, Gives}
-use Rattle.payloads.specs.Laws.Writing.{HasRoom, Written, written-start, written-length, written-room, written-run, written-end, written-wrong}
+use Rattle.payloads.specs.Results.{HasRoom}
+use Rattle.payloads.specs.Laws.Writing.{Written, written-start, written-length, written-room, written-run, written-end, written-wrong}
 use Rattle.floats.specs.Calls.{bitsBy}
 use Rattle.floats.specs.Laws.Calls.{written-exact}
 use Rattle.floats.proofs.write_quotients.Statement.{statement}

@@ -23,9 +23,10 @@ use Rattle.payloads.specs.declared.Outcome.the-variants as outcome
 use Rattle.payloads.specs.Held.{heldIn, exact, allExact}
 use Rattle.payloads.specs.Scan.{judgesExact, scanOf}
 use Rattle.payloads.specs.Items.{readIn, isNames}
+use Rattle.payloads.specs.Results.{resultsFrom, lastFrom, Filled}
 use Rattle.payloads.specs.Laws.Held.{held-read}
-use Rattle.payloads.specs.Laws.Scan.{resultsFrom, lastFrom, results-if, length-results, results-append}
-use Rattle.payloads.specs.Laws.Writing.{Filled, filled-start, filled-next}
+use Rattle.payloads.specs.Laws.Scan.{results-if, length-results, results-append}
+use Rattle.payloads.specs.Laws.Writing.{filled-start, filled-next}
 use Rattle.payloads.specs.Laws.Judged.{elements-one, padded-one, judged-refused, judged-fine}
 use Rattle.floats.specs.declared.Floats.{Floats}
 use Rattle.floats.specs.declared.Floats.the-variants.{Count, Refused}

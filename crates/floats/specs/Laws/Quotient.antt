@@ -13,7 +13,7 @@ use lib.Ieee.Back.{round-whole}
 use lib.Ieee.Positive.{positive, positive-of-value}
 use borrow.Author.Tests.{leb-true, lt-ltb, ne-eqb}
 use Rattle.payloads.specs.Held.{exact, allExact}
-use Rattle.payloads.specs.Laws.Scan.{advance, resultsFrom, lastFrom}
+use Rattle.payloads.specs.Results.{advance, resultsFrom, lastFrom}
 use Rattle.floats.specs.Laws.Tests.{and-both}
 
 -- a number that is exact may be converted

@@ -14,7 +14,7 @@ use Rattle.codecs.specs.Width.{sizeOf}
 use Rattle.codecs.specs.Steps.{turnOf}
 use Rattle.codecs.specs.Laws.Numbers.{size-pos}
 use Rattle.payloads.specs.Held.{exact}
-use Rattle.payloads.specs.Laws.Scan.{advance}
+use Rattle.payloads.specs.Results.{advance}
 use Rattle.payloads.specs.Laws.Packed.{Unpacked, unpacked-start, unpacked-more, unpacked-done, unpacked-wrong, unpacked-unfinished, unpacked-other, unpacked-all}
 use Rattle.payloads.proofs.scan_packed.Statement.{statement}
 use Rattle.payloads.proofs.scan_packed.Tie as tie
@@ -56,11 +56,11 @@ loop-again-2 c =
     let o = size-pos (a .size) in
     let g = c .before .before .before .before .before .s2 .given in
     let z = toZ-ofZ {w = w32} {z = g .0 .0} (record { sfits = c .before .before .before .before .known-told2 .given .0 .1 }) in
-    let y = toZ-ofZ {w = w32} (record { sfits = c .before .before .before .after-one .ok }) in
-    let q = y ∙ c .before .before .before .after-one .ensures ∙ ap (advance (a .delta) (toZ w32 (p .sum))) z in
+    let y = toZ-ofZ {w = w32} (record { sfits = c .before .before .before .next-result .ok }) in
+    let q = y ∙ c .before .before .before .next-result .ensures ∙ ap (advance (a .delta) (toZ w32 (p .sum))) z in
     let b = c .before .both .ensures ∙ ap (λ (t : Bool). p .exact && t) (c .before .before .is-exact .ensures) in
     let v = toZ-ofZ {w = w32} (record { sfits = c .choose .ok }) ∙ c .choose .ensures in
-    (omega arith, omega (arith, p .inv .1), rw (e, b, v) (unpacked-done (a .size) (a .delta) (a .length) (a .index) (a .payload .now) (p .i) (toZ w32 (p .part)) (p .begun) (p .count) (toZ w32 (p .sum)) (p .exact) (toZ w32 (p .cell)) (p .inv .2) (room (c .before .before .before .before .before .before .before)) (g .0 .0) (toZ w32 (ofZ w32 (c .before .before .before .after-one .result))) (sym (c .before .before .before .before .before .before .before .unpack-one .ensures ∙ ap (turnOf (a .size) (toZ w32 (p .part))) (toZ-ofZ {w = w32} (record { sfits = c .before .before .before .before .before .before .before .before .number-at .ok }) ∙ c .before .before .before .before .before .before .before .before .number-at .ensures)) ∙ g .1) q))
+    (omega arith, omega (arith, p .inv .1), rw (e, b, v) (unpacked-done (a .size) (a .delta) (a .length) (a .index) (a .payload .now) (p .i) (toZ w32 (p .part)) (p .begun) (p .count) (toZ w32 (p .sum)) (p .exact) (toZ w32 (p .cell)) (p .inv .2) (room (c .before .before .before .before .before .before .before)) (g .0 .0) (toZ w32 (ofZ w32 (c .before .before .before .next-result .result))) (sym (c .before .before .before .before .before .before .before .unpack-one .ensures ∙ ap (turnOf (a .size) (toZ w32 (p .part))) (toZ-ofZ {w = w32} (record { sfits = c .before .before .before .before .before .before .before .before .number-at .ok }) ∙ c .before .before .before .before .before .before .before .before .number-at .ensures)) ∙ g .1) q))
 
 returns : tie.Need-returns Inv-loop μ-loop
 returns c =

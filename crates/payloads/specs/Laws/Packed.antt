@@ -22,9 +22,10 @@ use Rattle.payloads.specs.declared.Outcome.the-variants.{Fine, Refused}
 use Rattle.payloads.specs.Held.{exact, allExact}
 use Rattle.payloads.specs.Scan.{scanOf}
 use Rattle.payloads.specs.Items.{readIn}
+use Rattle.payloads.specs.Results.{advance, resultsFrom, lastFrom, HasRoom}
 use Rattle.payloads.specs.Laws.Items.{from, after, from-turn, from-end, packed-is}
-use Rattle.payloads.specs.Laws.Scan.{advance, resultsFrom, lastFrom, results-if, length-results, results-append, last-append, exact-append, getD-left, getD-right, map-id, map-both}
-use Rattle.payloads.specs.Laws.Writing.{HasRoom, WrittenTo, written-start, written-length, written-room, written-one, written-end, written-wrong}
+use Rattle.payloads.specs.Laws.Scan.{results-if, length-results, results-append, last-append, exact-append, getD-left, getD-right, map-id, map-both}
+use Rattle.payloads.specs.Laws.Writing.{WrittenTo, written-start, written-length, written-room, written-one, written-end, written-wrong}
 
 -- The results of the values p are done before the place: how many, the last, whether all are exact, and the one at i. A result that has
 -- begun has the sum `part` so far.

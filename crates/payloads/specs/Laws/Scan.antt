@@ -23,25 +23,12 @@ use Rattle.payloads.specs.declared.Tally.{Tally}
 use Rattle.payloads.specs.declared.Outcome.{Outcome}
 use Rattle.payloads.specs.declared.Outcome.the-variants.{Fine, Refused}
 use Rattle.payloads.specs.Held.{heldIn, exact, allExact}
+use Rattle.payloads.specs.Results.{advance, resultsFrom, lastFrom}
 use Rattle.payloads.specs.Scan.{judgesExact, scanOf}
 use Rattle.payloads.specs.Laws.Held.{held-read}
 use Rattle.payloads.specs.Items.{readIn, single, plusTimes, afterRun, cellAfter, passRun, finished}
 
 -- Results
-
--- a result from the one before it and a value: their sum, or the value alone
-abbrev pub advance : Bool → ℤ → ℤ → ℤ
-advance true a v = plusDelta a v
-advance false a v = v
-
-unfoldable pub resultsFrom : Bool → ℤ → List ℤ → List ℤ
-resultsFrom d a [] = []
-resultsFrom d a (v ∷ vs) = advance d a v ∷ resultsFrom d (advance d a v) vs
-
--- the last result
-unfoldable pub lastFrom : Bool → ℤ → List ℤ → ℤ
-lastFrom d a [] = a
-lastFrom d a (v ∷ vs) = lastFrom d (advance d a v) vs
 
 results-sums : (a : ℤ) (l : List ℤ) → resultsFrom true a l ≡ sumsFrom a l
 unfolding resultsFrom sumsFrom

@@ -12,7 +12,8 @@ use lib.IntN.{ℤ, pos}
 use Rattle.codecs.specs.declared.Form.{Form}
 use Rattle.codecs.specs.Delta.{sumsIf}
 use Rattle.payloads.specs.Items.{readIn}
-use Rattle.payloads.specs.Laws.Scan.{advance, resultsFrom, lastFrom, results-if, length-results, results-append, last-append, map-id, map-both}
+use Rattle.payloads.specs.Results.{advance, resultsFrom, lastFrom, paste, Filled, HasRoom}
+use Rattle.payloads.specs.Laws.Scan.{results-if, length-results, results-append, last-append, map-id, map-both}
 
 -- Lists
 
@@ -24,10 +25,6 @@ module _ {B : Type 0} (g : ℤ → B) where
   pub length-map : (p : List ℤ) → length (map g p) ≡ length p
   length-map [] = refl
   length-map (x ∷ p) = ap suc (length-map p)
-
--- l in place of what stands from o on
-abbrev pub paste : {B : Type 0} → List B → ℕ → List B → List B
-paste old o l = take o old ++ (l ++ drop (o + length l) old)
 
 module _ {B : Type 0} (old : List B) (o : ℕ) where
   pub paste-none : paste old o [] ≡ old
@@ -77,21 +74,17 @@ last-more d a v zero = refl
 last-more d a v (suc n) = last-more d (advance d a v) v n
 
 module _ {B : Type 0} (g : ℤ → B) (d : Bool) (a v : ℤ) (old : List B) (from : ℕ) where
-  -- n values of a run are written from a place on, and x is the last result
-  abbrev pub Filled : ℕ → List B → ℤ → Type 0
-  Filled n new x = (new ≡ paste old from (map g (resultsFrom d a (replicate n v)))) × (x ≡ lastFrom d a (replicate n v))
-
-  pub filled-start : Filled 0 old a
+  pub filled-start : Filled g d a v old from 0 old a
   unfolding resultsFrom lastFrom
   filled-start = (sym (paste-none old from), refl)
 
   filled-size : (n : ℕ) → length (map g (resultsFrom d a (replicate n v))) ≡ n
   filled-size n = length-map g (resultsFrom d a (replicate n v)) ∙ length-results d a (replicate n v) ∙ length-replicate n v
 
-  pub filled-length : (n : ℕ) (new : List B) (x : ℤ) → from + n ≤ length old → Filled n new x → length new ≡ length old
+  pub filled-length : (n : ℕ) (new : List B) (x : ℤ) → from + n ≤ length old → Filled g d a v old from n new x → length new ≡ length old
   filled-length n new x h w = let s = filled-size n in ap length (w .0) ∙ paste-length old from (map g (resultsFrom d a (replicate n v))) (omega arith)
 
-  filled-more : (n : ℕ) (new : List B) (x y : ℤ) (e : B) → from + n < length old → Filled n new x → y ≡ advance d x v → Filled (suc n) (set new (from + n) (g y)) y
+  filled-more : (n : ℕ) (new : List B) (x y : ℤ) (e : B) → from + n < length old → Filled g d a v old from n new x → y ≡ advance d x v → Filled g d a v old from (suc n) (set new (from + n) (g y)) y
   filled-more n new x y e h w q =
       let r = resultsFrom d a (replicate n v) in
       let s = filled-size n in
@@ -102,14 +95,10 @@ module _ {B : Type 0} (g : ℤ → B) (d : Bool) (a v : ℤ) (old : List B) (fro
       ap₂ (λ (l : List B) (k : ℕ). set l (from + k) (g y)) (w .0) (sym s) in
       (p ∙ paste-set old from (map g (resultsFrom d a (replicate n v))) (g y) e (omega arith) ∙ ap (paste old from) (sym m), z ∙ sym (last-more d a v n))
 
-  pub filled-next : (n : ℕ) (new : List B) (x y : ℤ) (b e : B) → from + n < length old → Filled n new x → y ≡ advance d x v → b ≡ g y → Filled (n + 1) (set new (from + n) b) y
+  pub filled-next : (n : ℕ) (new : List B) (x y : ℤ) (b e : B) → from + n < length old → Filled g d a v old from n new x → y ≡ advance d x v → b ≡ g y → Filled g d a v old from (n + 1) (set new (from + n) b) y
   filled-next n new x y b e h w q z = rw (add-one n, z) (filled-more n new x y e h w q)
 
 -- Run after run
-
--- whether a payload's results have room
-abbrev pub HasRoom : Form → List ℕ → ℕ → Type 0
-HasRoom f s room = (l : List ℤ) × (readIn f s ≡ some l) × (length l ≤ room)
 
 module _ {B : Type 0} (g : ℤ → B) (f : Form) (d : Bool) (s : List ℕ) (old : List B) (room : HasRoom f s (length old)) where
   -- the values p are read before those that are left, and their results stand at the buffer's start

@@ -5,9 +5,9 @@ use mir.Syntax.{w32}
 use mir.Facts.{toZ-ofZ}
 use borrow.Author.Needs.{needs}
 use Rattle.codecs.specs.Delta.{plusDelta}
-use Rattle.payloads.specs.Laws.Scan.{advance}
-use Rattle.decoding.proofs.next_result.Statement.{statement}
-use Rattle.decoding.proofs.next_result.Tie as tie
+use Rattle.payloads.specs.Results.{advance}
+use Rattle.payloads.proofs.next_result.Statement.{statement}
+use Rattle.payloads.proofs.next_result.Tie as tie
 
 returns : tie.Need-returns
 returns c =
