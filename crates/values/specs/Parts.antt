@@ -1,0 +1,50 @@
+-- The parts of a document, each total: of a document of another kind nothing. No place, no reader and no lemma stands here. Assumes nothing.
+use mathlib.Core.List.{List, []}
+use Prim.Native.Nat.{ℕ}
+use lib.IntN.{ℤ, pos}
+use Rattle.messagepack.specs.Document.{Document, Documents, Entries, integer, float, string, binary, array, map, none, empty}
+
+-- an integer, else 0
+abbrev pub integerOf : Document → ℤ
+integerOf (integer v) = v
+integerOf (float bits) = pos 0
+integerOf (string t) = pos 0
+integerOf (binary t) = pos 0
+integerOf (array ds) = pos 0
+integerOf (map es) = pos 0
+
+-- a float's bits, else 0
+abbrev pub bitsOf : Document → ℕ
+bitsOf (float bits) = bits
+bitsOf (integer v) = 0
+bitsOf (string t) = 0
+bitsOf (binary t) = 0
+bitsOf (array ds) = 0
+bitsOf (map es) = 0
+
+-- the bytes of a string or a binary, else none
+abbrev pub textOf : Document → List ℕ
+textOf (string t) = t
+textOf (binary t) = t
+textOf (integer v) = []
+textOf (float bits) = []
+textOf (array ds) = []
+textOf (map es) = []
+
+-- the values of an array, else none
+abbrev pub itemsOf : Document → Documents
+itemsOf (array ds) = ds
+itemsOf (integer v) = none
+itemsOf (float bits) = none
+itemsOf (string t) = none
+itemsOf (binary t) = none
+itemsOf (map es) = none
+
+-- the entries of a map, else none
+abbrev pub entriesOf : Document → Entries
+entriesOf (map es) = es
+entriesOf (integer v) = empty
+entriesOf (float bits) = empty
+entriesOf (string t) = empty
+entriesOf (binary t) = empty
+entriesOf (array ds) = empty

@@ -1,0 +1,250 @@
+// Values at places of a file: where one ends, and what it holds. Each function takes any bytes and any place, and says what it answers for
+// whatever document stands there by the rules of a container. The table of lead bytes is lent (`heads::leads`).
+ghost use mathlib.Core.Path.{_≡_};
+ghost use Prim.Native.Nat.{ℕ, _+_, _-_, _≤_};
+ghost use lib.ListN.{length};
+ghost use Rattle.heads.specs.Table.{leadTable};
+ghost use Rattle.messagepack.specs.Document.{Document};
+ghost use Rattle.values.specs.Parts.{integerOf};
+ghost use Rattle.values.specs.Places.{At, TextAt, ItemsAt, EntriesAt, lastOf, halfOf, unsignedBy, signedBy};
+ghost use Rattle.values.specs.Standing.{Standing, pastOver, pairsOver, Stepped};
+use heads::Head;
+use heads::Kind;
+
+// A place, and how many bytes, values or entries stand from there on.
+pub struct Part {
+    pub at: usize,
+    pub count: usize,
+}
+
+// A step over a value: where it goes on, and how many values are inside; or no value stands there.
+pub enum Over {
+    On(usize, usize),
+    Stop,
+}
+
+// Where the value at a place ends. Each value inside takes a byte at least, so that a count that cannot be true ends the loop.
+pub fn skip(leads: &[u8; 256], file: &[u8], at: usize) -> usize
+    ensures { λ r. ⌜ (now (leads .entry) ≡ leadTable → (e : ℕ) → Standing (now (file .entry)) 1 at e → r ≡ e) ⌝ }
+{
+    let mut left: usize = 1;
+    let mut p = at;
+    while 0 < left {
+        let Over::On(q, inside) = step_over(leads, file, p) else {
+            return p;
+        };
+        if q <= p {
+            return p;
+        }
+        if file.len() < q {
+            return p;
+        }
+        let others = left - 1;
+        let room = file.len() - q;
+        if room < others {
+            return p;
+        }
+        if room - others < inside {
+            return p;
+        }
+        left = others + inside;
+        p = q;
+    }
+    p
+}
+
+// A step over the head of the value at a place, and the body of a string or a binary.
+fn step_over(leads: &[u8; 256], file: &[u8], at: usize) -> Over
+    ensures { λ r. ⌜ (now (leads .entry) ≡ leadTable → Stepped (now (file .entry)) at r) ⌝ }
+{
+    let Head::At(n, p) = heads::head_at(leads, file, at) else {
+        return Over::Stop;
+    };
+    match heads::kind_at(leads, file, at) {
+        Kind::Missing => Over::Stop,
+        Kind::Outside => Over::Stop,
+        Kind::Unsigned => Over::On(p, 0),
+        Kind::Signed => Over::On(p, 0),
+        Kind::Float => Over::On(p, 0),
+        Kind::Str => past(file, n, p),
+        Kind::Bin => past(file, n, p),
+        Kind::Array => Over::On(p, n),
+        Kind::Map => pairs(file, n, p),
+    }
+}
+
+// A step over n bytes.
+fn past(file: &[u8], n: usize, p: usize) -> Over
+    ensures { λ r. ⌜ r ≡ pastOver (length (now (file .entry))) n p ⌝ }
+{
+    if file.len() < p {
+        return Over::Stop;
+    }
+    if file.len() - p < n {
+        return Over::Stop;
+    }
+    Over::On(p + n, 0)
+}
+
+// A step to n keys and their values.
+fn pairs(file: &[u8], n: usize, p: usize) -> Over
+    ensures { λ r. ⌜ r ≡ pairsOver (length (now (file .entry))) n p ⌝ }
+{
+    if file.len() < p {
+        return Over::Stop;
+    }
+    if (file.len() - p) / 2 < n {
+        return Over::Stop;
+    }
+    Over::On(p, n + n)
+}
+
+// The integer at a place; of another value 0.
+pub fn integer_at(leads: &[u8; 256], file: &[u8], at: usize) -> i32
+    ensures { λ r. ⌜ (now (leads .entry) ≡ leadTable → (x : Document) (e : ℕ) → At (now (file .entry)) at x e → r ≡ integerOf x) ⌝ }
+{
+    let Head::At(n, p) = heads::head_at(leads, file, at) else {
+        return 0;
+    };
+    match heads::kind_at(leads, file, at) {
+        Kind::Unsigned => unsigned(n),
+        Kind::Signed => signed(n, less(p, at)),
+        Kind::Float => 0,
+        Kind::Str => 0,
+        Kind::Bin => 0,
+        Kind::Array => 0,
+        Kind::Map => 0,
+        Kind::Outside => 0,
+        Kind::Missing => 0,
+    }
+}
+
+// The integer of an unsigned head.
+fn unsigned(n: usize) -> i32
+    ensures { λ r. ⌜ r ≡ unsignedBy n ⌝ }
+{
+    if n <= messagepack::INTEGER_LIMIT {
+        return n as i32;
+    }
+    0
+}
+
+// The integer of a signed head of a size, lead byte included.
+fn signed(n: usize, size: usize) -> i32
+    ensures { λ r. ⌜ r ≡ signedBy n size ⌝ }
+{
+    if n < half(size) {
+        return n as i32;
+    }
+    let last = last_of(size);
+    if n <= last {
+        return !((last - n) as i32);
+    }
+    0
+}
+
+// The first number of a signed head of a size that stands for a negative integer.
+fn half(size: usize) -> usize
+    ensures { λ r. ⌜ r ≡ halfOf size ⌝ }
+{
+    if size == 1 {
+        return 0;
+    }
+    if size == 2 {
+        return 128;
+    }
+    if size == 3 {
+        return 32768;
+    }
+    2147483648
+}
+
+// The last number that a signed head of a size holds.
+fn last_of(size: usize) -> usize
+    ensures { λ r. ⌜ r ≡ lastOf size ⌝ }
+{
+    if size == 1 {
+        return 31;
+    }
+    if size == 2 {
+        return 255;
+    }
+    if size == 3 {
+        return 65535;
+    }
+    4294967295
+}
+
+// a - b, and 0 where b is larger.
+fn less(a: usize, b: usize) -> usize
+    ensures { λ r. ⌜ r ≡ a - b ⌝ }
+{
+    if a < b { 0 } else { a - b }
+}
+
+// The bytes of the string or the binary at a place; of another value none.
+pub fn text_at(leads: &[u8; 256], file: &[u8], at: usize) -> Part
+    ensures inside { λ r. ⌜ r .at + r .count ≤ length (now (file .entry)) ⌝ }
+    ensures says { λ r. ⌜ (now (leads .entry) ≡ leadTable → (x : Document) (e : ℕ) → At (now (file .entry)) at x e → TextAt (now (file .entry)) x e r) ⌝ }
+{
+    let Head::At(n, p) = heads::head_at(leads, file, at) else {
+        return Part { at: 0, count: 0 };
+    };
+    match heads::kind_at(leads, file, at) {
+        Kind::Str => body(file, n, p),
+        Kind::Bin => body(file, n, p),
+        Kind::Unsigned => Part { at: 0, count: 0 },
+        Kind::Signed => Part { at: 0, count: 0 },
+        Kind::Float => Part { at: 0, count: 0 },
+        Kind::Array => Part { at: 0, count: 0 },
+        Kind::Map => Part { at: 0, count: 0 },
+        Kind::Outside => Part { at: 0, count: 0 },
+        Kind::Missing => Part { at: 0, count: 0 },
+    }
+}
+
+// The n bytes from p on, or none where they are not all inside.
+fn body(file: &[u8], n: usize, p: usize) -> Part
+    ensures inside { λ r. ⌜ r .at + r .count ≤ length (now (file .entry)) ⌝ }
+    ensures is { λ r. ⌜ (p + n ≤ length (now (file .entry)) → (r .at ≡ p) × (r .count ≡ n)) ⌝ }
+{
+    if file.len() < p {
+        return Part { at: 0, count: 0 };
+    }
+    if file.len() - p < n {
+        return Part { at: 0, count: 0 };
+    }
+    Part { at: p, count: n }
+}
+
+// The values of the array at a place; of another value none.
+pub fn items_at(leads: &[u8; 256], file: &[u8], at: usize) -> Part
+    ensures inside { λ r. ⌜ r .count ≤ length (now (file .entry)) ⌝ }
+    ensures says { λ r. ⌜ (now (leads .entry) ≡ leadTable → (x : Document) (e : ℕ) → At (now (file .entry)) at x e → ItemsAt (now (file .entry)) x r) ⌝ }
+{
+    let Kind::Array = heads::kind_at(leads, file, at) else {
+        return Part { at: 0, count: 0 };
+    };
+    match heads::head_at(leads, file, at) {
+        Head::Cut => Part { at: 0, count: 0 },
+        Head::At(n, p) => {
+            if n <= file.len() {
+                return Part { at: p, count: n };
+            }
+            Part { at: 0, count: 0 }
+        }
+    }
+}
+
+// The entries of the map at a place; of another value none.
+pub fn entries_at(leads: &[u8; 256], file: &[u8], at: usize) -> Part
+    ensures { λ r. ⌜ (now (leads .entry) ≡ leadTable → (x : Document) (e : ℕ) → At (now (file .entry)) at x e → EntriesAt (now (file .entry)) x r) ⌝ }
+{
+    let Kind::Map = heads::kind_at(leads, file, at) else {
+        return Part { at: 0, count: 0 };
+    };
+    match heads::head_at(leads, file, at) {
+        Head::Cut => Part { at: 0, count: 0 },
+        Head::At(n, p) => Part { at: p, count: n },
+    }
+}
