@@ -187,13 +187,13 @@ fn results_between(payload: &[u8], form: Form, delta: bool, low: i32, high: i32)
     }
 }
 
-// Whether the results of a run lie between two numbers, where `before` is the result before it.
-fn run_between(before: i32, value: i32, count: usize, delta: bool, low: i32, high: i32) -> Last
+// Whether the results of a run lie between two numbers, where `sum` is the result before it.
+fn run_between(sum: i32, value: i32, count: usize, delta: bool, low: i32, high: i32) -> Last
     requires { ⌜ 1 ≤ count ⌝ }
-    ensures { λ r. ⌜ Reaches (between low high) (resultsFrom delta before (replicate count value)) (lastFrom delta before (replicate count value)) r ⌝ }
+    ensures { λ r. ⌜ Reaches (between low high) (resultsFrom delta sum (replicate count value)) (lastFrom delta sum (replicate count value)) r ⌝ }
 {
     if delta {
-        return sums_between(before, value, count, low, high);
+        return sums_between(sum, value, count, low, high);
     }
     if is_between(value, low, high) {
         return Last::Within(value);
@@ -202,10 +202,10 @@ fn run_between(before: i32, value: i32, count: usize, delta: bool, low: i32, hig
 }
 
 // The same where the results are sums, one after the other.
-fn sums_between(before: i32, value: i32, count: usize, low: i32, high: i32) -> Last
-    ensures { λ r. ⌜ Reaches (between low high) (resultsFrom true before (replicate count value)) (lastFrom true before (replicate count value)) r ⌝ }
+fn sums_between(sum: i32, value: i32, count: usize, low: i32, high: i32) -> Last
+    ensures { λ r. ⌜ Reaches (between low high) (resultsFrom true sum (replicate count value)) (lastFrom true sum (replicate count value)) r ⌝ }
 {
-    let mut x = before;
+    let mut x = sum;
     let mut left = count;
     while 0 < left {
         x = codecs::add_delta(x, value);

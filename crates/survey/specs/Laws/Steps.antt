@@ -1,1 +1,91 @@
--- Laws. Assumes nothing.
+-- Laws of passing the cells of a column, one part after the other. Assumes nothing.
+use mathlib.Core.Path.{_≡_, refl, sym, ap, subst, _∙_}
+use mathlib.Core.Bool.{Bool, true, false, _&&_}
+use mathlib.Core.Option.{Option, Option·map}
+use mathlib.Core.List.{List, [], _∷_, _++_}
+use Prim.Native.Nat.{ℕ, _+_, _-_, _*_, _≤_, _<_}
+use native.Mathlib.Omega.{arith}
+use lib.ListN.{length, replicate, length-append}
+use lib.IntN.{ℤ, pos}
+use Rattle.codecs.specs.Delta.{plusDelta}
+use Rattle.payloads.specs.Results.{resultsFrom, lastFrom}
+use Rattle.survey.specs.declared.Sums.{Sums}
+use Rattle.survey.specs.declared.Tally.{Tally}
+use Rattle.survey.specs.declared.Step.the-variants.{On, Off}
+use Rattle.survey.specs.Cells.{allPass, allBelow, total, TotalsOf}
+use Rattle.survey.specs.Steps.{cellLimit, Sound, Adds}
+use Rattle.survey.specs.Laws.Cells.{allPass-on, allPass-off, total-append}
+use Rattle.survey.specs.Laws.Rest.{Rest, rest-run, results-first, last-first}
+
+-- A test of all cells
+
+-- of the cells xs, those that are left decide
+abbrev pub Decide : (ℤ → Bool) → List ℤ → List ℤ → Type 0
+Decide test xs ys = allPass test xs ≡ allPass test ys
+
+module _ (test : ℤ → Bool) (d : Bool) (xs : List ℤ) (left : Option (List ℤ)) (x : ℤ) (w : Rest d (Decide test xs) left x)
+    (v : ℤ) (k : ℕ) (left′ : Option (List ℤ)) (e : left ≡ Option·map (λ (l : List ℤ). replicate k v ++ l) left′) where
+  -- a run that passes
+  pub decide-on : (y : ℤ) → allPass test (resultsFrom d x (replicate k v)) ≡ true → y ≡ lastFrom d x (replicate k v) → Rest d (Decide test xs) left′ y
+  decide-on y h q =
+      let r = rest-run d (Decide test xs) left x w v k left′ e in
+      (r .0, r .1, rw q (r .2 ∙ allPass-on test (resultsFrom d x (replicate k v)) (resultsFrom d (lastFrom d x (replicate k v)) (r .0)) h))
+
+  -- one that does not
+  pub decide-off : allPass test (resultsFrom d x (replicate k v)) ≡ false → allPass test xs ≡ false
+  decide-off h =
+      let r = rest-run d (Decide test xs) left x w v k left′ e in
+      r .2 ∙ allPass-off test (resultsFrom d x (replicate k v)) (resultsFrom d (lastFrom d x (replicate k v)) (r .0)) h
+
+-- of a run of sums from a on, the k that are left after x decide, and have its last
+abbrev pub Runs : (ℤ → Bool) → ℤ → ℤ → ℕ → ℤ → ℕ → Type 0
+Runs test v a n x k =
+    Decide test (resultsFrom true a (replicate n v)) (resultsFrom true x (replicate k v)) × (lastFrom true a (replicate n v) ≡ lastFrom true x (replicate k v))
+
+module _ (test : ℤ → Bool) (v a : ℤ) (n : ℕ) (x : ℤ) (k : ℕ) (w : Runs test v a n x k) where
+  module _ (h : 0 < k) (y : ℤ) (e : y ≡ plusDelta x v) where
+    first : allPass test (resultsFrom true a (replicate n v)) ≡ (test y && allPass test (resultsFrom true y (replicate (k - 1) v)))
+    unfolding allPass
+    first = w .0 ∙ ap (allPass test) (results-first true x v k h) ∙ rw e
+
+    -- the next sum passes, or does not
+    pub runs-on : test y ≡ true → Runs test v a n y (k - 1)
+    runs-on t = (first ∙ rw t, w .1 ∙ last-first true x v k h ∙ rw e)
+
+    pub runs-off : test y ≡ false → allPass test (resultsFrom true a (replicate n v)) ≡ false
+    runs-off t = first ∙ rw t
+
+  -- none are left
+  pub runs-end : k ≡ 0 → (allPass test (resultsFrom true a (replicate n v)) ≡ true) × (x ≡ lastFrom true a (replicate n v))
+  unfolding allPass resultsFrom lastFrom
+  runs-end e = let z = rw e at w in (z .0, sym (z .1))
+
+-- Sums over all cells
+
+module _ (n : ℕ) (atoms bonds : List ℕ) (t : Tally) (xs : List ℤ) where
+  -- the tally t with the cells xs to come is the tally u with the cells ys to come
+  abbrev pub Onward : Tally → List ℤ → Type 0
+  Onward u ys =
+      (allBelow n xs ≡ allBelow n ys) × (t .cells + length xs ≡ u .cells + length ys) × (t .atoms + total atoms xs ≡ u .atoms + total atoms ys)
+      × (t .bonds + total bonds xs ≡ u .bonds + total bonds ys)
+
+  pub onward-start : Onward t xs
+  onward-start = (refl, refl, refl, refl)
+
+  module _ (u : Tally) (ps qs : List ℤ) (z : ℤ) (w : Onward u (ps ++ qs)) where
+    pub onward-on : (v : Tally) → Adds n atoms bonds u ps z (On v) → Onward v qs
+    onward-on v a =
+        let l = length-append ps qs in
+        let i = total-append atoms ps qs in
+        let j = total-append bonds ps qs in
+        (w .0 ∙ allPass-on _ ps qs (a .0), omega (arith, w .1, a .1), omega (arith, w .2, a .2), omega (arith, w .3, a .3))
+
+    pub onward-off : Adds n atoms bonds u ps z Off → t .cells + length xs ≤ cellLimit → allBelow n xs ≡ false
+    onward-off a h =
+        let l = length-append ps qs in
+        w .0 ∙ allPass-off _ ps qs (a (omega (arith, w .1)))
+
+  -- where none are to come all are added
+  pub onward-end : (u : Tally) → Onward u [] → Sound u → Adds n atoms bonds t xs (u .last) (On u)
+  unfolding allPass total
+  onward-end u w h = (w .0, omega (arith, w .1), omega (arith, w .2), omega (arith, w .3), h, refl)
