@@ -1,57 +1,50 @@
+-- A column that decodes has a header that passes, and its cells are the results of what is read by it (`decode-read`).
+use mathlib.Core.Path.{_≡_, sym, ap, _∙_}
+use mathlib.Core.List.{List}
+use native.Mathlib.Omega.{arith}
+use lib.IntN.{ℤ}
+use mir.Syntax.{w32}
+use mir.Facts.{toZ-ofZ}
 use borrow.Author.Needs.{needs}
+use Rattle.numbers.specs.Laws.BigEndian.{bytes-of}
+use Rattle.columns.specs.declared.Wanted.the-variants.{Any}
+use Rattle.columns.specs.Laws.Table.{Passes, header-passes}
+use Rattle.survey.specs.Cells.{allBetween}
+use Rattle.survey.specs.Laws.Field.{decode-header, decode-read}
 use Rattle.survey.proofs.all_between.Statement.{statement}
 use Rattle.survey.proofs.all_between.Tie as tie
-use Rattle.survey.proofs.all_between.Reads as reads
-use Rattle.survey.proofs.all_between.Lts as lts
-use Rattle.columns.proofs.read_header.Reads as read-header-reads
-use Rattle.survey.proofs.results_between.Reads as results-between-reads
 
--- src/lib.rt:79:11
-read-header-requires : tie.Need-read-header-requires
-read-header-requires c κs = search needs
+-- the header that passed
+passed : (c : tie.After-form)
+    → Passes Any (c .before .before .before .before .args .column .now) (c .form .given .0 .0) (c .form .given .0 .1 .0) (c .form .given .0 .1 .1 .0) (c .form .given .0 .1 .1 .1 .0) (c .form .given .0 .1 .1 .1 .1 .0)
+passed c =
+    let k = c .form .given .0 in
+    header-passes Any (c .before .before .before .before .args .column .now) (k .0) (k .1 .0) (k .1 .1 .0) (k .1 .1 .1 .0) (k .1 .1 .1 .1 .0) (sym (c .before .before .read-header .ensures) ∙ c .form .given .1)
 
--- src/lib.rt:80:31
-enum-told : tie.Need-enum-told
-enum-told c = search needs
-
--- src/lib.rt:81:31
-enum-known-form : tie.Need-enum-known-form
-enum-known-form c = search needs
-
--- src/lib.rt:82:29
-sub-results-between : tie.Need-sub-results-between
-sub-results-between c = ?
-
--- src/lib.rt:82:29
-part-results-between-start : tie.Need-part-results-between-start
-part-results-between-start c = ?
-
--- src/lib.rt:82:29
-part-results-between-end : tie.Need-part-results-between-end
-part-results-between-end c = search needs
-
--- src/lib.rt:82:13
-results-between-requires : tie.Need-results-between-requires
-results-between-requires c κs = search needs
-
--- src/lib.rt:76:1
 returns : tie.Need-returns
-returns c = ?
+returns c k m xs e =
+    let a = c .before .before .before .before .args in
+    decode-header (a .column .now) k m xs e (c .enum-told .given .0 .0) (sym (c .before .before .read-header .ensures) ∙ c .enum-told .given .1)
 
--- src/lib.rt:76:1
 returns-2 : tie.Need-returns-2
-returns-2 c = ?
+returns-2 c k m xs e =
+    let b = c .before .before .before in
+    let a = b .before .before .before .before in
+    let g = b .form .given .0 in
+    let bytes = bytes-of (a .args .column .now) (λ i. omega (arith, b .before .before .before .shared-slice-known .given i)) in
+    let w = decode-read (a .args .column .now) k m xs e (g .0) (g .1 .0) (g .1 .1 .0) (g .1 .1 .1 .0) (g .1 .1 .1 .1 .0) (sym (b .before .before .read-header .ensures) ∙ b .form .given .1) bytes in
+    rw (toZ-ofZ {w = w32} (a .fits .low), toZ-ofZ {w = w32} (a .fits .high), w .2) at (c .results-between .ensures (w .0) (w .1))
 
 pub all-between-spec : {M : Type 1} → statement M
 all-between-spec =
     tie.close
     (tie.spec
-    read-header-requires
-    enum-told
-    enum-known-form
-    sub-results-between
-    part-results-between-start
-    part-results-between-end
-    results-between-requires
+    (λ c κs. search needs)
+    (λ c. search needs)
+    (λ c. search needs)
+    (λ c. passed (c .before) .0)
+    (λ c. passed (c .before) .0)
+    (λ c. search needs)
+    (λ c κs. search needs)
     returns
     returns-2)

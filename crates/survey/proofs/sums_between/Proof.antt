@@ -13,7 +13,7 @@ use borrow.Author.Tests.{not-true, not-false}
 use Rattle.codecs.specs.Delta.{plusDelta}
 use Rattle.payloads.specs.Results.{resultsFrom, lastFrom}
 use Rattle.survey.specs.Cells.{between}
-use Rattle.survey.specs.Laws.Steps.{Runs, runs-start, runs-on, runs-off, runs-end}
+use Rattle.survey.specs.Laws.Steps.{Runs, runs-on, runs-off, runs-end}
 use Rattle.survey.proofs.sums_between.Statement.{statement}
 use Rattle.survey.proofs.sums_between.Tie as tie
 
@@ -31,13 +31,26 @@ next : (c : tie.After-add-delta Inv-loop μ-loop) → toZ w32 (ofZ w32 (c .add-d
 next c = toZ-ofZ {w = w32} (record { sfits = c .add-delta .ok }) ∙ c .add-delta .ensures
 
 returns : tie.Need-returns Inv-loop μ-loop
-returns c = ?
+returns c =
+    let a = c .before .before .before .before .before in
+    let p = c .before .before .before .before .loop in
+    let e = runs-off (between (toZ w32 (ofZ w32 (a .args .low))) (toZ w32 (ofZ w32 (a .args .high)))) (toZ w32 (ofZ w32 (a .args .value))) (toZ w32 (ofZ w32 (a .args .sum))) (a .args .count) (toZ w32 (p .x)) (p .left) (p .inv) (omega arith)
+    (toZ w32 (ofZ w32 (c .before .before .add-delta .result))) (next (c .before .before)) (sym (c .before .is-between .ensures) ∙ not-true _ (c .if1 .taken)) in
+    rw (toZ-ofZ {w = w32} (a .fits .low), toZ-ofZ {w = w32} (a .fits .high), toZ-ofZ {w = w32} (a .fits .value), toZ-ofZ {w = w32} (a .fits .sum)) at e
 
 loop-again : tie.Need-loop-again Inv-loop μ-loop
-loop-again c = ?
+loop-again c =
+    let a = c .before .before .before .before .before in
+    let p = c .before .before .before .before .loop in
+    runs-on (between (toZ w32 (ofZ w32 (a .args .low))) (toZ w32 (ofZ w32 (a .args .high)))) (toZ w32 (ofZ w32 (a .args .value))) (toZ w32 (ofZ w32 (a .args .sum))) (a .args .count) (toZ w32 (p .x)) (p .left) (p .inv) (omega arith)
+    (toZ w32 (ofZ w32 (c .before .before .add-delta .result))) (next (c .before .before)) (sym (c .before .is-between .ensures) ∙ not-false _ (c .if1 .left))
 
 returns-2 : tie.Need-returns-2 Inv-loop μ-loop
-returns-2 c = ?
+returns-2 c =
+    let a = c .before .before in
+    let p = c .before .loop in
+    let e = runs-end (between (toZ w32 (ofZ w32 (a .args .low))) (toZ w32 (ofZ w32 (a .args .high)))) (toZ w32 (ofZ w32 (a .args .value))) (toZ w32 (ofZ w32 (a .args .sum))) (a .args .count) (toZ w32 (p .x)) (p .left) (p .inv) (omega arith) in
+    rw (toZ-ofZ {w = w32} (a .fits .low), toZ-ofZ {w = w32} (a .fits .high), toZ-ofZ {w = w32} (a .fits .value), toZ-ofZ {w = w32} (a .fits .sum)) at e
 
 pub sums-between-spec : {M : Type 1} → statement M
 sums-between-spec =

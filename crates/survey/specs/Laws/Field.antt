@@ -2,6 +2,7 @@
 -- Assumes nothing.
 use mathlib.Core.Path.{_≡_, refl, sym, ap, _∙_}
 use mathlib.Core.Bool.{Bool, true, false, cond, not, _&&_, _||_, and-eq-true-iff}
+use mathlib.Core.Option.{some}
 use mathlib.Core.List.{List, [], _∷_}
 use Prim.Native.Nat.{ℕ, _-_, _*_, _/_, _≤_, _<_}
 use native.Mathlib.Nat.{mul-le-mul}
@@ -14,7 +15,8 @@ use mir.Syntax.{w32}
 use mir.Val.{SFits}
 use borrow.Author.Tests.{le-leb, leb-true, eq-eqb, eqb-true, not-false}
 use Rattle.refusal.specs.Table.{headerRange}
-use Rattle.numbers.specs.BigEndian.{unsignedAt}
+use Rattle.numbers.specs.BigEndian.{Bytes, unsignedAt}
+use Rattle.numbers.specs.Laws.BigEndian.{part-bytes}
 use Rattle.codecs.specs.declared.Range.{Range}
 use Rattle.codecs.specs.declared.Range.the-variants.{Int8, Int16, Int32, Ascii}
 use Rattle.codecs.specs.declared.Form.{Form}
@@ -33,12 +35,14 @@ use Rattle.columns.specs.Table.{codecOf, kindNumber, suits, lengthLimit, elemen
 use Rattle.columns.specs.declared.Header.the-variants as header
 use Rattle.columns.specs.Header.{headerOf}
 use Rattle.columns.specs.Decode.{Decoding, refused, column, judgedPayload, decode}
-use Rattle.columns.specs.Laws.Table.{Passes, every-codec}
+use Rattle.columns.specs.Laws.Table.{Passes, header-passes, every-codec}
 use Rattle.columns.specs.Laws.Decode.{Decoded, decode-rules, decode-kept}
-use Rattle.payloads.specs.Items.{isNames}
+use Rattle.payloads.specs.Held.{heldIn}
+use Rattle.payloads.specs.Items.{readIn, isNames}
+use Rattle.payloads.specs.Laws.Held.{held-read}
 use Rattle.payloads.specs.Laws.Judged.{elements-one}
 use Rattle.decoding.specs.Laws.Rows.{not-names, string-row}
-use Rattle.decoding.specs.Laws.Calls.{decode-refused, decode-good}
+use Rattle.decoding.specs.Laws.Calls.{payload-part, decode-refused, decode-good}
 use Rattle.survey.specs.declared.Checked.the-variants.{Good, Refused}
 use Rattle.survey.specs.Field.{fieldNameSize, isNameSize, otherNames, fieldColumn, isStrings, lengthOf, checkedOf}
 
@@ -227,3 +231,28 @@ module _ (w : Wanted) (s : List ℕ) (k : Kind) (m : ℕ) (xs : List ℤ) where
       by : (t : Bool) → isStrings k ≡ t → cond t (length xs / fieldNameSize) (length xs) ≤ lengthLimit
       by true h = let l = names h in omega (arith, r .few)
       by false h = decode-length (fieldColumn-decode e) h
+
+-- What is read of it, by its header
+
+module _ (s : List ℕ) (k : Kind) (m : ℕ) (xs : List ℤ) (e : decode Any s ≡ column k m xs) where
+  pub decode-header : {A : Type 0} (r : ℕ) → headerOf Any s ≡ header.Refused r → A
+  decode-header r h = let q : refused r ≡ column k m xs = sym (decode-refused Any s r h) ∙ e in let y : _≡_ {A = ℕ} 0 1 = cc in absurd (omega arith)
+
+  rules : Decoded Any s k m xs
+  rules = decode-rules Any s k m xs e
+
+  held : heldIn (rules .form) (drop 12 s) ≡ some (rules .values)
+  unfolding heldIn
+  held = let a = and-eq-true-iff (allIn (rangeOf (rules .form)) (rules .values)) (padded (rules .form) m (rules .values)) .0 (rules .held) .0 in rw (rules .values-read, a)
+
+  pub decode-read : (n′ m′ : ℕ) (k′ : Kind) (f : Form) (d : Bool) → headerOf Any s ≡ header.Good n′ m′ k′ f d → Bytes s
+      → (l : List ℤ) × (readIn f (take (length s - 12) (drop 12 s)) ≡ some l) × (sumsIf d l ≡ xs)
+  decode-read n′ m′ k′ f d h b =
+      let p = header-passes Any s n′ m′ k′ f d h in
+      let q : Known k (rules .form) (rules .delta) (rules .parameter) ≡ Known k′ f d (p .3 .0) = sym (rules .known) ∙ p .3 .1 in
+      let x : rules .form ≡ f = cc in
+      let y : rules .delta ≡ d = cc in
+      let t = payload-part s in
+      let bytes : Bytes (drop 12 s) = rw t at (part-bytes s 12 (length s - 12) (omega (arith, p .0)) b) in
+      let g = sym (held-read (rules .form) (drop 12 s) bytes) ∙ held in
+      (rules .values, rw t (rw x at g), rw y at (rules .summed))

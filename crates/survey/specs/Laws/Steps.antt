@@ -1,7 +1,7 @@
 -- Laws of passing the cells of a column, one part after the other. Assumes nothing.
 use mathlib.Core.Path.{_≡_, refl, sym, ap, subst, _∙_}
 use mathlib.Core.Bool.{Bool, true, false, _&&_}
-use mathlib.Core.Option.{Option, Option·map}
+use mathlib.Core.Option.{Option, some, Option·map}
 use mathlib.Core.List.{List, [], _∷_, _++_}
 use Prim.Native.Nat.{ℕ, _+_, _-_, _*_, _≤_, _<_}
 use native.Mathlib.Omega.{arith}
@@ -15,7 +15,7 @@ use Rattle.survey.specs.declared.Step.the-variants.{On, Off}
 use Rattle.survey.specs.Cells.{allPass, allBelow, total, TotalsOf}
 use Rattle.survey.specs.Steps.{cellLimit, Sound, Adds}
 use Rattle.survey.specs.Laws.Cells.{allPass-on, allPass-off, total-append}
-use Rattle.survey.specs.Laws.Rest.{Rest, rest-run, results-first, last-first}
+use Rattle.survey.specs.Laws.Rest.{Rest, rest-run, rest-end, results-first, last-first}
 
 -- A test of all cells
 
@@ -36,6 +36,11 @@ module _ (test : ℤ → Bool) (d : Bool) (xs : List ℤ) (left : Option (List �
   decide-off h =
       let r = rest-run d (Decide test xs) left x w v k left′ e in
       r .2 ∙ allPass-off test (resultsFrom d x (replicate k v)) (resultsFrom d (lastFrom d x (replicate k v)) (r .0)) h
+
+-- where none are left all have passed
+pub decide-end : (test : ℤ → Bool) (d : Bool) (xs : List ℤ) (left : Option (List ℤ)) (x : ℤ) → Rest d (Decide test xs) left x → left ≡ some [] → allPass test xs ≡ true
+unfolding allPass
+decide-end test d xs left x w e = rest-end d (Decide test xs) left x w e
 
 -- of a run of sums from a on, the k that are left after x decide, and have its last
 abbrev pub Runs : (ℤ → Bool) → ℤ → ℤ → ℕ → ℤ → ℕ → Type 0
