@@ -5,7 +5,7 @@ use mathlib.Core.Bool.{Bool, true, false}
 use mathlib.Core.List.{List}
 use Prim.Native.Nat.{ℕ, _+_, _*_, _≤_}
 use lib.ListN.{length}
-use lib.IntN.{ℤ}
+use lib.IntN.{ℤ, pos}
 use Rattle.survey.specs.declared.Last.{Last}
 use Rattle.survey.specs.declared.Last.the-variants.{Within, Outside}
 use Rattle.survey.specs.declared.Tally.{Tally}
@@ -21,6 +21,10 @@ Reaches test ys z Outside = allPass test ys ≡ false
 -- the most cells that are counted: sums of as many 32-bit numbers have 64 bits
 abbrev pub cellLimit : ℕ
 cellLimit = 4294967295
+
+-- the tally of no cells
+abbrev pub noCells : Tally
+noCells = record { cells = 0; atoms = 0; bonds = 0; last = pos 0 }
 
 -- a tally's numbers have room for what it counts
 abbrev pub Sound : Tally → Type 0

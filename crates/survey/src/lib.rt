@@ -4,7 +4,7 @@ ghost use mathlib.Core.Path.{_≡_};
 ghost use mathlib.Core.Bool.{true, false};
 ghost use mathlib.Core.Option.{some};
 ghost use mathlib.Core.List.{List};
-ghost use Prim.Native.Nat.{ℕ, _≤_};
+ghost use Prim.Native.Nat.{ℕ, _+_, _*_, _≤_};
 ghost use lib.ListN.{length, replicate};
 ghost use lib.IntN.{ℤ};
 ghost use Rattle.codecs.specs.Delta.{sumsIf};
@@ -348,14 +348,16 @@ fn add_cells(
     }
     Step::On(Tally {
         cells: tally.cells + count,
-        atoms: tally.atoms + wide(atoms[i]) * (count as u64),
-        bonds: tally.bonds + wide(bonds[i]) * (count as u64),
+        atoms: add_entry(tally.atoms, atoms[i], count, tally.cells),
+        bonds: add_entry(tally.bonds, bonds[i], count, tally.cells),
         last: cell,
     })
 }
 
-fn wide(number: u32) -> u64
-    ensures { λ r. ⌜ r ≡ number ⌝ }
+// The sum over cells with an entry more, so many times.
+fn add_entry(sum: u64, entry: u32, count: usize, cells: usize) -> u64
+    requires { ⌜ (cells + count ≤ 4294967295) × (sum ≤ cells * 4294967295) ⌝ }
+    ensures { λ r. ⌜ (r ≡ sum + entry * count) × (r ≤ (cells + count) * 4294967295) ⌝ }
 {
-    number as u64
+    sum + (entry as u64) * (count as u64)
 }

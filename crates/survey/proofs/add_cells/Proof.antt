@@ -1,102 +1,82 @@
+-- One test of the cell decides for the whole run, and its entries are added as often as it stands there (`allPass-same`, `total-same`).
+use mathlib.Core.Path.{_≡_, sym, ap, _∙_}
+use mathlib.Core.Bool.{true, false}
+use mathlib.Core.List.{List}
+use Prim.Native.Nat.{ℕ, _+_, _*_}
+use native.Mathlib.Omega.{arith}
+use lib.ListN.{getD, replicate, length-replicate}
+use lib.IntN.{ℤ, pos, natAbs}
+use lib.Signed.{ltZ}
+use mir.Syntax.{w32}
+use mir.Val.{ofZ}
+use mir.Facts.{toZ-ofZ}
 use borrow.Author.Needs.{needs}
+use borrow.Author.Tests.{lt-ltb, le-ltb}
+use Rattle.survey.specs.Cells.{below, allBelow, total}
+use Rattle.survey.specs.Laws.Cells.{allPass-same, total-same, below-negative, below-index, index-bits}
 use Rattle.survey.proofs.add_cells.Statement.{statement}
 use Rattle.survey.proofs.add_cells.Tie as tie
-use Rattle.survey.proofs.add_cells.Reads as reads
-use Rattle.survey.proofs.add_cells.Lts as lts
-use Rattle.numbers.proofs.to_u32.Reads as to-u32-reads
-use Rattle.survey.proofs.wide.Reads as wide-reads
 
--- src/lib.rt:340:9
+-- the cell decides
+decides : (c : tie.Start) → allBelow (c .args .types) (replicate (c .args .count) (c .args .cell)) ≡ below (c .args .types) (c .args .cell)
+decides c = allPass-same (below (c .args .types)) (c .args .count) (c .args .cell) (c .pre .0)
+
+-- it is not negative
+positive : (c : tie.Else1) → ltZ (c .before .args .cell) (pos 0) ≡ false
+positive c = ap (λ (z : ℤ). ltZ z (pos 0)) (sym (toZ-ofZ {w = w32} (c .before .fits .cell))) ∙ c .if1 .left
+
+-- its index
+index : (c : tie.After-to-u32) → c .to-u32 .result ≡ natAbs (c .before .before .args .cell)
+index c = c .to-u32 .ensures ∙ ap (ofZ w32) (toZ-ofZ {w = w32} (c .before .before .fits .cell)) ∙ index-bits (c .before .before .args .cell) (positive (c .before))
+
 returns : tie.Need-returns
-returns c = ?
+returns c h =
+    let a = c .before in
+    decides a ∙ below-negative (a .args .types) (a .args .cell) (ap (λ (z : ℤ). ltZ z (pos 0)) (sym (toZ-ofZ {w = w32} (a .fits .cell))) ∙ c .if1 .taken)
 
--- src/lib.rt:342:13
-to-u32-requires : tie.Need-to-u32-requires
-to-u32-requires c κs = search needs
-
--- src/lib.rt:342:13
-cast-i : tie.Need-cast-i
-cast-i c = search needs
-
--- src/lib.rt:344:9
 returns-2 : tie.Need-returns-2
-returns-2 c = ?
+returns-2 c h =
+    let a = c .before .before .before in
+    let i = index (c .before) in
+    decides a ∙ below-index (a .args .types) (a .args .cell) (positive (c .before .before)) ∙ le-ltb (natAbs (a .args .cell)) (a .args .types) (omega arith)
 
--- src/lib.rt:346:8
-sub-if3 : tie.Need-sub-if3
-sub-if3 c = search needs
-
--- src/lib.rt:347:9
 returns-3 : tie.Need-returns-3
-returns-3 c = ?
+returns-3 c h =
+    let a = c .before .before .before .before .before .args in
+    let l = length-replicate (a .count) (a .cell) in
+    absurd (omega arith)
 
--- src/lib.rt:350:16
-add-t10 : tie.Need-add-t10
-add-t10 c = search needs
-
--- src/lib.rt:351:35
-mul-wide : tie.Need-mul-wide
-mul-wide c = search needs
-
--- src/lib.rt:351:35
-element-copy-out-wide : tie.Need-element-copy-out-wide
-element-copy-out-wide c = search needs
-
--- src/lib.rt:351:30
-wide-requires : tie.Need-wide-requires
-wide-requires c κs = search needs
-
--- src/lib.rt:351:30
-mul-t16 : tie.Need-mul-t16
-mul-t16 c = ?
-
--- src/lib.rt:351:16
-add-t17 : tie.Need-add-t17
-add-t17 c = ?
-
--- src/lib.rt:352:35
-mul-wide-2 : tie.Need-mul-wide-2
-mul-wide-2 c = search needs
-
--- src/lib.rt:352:35
-element-copy-out-wide-2 : tie.Need-element-copy-out-wide-2
-element-copy-out-wide-2 c = search needs
-
--- src/lib.rt:352:30
-wide-requires-2 : tie.Need-wide-requires-2
-wide-requires-2 c κs = search needs
-
--- src/lib.rt:352:30
-mul-t24 : tie.Need-mul-t24
-mul-t24 c = ?
-
--- src/lib.rt:352:16
-add-t25 : tie.Need-add-t25
-add-t25 c = ?
-
--- src/lib.rt:328:1
 returns-4 : tie.Need-returns-4
-returns-4 c = ?
+returns-4 c =
+    let b = c .before .before .before .before .before .before .before .before in
+    let a = b .before .before in
+    let i = index b in
+    let l = length-replicate (a .args .count) (a .args .cell) in
+    let entries : (table : List ℕ) → getD table (b .to-u32 .result) 0 * a .args .count ≡ total table (replicate (a .args .count) (a .args .cell)) =
+    λ table. ap (λ (j : ℕ). getD table j 0 * a .args .count) i ∙ sym (total-same table (a .args .count) (a .args .cell)) in (
+      decides a ∙ below-index (a .args .types) (a .args .cell) (positive (b .before)) ∙ lt-ltb (natAbs (a .args .cell)) (a .args .types) (omega arith),
+      omega arith,
+      c .before .before .add-entry .ensures .0 ∙ ap (λ (x : ℕ). a .args .tally .atoms + x) (entries (a .args .atoms .now)),
+      c .add-entry2 .ensures .0 ∙ ap (λ (x : ℕ). a .args .tally .bonds + x) (entries (a .args .bonds .now)),
+      (omega arith, c .before .before .add-entry .ensures .1, c .add-entry2 .ensures .1),
+      toZ-ofZ {w = w32} (a .fits .cell),
+    )
 
 pub add-cells-spec : {M : Type 1} → statement M
 add-cells-spec =
     tie.close
     (tie.spec
     returns
-    to-u32-requires
-    cast-i
+    (λ c κs. search needs)
+    (λ c. search needs)
     returns-2
-    sub-if3
+    (λ c. search needs)
     returns-3
-    add-t10
-    mul-wide
-    element-copy-out-wide
-    wide-requires
-    mul-t16
-    add-t17
-    mul-wide-2
-    element-copy-out-wide-2
-    wide-requires-2
-    mul-t24
-    add-t25
+    (λ c. search needs)
+    (λ c. search needs)
+    (λ c. search needs)
+    (λ c κs. search needs)
+    (λ c. search needs)
+    (λ c. search needs)
+    (λ c κs. search needs)
     returns-4)

@@ -1,73 +1,58 @@
+-- A column that decodes has a header that passes, and its cells are the results of what is read by it (`decode-read`), not too many
+-- to be counted (`decode-cells`).
+use mathlib.Core.Path.{_≡_, sym, ap, _∙_}
+use mathlib.Core.List.{List}
+use Prim.Native.Nat.{ℕ, _≤_}
+use native.Mathlib.Omega.{arith}
+use lib.ListN.{length}
+use lib.IntN.{ℤ}
 use borrow.Author.Needs.{needs}
+use Rattle.numbers.specs.Laws.BigEndian.{bytes-of}
+use Rattle.codecs.specs.Laws.Delta.{length-sumsIf}
+use Rattle.columns.specs.declared.Wanted.the-variants.{Any}
+use Rattle.columns.specs.Laws.Table.{Passes, header-passes}
+use Rattle.survey.specs.Laws.Field.{decode-header, decode-read, decode-cells}
 use Rattle.survey.proofs.totals.Statement.{statement}
 use Rattle.survey.proofs.totals.Tie as tie
-use Rattle.survey.proofs.totals.Reads as reads
-use Rattle.survey.proofs.totals.Lts as lts
-use Rattle.columns.proofs.read_header.Reads as read-header-reads
-use Rattle.survey.proofs.no_sums.Reads as no-sums-reads
-use Rattle.survey.proofs.sums_of.Reads as sums-of-reads
 
--- src/lib.rt:93:9
-no-sums-requires : tie.Need-no-sums-requires
-no-sums-requires c κs = search needs
+-- the header that passed
+passed : (c : tie.After-form)
+    → Passes Any (c .before .before .before .before .before .args .column .now) (c .form .given .0 .0) (c .form .given .0 .1 .0) (c .form .given .0 .1 .1 .0) (c .form .given .0 .1 .1 .1 .0) (c .form .given .0 .1 .1 .1 .1 .0)
+passed c =
+    let k = c .form .given .0 in
+    header-passes Any (c .before .before .before .before .before .args .column .now) (k .0) (k .1 .0) (k .1 .1 .0) (k .1 .1 .1 .0) (k .1 .1 .1 .1 .0) (sym (c .before .before .read-header .ensures) ∙ c .form .given .1)
 
--- src/lib.rt:93:9
 returns : tie.Need-returns
-returns c = ?
+returns c k m xs e h = absurd (omega (arith, c .before .if1 .taken))
 
--- src/lib.rt:95:11
-read-header-requires : tie.Need-read-header-requires
-read-header-requires c κs = search needs
-
--- src/lib.rt:96:31
-enum-told : tie.Need-enum-told
-enum-told c = search needs
-
--- src/lib.rt:96:31
-no-sums-requires-2 : tie.Need-no-sums-requires-2
-no-sums-requires-2 c κs = search needs
-
--- src/lib.rt:97:31
-enum-known-form : tie.Need-enum-known-form
-enum-known-form c = search needs
-
--- src/lib.rt:98:21
-sub-sums-of : tie.Need-sub-sums-of
-sub-sums-of c = ?
-
--- src/lib.rt:98:21
-part-sums-of-start : tie.Need-part-sums-of-start
-part-sums-of-start c = ?
-
--- src/lib.rt:98:21
-part-sums-of-end : tie.Need-part-sums-of-end
-part-sums-of-end c = search needs
-
--- src/lib.rt:98:13
-sums-of-requires : tie.Need-sums-of-requires
-sums-of-requires c κs = search needs
-
--- src/lib.rt:89:1
 returns-2 : tie.Need-returns-2
-returns-2 c = ?
+returns-2 c k m xs e h =
+    let a = c .before .before .before .before .before .before .args in
+    decode-header (a .column .now) k m xs e (c .before .enum-told .given .0 .0) (sym (c .before .before .before .read-header .ensures) ∙ c .before .enum-told .given .1)
 
--- src/lib.rt:89:1
 returns-3 : tie.Need-returns-3
-returns-3 c = ?
+returns-3 c k m xs e h =
+    let b = c .before .before .before in
+    let a = b .before .before .before .before .before in
+    let g = b .form .given .0 in
+    let bytes = bytes-of (a .args .column .now) (λ i. omega (arith, b .before .before .before .before .shared-slice-known .given i)) in
+    let w = decode-read (a .args .column .now) k m xs e (g .0) (g .1 .0) (g .1 .1 .0) (g .1 .1 .1 .0) (g .1 .1 .1 .1 .0) (sym (b .before .before .read-header .ensures) ∙ b .form .given .1) bytes in
+    let n : length (w .0) ≤ 4294967295 = let x = decode-cells Any (a .args .column .now) k m xs e in let y = sym (length-sumsIf (g .1 .1 .1 .1 .0) (w .0)) ∙ ap length (w .2) in omega arith in
+    rw (w .2) at (c .sums-of .ensures (w .0) (w .1) n)
 
 pub totals-spec : {M : Type 1} → statement M
 totals-spec =
     tie.close
     (tie.spec
-    no-sums-requires
+    (λ c κs. search needs)
     returns
-    read-header-requires
-    enum-told
-    no-sums-requires-2
-    enum-known-form
-    sub-sums-of
-    part-sums-of-start
-    part-sums-of-end
-    sums-of-requires
+    (λ c κs. search needs)
+    (λ c. search needs)
+    (λ c κs. search needs)
+    (λ c. search needs)
+    (λ c. passed (c .before) .0)
+    (λ c. passed (c .before) .0)
+    (λ c. search needs)
+    (λ c κs. search needs)
     returns-2
     returns-3)

@@ -7,6 +7,9 @@ use native.Mathlib.Omega.{arith}
 use lib.ListN.{getD, replicate}
 use lib.IntN.{ℤ, pos, negsuc, natAbs}
 use lib.Signed.{ltZ, leZ}
+use lib.Dec.{ltb}
+use mir.Syntax.{w32}
+use mir.Val.{ofZ}
 use borrow.Author.Tests.{ltb-true}
 use Rattle.survey.specs.Cells.{allPass, below, total}
 
@@ -63,3 +66,12 @@ between-below low high x e = rw e
 pub below-negative : (n : ℕ) (x : ℤ) → ltZ x (pos 0) ≡ true → below n x ≡ false
 below-negative n (pos i) e = absurd (omega (arith, ltb-true i 0 e))
 below-negative n (negsuc i) e = refl
+
+-- a cell that is not negative is its own bits, and an index where it is below the table's size
+pub index-bits : (x : ℤ) → ltZ x (pos 0) ≡ false → ofZ w32 x ≡ natAbs x
+index-bits (pos i) e = refl
+index-bits (negsuc i) e = let y : _≡_ {A = ℕ} 0 1 = cc in absurd (omega arith)
+
+pub below-index : (n : ℕ) (x : ℤ) → ltZ x (pos 0) ≡ false → below n x ≡ ltb (natAbs x) n
+below-index n (pos i) e = refl
+below-index n (negsuc i) e = let y : _≡_ {A = ℕ} 0 1 = cc in absurd (omega arith)

@@ -13,7 +13,7 @@ use Rattle.survey.specs.declared.Sums.{Sums}
 use Rattle.survey.specs.declared.Tally.{Tally}
 use Rattle.survey.specs.declared.Step.the-variants.{On, Off}
 use Rattle.survey.specs.Cells.{allPass, allBelow, total, TotalsOf}
-use Rattle.survey.specs.Steps.{cellLimit, Sound, Adds}
+use Rattle.survey.specs.Steps.{cellLimit, noCells, Sound, Adds}
 use Rattle.survey.specs.Laws.Cells.{allPass-on, allPass-off, total-append}
 use Rattle.survey.specs.Laws.Rest.{Rest, rest-run, rest-end, results-first, last-first}
 
@@ -94,3 +94,43 @@ module _ (n : ℕ) (atoms bonds : List ℕ) (t : Tally) (xs : List ℤ) where
   pub onward-end : (u : Tally) → Onward u [] → Sound u → Adds n atoms bonds t xs (u .last) (On u)
   unfolding allPass total
   onward-end u w h = (w .0, omega (arith, w .1), omega (arith, w .2), omega (arith, w .3), h, refl)
+
+  -- the next of k sums after a tally's last
+  module _ (u : Tally) (v : ℤ) (k : ℕ) (w : Onward u (resultsFrom true (u .last) (replicate k v))) (h : 0 < k) (y : ℤ) (e : y ≡ plusDelta (u .last) v) where
+    next : Onward u ((y ∷ []) ++ resultsFrom true y (replicate (k - 1) v))
+    next = rw e (subst (Onward u) (results-first true (u .last) v k h) w)
+
+    pub sums-on : (u′ : Tally) → Adds n atoms bonds u (replicate 1 y) y (On u′) → Onward u′ (resultsFrom true (u′ .last) (replicate (k - 1) v))
+    sums-on u′ a = rw (a .5) (onward-on u (y ∷ []) (resultsFrom true y (replicate (k - 1) v)) y next u′ a)
+
+    pub sums-off : Adds n atoms bonds u (replicate 1 y) y Off → t .cells + length xs ≤ cellLimit → allBelow n xs ≡ false
+    sums-off a = onward-off u (y ∷ []) (resultsFrom true y (replicate (k - 1) v)) y next a
+
+  -- none are left
+  pub sums-end : (u : Tally) (v : ℤ) (k : ℕ) → Onward u (resultsFrom true (u .last) (replicate k v)) → k ≡ 0 → Sound u → (z : ℤ) → z ≡ lastFrom true (u .last) (replicate k v) → Adds n atoms bonds t xs z (On u)
+  unfolding resultsFrom lastFrom
+  sums-end u v k w e h z q = let g = onward-end u (rw e at w) h in (g .0, g .1, g .2, g .3, g .4, sym (rw e at q))
+
+  -- the next run after a tally's last
+  module _ (d : Bool) (u : Tally) (left : Option (List ℤ)) (w : Rest d (Onward u) left (u .last)) (v : ℤ) (k : ℕ) (left′ : Option (List ℤ))
+      (e : left ≡ Option·map (λ (l : List ℤ). replicate k v ++ l) left′) where
+    pub run-on : (u′ : Tally) → Adds n atoms bonds u (resultsFrom d (u .last) (replicate k v)) (lastFrom d (u .last) (replicate k v)) (On u′) → Rest d (Onward u′) left′ (u′ .last)
+    run-on u′ a =
+        let r = rest-run d (Onward u) left (u .last) w v k left′ e in
+        let q = onward-on u (resultsFrom d (u .last) (replicate k v)) (resultsFrom d (lastFrom d (u .last) (replicate k v)) (r .0)) (lastFrom d (u .last) (replicate k v)) (r .2) u′ a in
+        (r .0, r .1, rw (a .5) q)
+
+    pub run-off : Adds n atoms bonds u (resultsFrom d (u .last) (replicate k v)) (lastFrom d (u .last) (replicate k v)) Off → t .cells + length xs ≤ cellLimit → allBelow n xs ≡ false
+    run-off a =
+        let r = rest-run d (Onward u) left (u .last) w v k left′ e in
+        onward-off u (resultsFrom d (u .last) (replicate k v)) (resultsFrom d (lastFrom d (u .last) (replicate k v)) (r .0)) (lastFrom d (u .last) (replicate k v)) (r .2) a
+
+-- The answer
+
+module _ (n : ℕ) (atoms bonds : List ℕ) (xs : List ℤ) where
+  pub totals-all : (u : Tally) → Onward n atoms bonds noCells xs u [] → TotalsOf n atoms bonds xs (record { inside = true; atoms = u .atoms; bonds = u .bonds })
+  unfolding allPass total
+  totals-all u w = (sym (w .0), (λ _. (omega (arith, w .2), omega (arith, w .3))))
+
+  pub totals-none : (r : Sums) → r .inside ≡ false → allBelow n xs ≡ false → TotalsOf n atoms bonds xs r
+  totals-none r e q = (e ∙ sym q, (λ h. let y : _≡_ {A = ℕ} 0 1 = cc in absurd (omega arith)))
