@@ -2,16 +2,24 @@
 -- Laws/Steps.antt. Assumes nothing.
 use mathlib.Core.Path.{_≡_}
 use mathlib.Core.Bool.{Bool, true, false}
+use mathlib.Core.Option.{some}
 use mathlib.Core.List.{List}
 use Prim.Native.Nat.{ℕ, _+_, _*_, _≤_}
 use lib.ListN.{length}
 use lib.IntN.{ℤ, pos}
+use Rattle.codecs.specs.declared.Form.{Form}
+use Rattle.codecs.specs.Delta.{sumsIf}
+use Rattle.payloads.specs.Items.{readIn}
 use Rattle.survey.specs.declared.Last.{Last}
 use Rattle.survey.specs.declared.Last.the-variants.{Within, Outside}
 use Rattle.survey.specs.declared.Tally.{Tally}
 use Rattle.survey.specs.declared.Step.{Step}
 use Rattle.survey.specs.declared.Step.the-variants.{On, Off}
 use Rattle.survey.specs.Cells.{allPass, allBelow, total}
+
+-- what is said of the results of a payload; where a number is not allowed, nothing is said
+abbrev pub OfResults : Form → Bool → List ℕ → (List ℤ → Type 0) → Type 0
+OfResults f d s P = (l : List ℤ) → readIn f s ≡ some l → P (sumsIf d l)
 
 -- all of the results ys pass a test, and z is the last; or one does not
 abbrev pub Reaches : (ℤ → Bool) → List ℤ → ℤ → Last → Type 0

@@ -1,20 +1,19 @@
 // A column of a named field judged as a whole, with nothing copied: its refusal and its length, whether its cells lie between two
 // numbers, and sums over tables by its cells.
 ghost use mathlib.Core.Path.{_≡_};
-ghost use mathlib.Core.Bool.{true, false};
-ghost use mathlib.Core.Option.{some};
+ghost use mathlib.Core.Bool.{true, false, _&&_};
 ghost use mathlib.Core.List.{List};
 ghost use Prim.Native.Nat.{ℕ, _+_, _*_, _≤_};
 ghost use lib.ListN.{length, replicate};
 ghost use lib.IntN.{ℤ};
-ghost use Rattle.codecs.specs.Delta.{sumsIf};
 ghost use Rattle.columns.specs.Decode.{judgedPayload};
-ghost use Rattle.payloads.specs.Items.{readIn, isNames};
+ghost use Rattle.payloads.specs.Items.{isNames};
 ghost use Rattle.payloads.specs.Results.{resultsFrom, lastFrom};
 ghost use Rattle.survey.specs.Field.{otherSize, otherNames, fieldColumn, isStrings, checkedOf};
 ghost use Rattle.survey.specs.Cells.{Decodes, between, allBetween, TotalsOf};
-ghost use Rattle.survey.specs.Steps.{Reaches, Sound, Adds};
+ghost use Rattle.survey.specs.Steps.{OfResults, Reaches, cellLimit, Sound, Adds};
 use codecs::Form;
+use codecs::Size;
 use columns::Codec;
 use columns::Header;
 use columns::Kind;
@@ -162,9 +161,49 @@ fn check_payload(
     }
 }
 
-// Whether all results of a payload lie between two numbers, item by item.
+// Whether all results of a payload lie between two numbers, by a loop of its form's own.
 fn results_between(payload: &[u8], form: Form, delta: bool, low: i32, high: i32) -> bool
-    ensures { λ r. ⌜ ((l : List ℤ) → readIn form (now (payload .entry)) ≡ some l → r ≡ allBetween low high (sumsIf delta l)) ⌝ }
+    ensures { λ r. ⌜ OfResults form delta (now (payload .entry)) (λ xs. r ≡ allBetween low high xs) ⌝ }
+{
+    match form {
+        Form::Plain(size) => {
+            if delta {
+                return items_between(payload, Form::Plain(size), delta, low, high);
+            }
+            match size {
+                Size::One => plain_between(payload, Size::One, low, high),
+                Size::Two => plain_between(payload, Size::Two, low, high),
+                Size::Four => plain_between(payload, Size::Four, low, high),
+            }
+        }
+        Form::Packed(size) => match size {
+            Size::One => items_between(payload, Form::Packed(Size::One), delta, low, high),
+            Size::Two => items_between(payload, Form::Packed(Size::Two), delta, low, high),
+            Size::Four => items_between(payload, Form::Packed(Size::Four), delta, low, high),
+        },
+        Form::Runs(range) => items_between(payload, Form::Runs(range), delta, low, high),
+        Form::Names => items_between(payload, Form::Names, delta, low, high),
+    }
+}
+
+// The same for plain numbers.
+fn plain_between(payload: &[u8], size: Size, low: i32, high: i32) -> bool
+    ensures { λ r. ⌜ OfResults (Form.Plain size) false (now (payload .entry)) (λ xs. r ≡ allBetween low high xs) ⌝ }
+{
+    let k = codecs::bytes(size);
+    let mut at: usize = 0;
+    let mut fine = true;
+    while k <= payload.len() - at {
+        let number = codecs::number_at(payload, at, size);
+        fine = both(fine, is_between(number, low, high));
+        at += k;
+    }
+    fine
+}
+
+// The same, item by item.
+fn items_between(payload: &[u8], form: Form, delta: bool, low: i32, high: i32) -> bool
+    ensures { λ r. ⌜ OfResults form delta (now (payload .entry)) (λ xs. r ≡ allBetween low high xs) ⌝ }
 {
     let mut at: usize = 0;
     let mut last: i32 = 0;
@@ -227,6 +266,12 @@ fn is_between(number: i32, low: i32, high: i32) -> bool
     false
 }
 
+fn both(a: bool, b: bool) -> bool
+    ensures { λ r. ⌜ r ≡ (a && b) ⌝ }
+{
+    if a { b } else { false }
+}
+
 // No cells are indices.
 fn no_sums() -> Sums
     ensures { λ r. ⌜ r .inside ≡ false ⌝ }
@@ -238,7 +283,7 @@ fn no_sums() -> Sums
     }
 }
 
-// The sums over all results of a payload, item by item.
+// The sums over all results of a payload, by a loop of its form's own.
 fn sums_of(
     payload: &[u8],
     form: Form,
@@ -248,7 +293,35 @@ fn sums_of(
     bonds: &[u32; 4096],
 ) -> Sums
     requires { ⌜ types ≤ 4096 ⌝ }
-    ensures { λ r. ⌜ ((l : List ℤ) → readIn form (now (payload .entry)) ≡ some l → length l ≤ 4294967295 → TotalsOf types (now (atoms .entry)) (now (bonds .entry)) (sumsIf delta l) r) ⌝ }
+    ensures { λ r. ⌜ OfResults form delta (now (payload .entry)) (λ xs. length xs ≤ cellLimit → TotalsOf types (now (atoms .entry)) (now (bonds .entry)) xs r) ⌝ }
+{
+    match form {
+        Form::Plain(size) => match size {
+            Size::One => sum_items(payload, Form::Plain(Size::One), delta, types, atoms, bonds),
+            Size::Two => sum_items(payload, Form::Plain(Size::Two), delta, types, atoms, bonds),
+            Size::Four => sum_items(payload, Form::Plain(Size::Four), delta, types, atoms, bonds),
+        },
+        Form::Packed(size) => match size {
+            Size::One => sum_items(payload, Form::Packed(Size::One), delta, types, atoms, bonds),
+            Size::Two => sum_items(payload, Form::Packed(Size::Two), delta, types, atoms, bonds),
+            Size::Four => sum_items(payload, Form::Packed(Size::Four), delta, types, atoms, bonds),
+        },
+        Form::Runs(range) => sum_items(payload, Form::Runs(range), delta, types, atoms, bonds),
+        Form::Names => sum_items(payload, Form::Names, delta, types, atoms, bonds),
+    }
+}
+
+// The same, item by item.
+fn sum_items(
+    payload: &[u8],
+    form: Form,
+    delta: bool,
+    types: usize,
+    atoms: &[u32; 4096],
+    bonds: &[u32; 4096],
+) -> Sums
+    requires { ⌜ types ≤ 4096 ⌝ }
+    ensures { λ r. ⌜ OfResults form delta (now (payload .entry)) (λ xs. length xs ≤ cellLimit → TotalsOf types (now (atoms .entry)) (now (bonds .entry)) xs r) ⌝ }
 {
     let mut at: usize = 0;
     let mut tally = Tally {

@@ -1,117 +1,79 @@
--- The results that are left of the payload bring the tally to the sums over all (`run-on`, `run-off`).
-use mathlib.Core.Path.{_≡_, refl, sym, ap, subst, _∙_}
-use mathlib.Core.Bool.{Bool, true, false}
-use mathlib.Core.Option.{some}
+-- Each arm says it of the payload by its form (`by-form`).
+use mathlib.Core.Path.{_≡_, ap, _∙_}
 use mathlib.Core.List.{List}
-use Prim.Native.Nat.{ℕ, _+_, _-_, _≤_, _<_}
-use native.Mathlib.Omega.{arith}
-use lib.ListN.{length, drop, replicate}
-use lib.IntN.{ℤ, pos}
-use mir.Syntax.{w32}
-use mir.Val.{toZ, ofZ}
-use mir.Facts.{toZ-ofZ}
+use Prim.Native.Nat.{_≤_}
+use lib.ListN.{length}
+use lib.IntN.{ℤ}
 use borrow.Author.Needs.{needs}
-use Rattle.codecs.specs.Delta.{sumsIf}
-use Rattle.codecs.specs.Laws.Delta.{length-sumsIf}
-use Rattle.payloads.specs.declared.Item.{Item}
-use Rattle.payloads.specs.declared.Item.the-variants.{Run}
-use Rattle.payloads.specs.Items.{readIn, Gives}
-use Rattle.payloads.specs.Results.{resultsFrom, lastFrom}
-use Rattle.survey.specs.Steps.{cellLimit, noCells, Sound, Adds}
-use Rattle.survey.specs.Laws.Rest.{Rest, rest-start, rest-end, rest-wrong}
-use Rattle.survey.specs.Laws.Steps.{Onward, onward-start, run-on, run-off, totals-all, totals-none}
+use Rattle.codecs.specs.declared.Size.the-variants.{One, Two, Four}
+use Rattle.codecs.specs.declared.Form.{Form}
+use Rattle.codecs.specs.declared.Form.the-variants.{Plain, Packed, Runs, Names}
+use Rattle.survey.specs.declared.Sums.{Sums}
+use Rattle.survey.specs.Cells.{TotalsOf}
+use Rattle.survey.specs.Steps.{OfResults, cellLimit}
+use Rattle.survey.specs.Laws.Steps.{by-form}
 use Rattle.survey.proofs.sums_of.Statement.{statement}
 use Rattle.survey.proofs.sums_of.Tie as tie
 
-abbrev Inv-loop : tie.InvT-loop
-Inv-loop payload form delta types atoms bonds at₀ tally₀ at tally =
-    (at ≤ length payload) × Sound tally
-    × ((l : List ℤ) → readIn form payload ≡ some l → Rest delta (Onward types atoms bonds noCells (sumsIf delta l) tally) (readIn form (drop at payload)) (tally .last))
+-- what is said of the sums over all results
+abbrev Says : tie.Start → Sums → List ℤ → Type 0
+Says c r xs = length xs ≤ cellLimit → TotalsOf (c .args .types) (c .args .atoms .now) (c .args .bonds .now) xs r
 
-abbrev μ-loop : tie.MeasureT-loop
-μ-loop payload form delta types atoms bonds at₀ tally₀ at tally = length payload - at
+-- an arm's answer for its form is that for the form that is given
+arm : (c : tie.Start) (r : Sums) (f : Form) → c .args .form ≡ f → OfResults f (c .args .delta) (c .args .payload .now) (Says c r) → OfResults (c .args .form) (c .args .delta) (c .args .payload .now) (Says c r)
+arm c r f e h = by-form (c .args .form) f (c .args .delta) (c .args .payload .now) (Says c r) e h
 
-loop-holds : tie.Need-loop-holds Inv-loop μ-loop
-loop-holds c =
-    let a = c .before .args in (
-      omega arith,
-      (omega arith, omega arith, omega arith),
-      (λ l e. rest-start (a .delta) (Onward (a .types) (a .atoms .now) (a .bonds .now) noCells (sumsIf (a .delta) l) noCells) (readIn (a .form) (a .payload .now)) l e (onward-start (a .types) (a .atoms .now) (a .bonds .now) noCells (sumsIf (a .delta) l))),
-    )
+returns : tie.Need-returns
+returns c = arm (c .before .before .before .before .before .before .before) (c .sum-items .result) (Plain One) (c .before .before .before .before .form .given .1 ∙ ap Plain (c .before .enum-told .given .1)) (c .sum-items .ensures)
 
--- the run that was read
-read : (c : tie.After-value Inv-loop μ-loop)
-    → Gives (c .before .before .before .before .before .args .form) (c .before .before .before .before .before .args .payload .now) (c .before .before .before .loop .at) (Run (c .value .given .0 .0) (c .value .given .0 .1 .0) (c .value .given .0 .1 .1 .0))
-read c = subst (λ (i : Item). Gives (c .before .before .before .before .before .args .form) (c .before .before .before .before .before .args .payload .now) (c .before .before .before .loop .at) i) (c .value .given .1) (c .before .before .item-at .ensures)
+returns-2 : tie.Need-returns-2
+returns-2 c = arm (c .before .before .before .before .before .before .before) (c .sum-items2 .result) (Plain Two) (c .before .before .before .before .form .given .1 ∙ ap Plain (c .before .enum-told2 .given .1)) (c .sum-items2 .ensures)
 
--- what is added of it
-added : (c : tie.After-add-run Inv-loop μ-loop)
-    → Adds (c .before .before .before .before .before .before .before .args .types) (c .before .before .before .before .before .before .before .args .atoms .now) (c .before .before .before .before .before .before .before .args .bonds .now) (c .before .before .before .before .before .loop .tally)
-    (resultsFrom (c .before .before .before .before .before .before .before .args .delta) (c .before .before .before .before .before .loop .tally .last) (replicate (c .before .before .value .given .0 .1 .0) (c .before .before .value .given .0 .0)))
-    (lastFrom (c .before .before .before .before .before .before .before .args .delta) (c .before .before .before .before .before .loop .tally .last) (replicate (c .before .before .value .given .0 .1 .0) (c .before .before .value .given .0 .0)))
-    (c .add-run .result)
-added c = rw (toZ-ofZ {w = w32} {z = c .before .before .value .given .0 .0} (record { sfits = c .before .known-told .given .0 .1 })) at (c .add-run .ensures)
+returns-3 : tie.Need-returns-3
+returns-3 c = arm (c .before .before .before .before .before .before .before) (c .sum-items3 .result) (Plain Four) (c .before .before .before .before .form .given .1 ∙ ap Plain (c .before .enum-told3 .given .1)) (c .sum-items3 .ensures)
 
-returns : tie.Need-returns Inv-loop μ-loop
-returns c l e m =
-    let a = c .before .before .before .before .before .before .before .before .before .before .args in
-    let p = c .before .before .before .before .before .before .before .before .loop in
-    let k = c .before .before .before .before .before .value .given .0 in
-    let h = subst (Adds (a .types) (a .atoms .now) (a .bonds .now) (p .tally) _ _) (c .before .enum-told .given .1) (added (c .before .before .before)) in
-    let n = length-sumsIf (a .delta) l in
-    totals-none (a .types) (a .atoms .now) (a .bonds .now) (sumsIf (a .delta) l) (c .no-sums .result) (c .no-sums .ensures)
-    (run-off (a .types) (a .atoms .now) (a .bonds .now) noCells (sumsIf (a .delta) l) (a .delta) (p .tally) (readIn (a .form) (drop (p .at) (a .payload .now))) (p .inv .2 l e)
-    (k .0) (k .1 .0) (readIn (a .form) (drop (k .1 .1 .0) (a .payload .now))) (read (c .before .before .before .before .before) .4) h (omega (arith, m, n)))
+returns-4 : tie.Need-returns-4
+returns-4 c = arm (c .before .before .before .before .before .before .before) (c .sum-items4 .result) (Packed One) (c .before .before .before .before .form2 .given .1 ∙ ap Packed (c .before .enum-told4 .given .1)) (c .sum-items4 .ensures)
 
-loop-less : tie.Need-loop-less Inv-loop μ-loop
-loop-less c = let g = read (c .before .before .before .before .before) in omega (arith, g .0, g .1)
+returns-5 : tie.Need-returns-5
+returns-5 c = arm (c .before .before .before .before .before .before .before) (c .sum-items5 .result) (Packed Two) (c .before .before .before .before .form2 .given .1 ∙ ap Packed (c .before .enum-told5 .given .1)) (c .sum-items5 .ensures)
 
-loop-again : tie.Need-loop-again Inv-loop μ-loop
-loop-again c =
-    let a = c .before .before .before .before .before .before .before .before .before .before .args in
-    let p = c .before .before .before .before .before .before .before .before .loop in
-    let k = c .before .before .before .before .before .value .given .0 in
-    let g = read (c .before .before .before .before .before) in
-    let h = subst (Adds (a .types) (a .atoms .now) (a .bonds .now) (p .tally) _ _) (c .before .t .given .1) (added (c .before .before .before)) in (
-      g .1,
-      h .4,
-      (λ l e. run-on (a .types) (a .atoms .now) (a .bonds .now) noCells (sumsIf (a .delta) l) (a .delta) (p .tally) (readIn (a .form) (drop (p .at) (a .payload .now))) (p .inv .2 l e)
-          (k .0) (k .1 .0) (readIn (a .form) (drop (k .1 .1 .0) (a .payload .now))) (g .4) (c .before .t .given .0 .0) h),
-    )
+returns-6 : tie.Need-returns-6
+returns-6 c = arm (c .before .before .before .before .before .before .before) (c .sum-items6 .result) (Packed Four) (c .before .before .before .before .form2 .given .1 ∙ ap Packed (c .before .enum-told6 .given .1)) (c .sum-items6 .ensures)
 
-returns-2 : tie.Need-returns-2 Inv-loop μ-loop
-returns-2 c l e m =
-    let a = c .before .before .before .before .before .before .args in
-    let p = c .before .before .before .before .loop in
-    rest-wrong (a .delta) (Onward (a .types) (a .atoms .now) (a .bonds .now) noCells (sumsIf (a .delta) l) (p .tally)) (readIn (a .form) (drop (p .at) (a .payload .now))) (p .tally .last) (p .inv .2 l e)
-    (subst (λ (i : Item). Gives (a .form) (a .payload .now) (p .at) i) (c .before .enum-told2 .given .1) (c .before .before .before .item-at .ensures))
+returns-7 : tie.Need-returns-7
+returns-7 c = arm (c .before .before .before .before .before) (c .sum-items7 .result) (Runs (c .before .before .form3 .given .0 .0)) (c .before .before .form3 .given .1) (c .sum-items7 .ensures)
 
-returns-3 : tie.Need-returns-3 Inv-loop μ-loop
-returns-3 c l e m =
-    let a = c .before .before .before .before .before .args in
-    let p = c .before .before .before .loop in
-    totals-all (a .types) (a .atoms .now) (a .bonds .now) (sumsIf (a .delta) l) (p .tally)
-    (rest-end (a .delta) (Onward (a .types) (a .atoms .now) (a .bonds .now) noCells (sumsIf (a .delta) l) (p .tally)) (readIn (a .form) (drop (p .at) (a .payload .now))) (p .tally .last) (p .inv .2 l e)
-    (subst (λ (i : Item). Gives (a .form) (a .payload .now) (p .at) i) (c .enum-told3 .given .1) (c .before .before .item-at .ensures)))
+returns-8 : tie.Need-returns-8
+returns-8 c = arm (c .before .before .before .before) (c .sum-items8 .result) Names (c .before .enum-told7 .given .1) (c .sum-items8 .ensures)
 
 pub sums-of-spec : {M : Type 1} → statement M
 sums-of-spec =
     tie.close
     (tie.spec
-    Inv-loop
-    μ-loop
-    loop-holds
+    (λ c. search needs)
+    (λ c. search needs)
     (λ c κs. search needs)
     (λ c. search needs)
-    (λ c κs. (read (c .before) .2, c .before .before .before .before .before .before .pre, c .before .before .before .before .loop .inv .1))
+    (λ c κs. search needs)
     (λ c. search needs)
+    (λ c κs. search needs)
+    (λ c. search needs)
+    (λ c. search needs)
+    (λ c κs. search needs)
+    (λ c. search needs)
+    (λ c κs. search needs)
+    (λ c. search needs)
+    (λ c κs. search needs)
+    (λ c. search needs)
+    (λ c κs. search needs)
     (λ c. search needs)
     (λ c κs. search needs)
     returns
-    loop-less
-    loop-again
-    (λ c. search needs)
-    (λ c κs. search needs)
     returns-2
-    (λ c. search needs)
-    returns-3)
+    returns-3
+    returns-4
+    returns-5
+    returns-6
+    returns-7
+    returns-8)

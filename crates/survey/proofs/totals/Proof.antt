@@ -2,13 +2,10 @@
 -- to be counted (`decode-cells`).
 use mathlib.Core.Path.{_≡_, sym, ap, _∙_}
 use mathlib.Core.List.{List}
-use Prim.Native.Nat.{ℕ, _≤_}
 use native.Mathlib.Omega.{arith}
-use lib.ListN.{length}
 use lib.IntN.{ℤ}
 use borrow.Author.Needs.{needs}
 use Rattle.numbers.specs.Laws.BigEndian.{bytes-of}
-use Rattle.codecs.specs.Laws.Delta.{length-sumsIf}
 use Rattle.columns.specs.declared.Wanted.the-variants.{Any}
 use Rattle.columns.specs.Laws.Table.{Passes, header-passes}
 use Rattle.survey.specs.Laws.Field.{decode-header, decode-read, decode-cells}
@@ -37,8 +34,7 @@ returns-3 c k m xs e h =
     let g = b .form .given .0 in
     let bytes = bytes-of (a .args .column .now) (λ i. omega (arith, b .before .before .before .before .shared-slice-known .given i)) in
     let w = decode-read (a .args .column .now) k m xs e (g .0) (g .1 .0) (g .1 .1 .0) (g .1 .1 .1 .0) (g .1 .1 .1 .1 .0) (sym (b .before .before .read-header .ensures) ∙ b .form .given .1) bytes in
-    let n : length (w .0) ≤ 4294967295 = let x = decode-cells Any (a .args .column .now) k m xs e in let y = sym (length-sumsIf (g .1 .1 .1 .1 .0) (w .0)) ∙ ap length (w .2) in omega arith in
-    rw (w .2) at (c .sums-of .ensures (w .0) (w .1) n)
+    (rw (w .2) at (c .sums-of .ensures (w .0) (w .1))) (decode-cells Any (a .args .column .now) k m xs e)
 
 pub totals-spec : {M : Type 1} → statement M
 totals-spec =

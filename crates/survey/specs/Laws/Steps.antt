@@ -5,15 +5,23 @@ use mathlib.Core.Option.{Option, some, Option·map}
 use mathlib.Core.List.{List, [], _∷_, _++_}
 use Prim.Native.Nat.{ℕ, _+_, _-_, _*_, _≤_, _<_}
 use native.Mathlib.Omega.{arith}
-use lib.ListN.{length, replicate, length-append}
+use lib.ListN.{length, drop, replicate, length-append}
 use lib.IntN.{ℤ, pos}
+use Rattle.numbers.specs.BigEndian.{signedAt}
+use Rattle.codecs.specs.declared.Size.{Size}
+use Rattle.codecs.specs.declared.Form.{Form}
+use Rattle.codecs.specs.declared.Form.the-variants.{Plain}
+use Rattle.codecs.specs.Width.{widthOf, sizeOf}
+use Rattle.codecs.specs.Numbers.{numbersIn}
 use Rattle.codecs.specs.Delta.{plusDelta}
+use Rattle.codecs.specs.Laws.Numbers.{numbers-step, numbers-end}
+use Rattle.payloads.specs.Items.{readIn}
 use Rattle.payloads.specs.Results.{resultsFrom, lastFrom}
 use Rattle.survey.specs.declared.Sums.{Sums}
 use Rattle.survey.specs.declared.Tally.{Tally}
 use Rattle.survey.specs.declared.Step.the-variants.{On, Off}
 use Rattle.survey.specs.Cells.{allPass, allBelow, total, TotalsOf}
-use Rattle.survey.specs.Steps.{cellLimit, noCells, Sound, Adds}
+use Rattle.survey.specs.Steps.{OfResults, cellLimit, noCells, Sound, Adds}
 use Rattle.survey.specs.Laws.Cells.{allPass-on, allPass-off, total-append}
 use Rattle.survey.specs.Laws.Rest.{Rest, rest-run, rest-end, results-first, last-first}
 
@@ -64,6 +72,34 @@ module _ (test : ℤ → Bool) (v a : ℤ) (n : ℕ) (x : ℤ) (k : ℕ) (w : Ru
   pub runs-end : k ≡ 0 → (allPass test (resultsFrom true a (replicate n v)) ≡ true) × (x ≡ lastFrom true a (replicate n v))
   unfolding allPass resultsFrom lastFrom
   runs-end e = let z = rw e at w in (z .0, sym (z .1))
+
+-- of a payload's plain numbers those from a place on decide, where `fine` says whether those before pass
+abbrev pub Passing : (ℤ → Bool) → Size → List ℕ → ℕ → Bool → Type 0
+Passing test z s at fine = allPass test (numbersIn z s) ≡ (fine && allPass test (numbersIn z (drop at s)))
+
+module _ (test : ℤ → Bool) (z : Size) (s : List ℕ) (at : ℕ) (fine : Bool) (w : Passing test z s at fine) where
+  pub passing-on : at + sizeOf z ≤ length s → Passing test z s (at + sizeOf z) (fine && test (signedAt (widthOf z) s at))
+  unfolding allPass
+  passing-on h = w ∙ ap (λ (l : List ℤ). fine && allPass test l) (numbers-step z s at h) ∙ by fine
+    where
+      by : (f : Bool)
+          → (f && (test (signedAt (widthOf z) s at) && allPass test (numbersIn z (drop (at + sizeOf z) s)))) ≡ ((f && test (signedAt (widthOf z) s at)) && allPass test (numbersIn z (drop (at + sizeOf z) s)))
+      by true = refl
+      by false = refl
+
+  pub passing-end : length s - at < sizeOf z → OfResults (Plain z) false s (λ (xs : List ℤ). fine ≡ allPass test xs)
+  unfolding allPass readIn
+  passing-end h l e =
+      let q : numbersIn z s ≡ l = cc in
+      sym (sym (ap (allPass test) q) ∙ w ∙ ap (λ (r : List ℤ). fine && allPass test r) (numbers-end z s at h) ∙ by fine)
+    where
+      by : (f : Bool) → (f && true) ≡ f
+      by true = refl
+      by false = refl
+
+-- what is said by the form that a payload has
+pub by-form : (f g : Form) (d : Bool) (s : List ℕ) (P : List ℤ → Type 0) → f ≡ g → OfResults g d s P → OfResults f d s P
+by-form f g d s P e h = subst (λ (i : Form). OfResults i d s P) (sym e) h
 
 -- Sums over all cells
 
