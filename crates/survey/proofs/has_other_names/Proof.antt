@@ -1,0 +1,32 @@
+-- A column that is too short has no names; else the codec and the parameter are read.
+use mathlib.Core.Path.{sym, ap₂, _∙_}
+use mathlib.Core.Bool.{Bool}
+use Prim.Native.Nat.{ℕ}
+use borrow.Author.Needs.{needs}
+use borrow.Author.Tests.{le-leb, lt-leb}
+use Rattle.columns.specs.declared.Codec.{Codec}
+use Rattle.columns.specs.Table.{codecOf}
+use Rattle.survey.specs.Field.{otherSize, otherNames}
+use Rattle.survey.proofs.has_other_names.Statement.{statement}
+use Rattle.survey.proofs.has_other_names.Tie as tie
+
+returns : tie.Need-returns
+unfolding otherNames
+returns c = rw (lt-leb 12 _ (c .if1 .taken))
+
+returns-2 : tie.Need-returns-2
+unfolding otherNames
+returns-2 c =
+    let a = c .before .before .before .before .before .before .args in
+    rw (le-leb 12 _ (c .before .before .before .before .if1 .left), ← c .before .before .before .read-u32 .ensures, ← c .before .before .read-u322 .ensures, ← c .before .codec-of .ensures) (c .is-other-size .ensures)
+
+pub has-other-names-spec : {M : Type 1} → statement M
+has-other-names-spec =
+    tie.close
+    (tie.spec
+    returns
+    (λ c κs. search needs)
+    (λ c κs. search needs)
+    (λ c κs. search needs)
+    (λ c κs. search needs)
+    returns-2)

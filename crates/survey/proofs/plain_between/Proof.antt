@@ -1,0 +1,57 @@
+-- The numbers before the place pass or not, and those from it on decide (`passing-on`).
+use mathlib.Core.Path.{_≡_, refl, sym, ap, _∙_}
+use mathlib.Core.Bool.{Bool, _&&_}
+use Prim.Native.Nat.{_-_, _≤_}
+use native.Mathlib.Omega.{arith}
+use lib.ListN.{length}
+use mir.Syntax.{w32}
+use mir.Val.{toZ, ofZ}
+use mir.Facts.{toZ-ofZ}
+use borrow.Author.Needs.{needs}
+use Rattle.codecs.specs.Laws.Numbers.{size-pos}
+use Rattle.survey.specs.Cells.{between}
+use Rattle.survey.specs.Laws.Steps.{Passing, passing-on, passing-end}
+use Rattle.survey.proofs.plain_between.Statement.{statement}
+use Rattle.survey.proofs.plain_between.Tie as tie
+
+abbrev Inv-loop : tie.InvT-loop
+Inv-loop payload size low high k at₀ fine₀ at fine = (at ≤ length payload) × Passing (between (toZ w32 low) (toZ w32 high)) size payload at fine
+
+abbrev μ-loop : tie.MeasureT-loop
+μ-loop payload size low high k at₀ fine₀ at fine = length payload - at
+
+loop-less : tie.Need-loop-less Inv-loop μ-loop
+loop-less c = let o = size-pos (c .before .before .before .before .before .before .before .args .size) in omega (arith, c .before .before .before .before .before .bytes .ensures)
+
+loop-again : tie.Need-loop-again Inv-loop μ-loop
+loop-again c =
+    let a = c .before .before .before .before .before .before .before .args in
+    let p = c .before .before .before .before .loop in
+    let e = c .before .before .before .before .before .bytes .ensures in
+    let x = toZ-ofZ {w = w32} (record { sfits = c .before .before .number-at .ok }) ∙ c .before .before .number-at .ensures in
+    let t = c .both .ensures ∙ ap (λ (b : Bool). p .fine && b) (c .before .is-between .ensures ∙ ap (between (toZ w32 (ofZ w32 (a .low))) (toZ w32 (ofZ w32 (a .high)))) x) in
+    (omega arith, rw (e, t) (passing-on (between (toZ w32 (ofZ w32 (a .low))) (toZ w32 (ofZ w32 (a .high)))) (a .size) (a .payload .now) (p .at) (p .fine) (p .inv .1) (omega arith)))
+
+returns : tie.Need-returns Inv-loop μ-loop
+returns c =
+    let a = c .before .before .before .before in
+    let p = c .before .loop in
+    rw (toZ-ofZ {w = w32} (a .fits .low), toZ-ofZ {w = w32} (a .fits .high))
+    at (passing-end (between (toZ w32 (ofZ w32 (a .args .low))) (toZ w32 (ofZ w32 (a .args .high)))) (a .args .size) (a .args .payload .now) (p .at) (p .fine) (p .inv .1) (omega (arith, c .before .before .bytes .ensures)))
+
+pub plain-between-spec : {M : Type 1} → statement M
+plain-between-spec =
+    tie.close
+    (tie.spec
+    Inv-loop
+    μ-loop
+    (λ c κs. search needs)
+    (λ c. (omega arith, refl))
+    (λ c. omega arith)
+    (λ c κs. search needs)
+    (λ c κs. search needs)
+    (λ c κs. search needs)
+    (λ c. omega arith)
+    loop-less
+    loop-again
+    returns)

@@ -1,0 +1,4 @@
+pub mod Field
+pub mod Cells
+pub mod Rest
+pub mod Steps

@@ -1,0 +1,4 @@
+pub mod Field
+pub mod Cells
+pub mod Steps
+pub mod Laws
