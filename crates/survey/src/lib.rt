@@ -257,7 +257,7 @@ fn sums_between(sum: i32, value: i32, count: usize, low: i32, high: i32) -> Last
 }
 
 // Whether a number lies between two others.
-fn is_between(number: i32, low: i32, high: i32) -> bool
+pub fn is_between(number: i32, low: i32, high: i32) -> bool
     ensures { λ r. ⌜ r ≡ between low high number ⌝ }
 {
     if low <= number {

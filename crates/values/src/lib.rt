@@ -2,6 +2,7 @@
 // whatever document stands there by the rules of a container. The table of lead bytes is lent (`heads::leads`).
 ghost use mathlib.Core.Path.{_≡_};
 ghost use Prim.Native.Nat.{ℕ, _+_, _-_, _≤_};
+ghost use lib.IntN.{pos};
 ghost use lib.ListN.{length};
 ghost use Rattle.heads.specs.Table.{leadTable};
 ghost use Rattle.messagepack.specs.Document.{Document};
@@ -15,6 +16,12 @@ use heads::Kind;
 pub struct Part {
     pub at: usize,
     pub count: usize,
+}
+
+// An integer, and where it ends.
+pub struct Integer {
+    pub value: i32,
+    pub end: usize,
 }
 
 // A step over a value: where it goes on, and how many values are inside; or no value stands there.
@@ -117,6 +124,32 @@ pub fn integer_at(leads: &[u8; 256], file: &[u8], at: usize) -> i32
         Kind::Outside => 0,
         Kind::Missing => 0,
     }
+}
+
+// The integer at a place, as `integer_at` has it, and where the value ends. The commonest, those in their lead byte, are found first.
+pub fn next_integer(leads: &[u8; 256], file: &[u8], at: usize) -> Integer
+    ensures { λ r. ⌜ (now (leads .entry) ≡ leadTable → (x : Document) (e : ℕ) → At (now (file .entry)) at x e → (r .value ≡ integerOf x) × (r .end ≡ e)) ⌝ }
+{
+    if at < file.len() {
+        let b = file[at];
+        if b < 0x80 {
+            return Integer {
+                value: low(b),
+                end: at + 1,
+            };
+        }
+    }
+    Integer {
+        value: integer_at(leads, file, at),
+        end: skip(leads, file, at),
+    }
+}
+
+// A byte as an integer.
+fn low(b: u8) -> i32
+    ensures { λ r. ⌜ r ≡ pos b ⌝ }
+{
+    b as i32
 }
 
 // The integer of an unsigned head.

@@ -19,8 +19,8 @@ use Rattle.heads.specs.declared.Head.{Head}
 use Rattle.heads.specs.Table.{kindNumber}
 use Rattle.heads.specs.Span.{Span}
 use Rattle.heads.specs.Laws.Span.{span-none, follows, holds, fits}
-use Rattle.heads.specs.Laws.Head.{Told, head-told}
-use Rattle.heads.specs.Laws.Table.{moreOf-bound, moreOf-four}
+use Rattle.heads.specs.Laws.Head.{Told, head-told, kind-in, head-held}
+use Rattle.heads.specs.Laws.Table.{moreOf-bound, moreOf-four, low-lead}
 use Rattle.numbers.specs.Laws.BigEndian.{length-bytesOf}
 use Rattle.messagepack.specs.Document.{Document, Documents, Entries, integer, float, string, binary, array, map, none, item, empty, entry, count, size, signedValue, UnsignedOf, SignedOf, TextOf, Writes, WritesAll, WritesEntries}
 use Rattle.messagepack.specs.Rules.{Keeps, KeepsAll, KeepsEntries, Distinct, NoKey, InRange, Container}
@@ -329,6 +329,27 @@ module _ {s : List ℕ} {p e : ℕ} (x : Document) (a : At s p x e) {n r : ℕ} 
       go (binary t) b f = clash f
       go (array ds) b f = clash f
       go (map es) b f = clash f
+
+-- an integer in its lead byte
+pub read-low : {s : List ℕ} {p e : ℕ} (x : Document) → At s p x e → (lt : p < length s) → getD s p 0 < 0x80 → (pos (getD s p 0) ≡ integerOf x) × (p + 1 ≡ e)
+read-low {s} {p} {e} x a lt small =
+    let l = low-lead (getD s p 0) small in
+    let k : kindAt s p ≡ Kind.Unsigned = kind-in s p lt ∙ l .kind in
+    let h : headAt s p ≡ Head.At (getD s p 0) (p + 1) = sym (head-held s p {size = 1} (rw (l .more)) refl (omega arith) (sym (l .held))) in
+    let u : unsignedBy (getD s p 0) ≡ integerOf x = read-unsigned x a h k in
+    (sym (rw (le-leb (getD s p 0) 2147483647 (omega arith))) ∙ u, go x a (read-heads x a k) h)
+  where
+    go : (y : Document) → At s p y e → heads y Kind.Unsigned ≡ true → headAt s p ≡ Head.At (getD s p 0) (p + 1) → p + 1 ≡ e
+    go (integer v) b f h = by (open-integer b)
+      where
+        by : OpenInteger s p v e → p + 1 ≡ e
+        by (unsigned m t i) = sym (same-number (integer v) b h t .1)
+        by (signed k m t w le g i) = sym (same-number (integer v) b h t .1)
+    go (float bits) b f h = clash f
+    go (string t) b f h = clash f
+    go (binary t) b f h = clash f
+    go (array ds) b f h = clash f
+    go (map es) b f h = clash f
 
 -- what stands below half is small, and so is what is left above it
 pub half-small : (size : ℕ) → halfOf size ≤ 2147483648

@@ -1,0 +1,96 @@
+-- Group types, as documents: their atoms and bonds, and rule 5 of paper 01, "Counts that must agree". The same rules of bonds hold for a group
+-- type and outside (rules 8 and 9). No reader, no place and no lemma stands here. Assumes nothing.
+use mathlib.Core.Bool.{Bool, true, false, cond, _&&_}
+use mathlib.Core.List.{List, [], _∷_}
+use mathlib.Core.Option.{Option, some, none as nothing}
+use Prim.Native.Nat.{ℕ, zero, suc, _+_, _*_, _/_, _%_}
+use Prim.Native.String as Text
+use lib.Dec.{eqb}
+use lib.IntN.{ℤ, pos}
+use lib.ListN.{length}
+use Rattle.refusal.specs.Table.{accepted, countsDisagree, indexOutside, valueOutside}
+use Rattle.messagepack.specs.Document.{Document, Documents, Entries, none, item, count}
+use Rattle.values.specs.Parts.{itemsOf, entriesOf}
+use Rattle.fields.specs.Types.{bytesIn, look}
+use Rattle.survey.specs.Cells.{allBetween, allBelow}
+use Rattle.lists.specs.Integers.{integersOf}
+
+-- the value under a key of a map, by its name
+abbrev pub under : Text.String → Document → Option Document
+under name x = look (bytesIn name) (entriesOf x)
+
+-- the values of an array, if there is one
+abbrev pub itemsIn : Option Document → Documents
+itemsIn (some x) = itemsOf x
+itemsIn nothing = none
+
+-- the integers of an array, if there is one
+abbrev pub integersIn : Option Document → Option (List ℤ)
+integersIn (some x) = some (integersOf (itemsOf x))
+integersIn nothing = nothing
+
+-- a list, if there is one
+abbrev pub listIn : Option (List ℤ) → List ℤ
+listIn (some xs) = xs
+listIn nothing = []
+
+-- bond indices come in pairs; orders are one for each pair, and never without indices
+abbrev pub bondsAgree : Option (List ℤ) → Option (List ℤ) → Bool
+bondsAgree nothing nothing = true
+bondsAgree nothing (some orders) = false
+bondsAgree (some atoms) nothing = eqb (length atoms % 2) 0
+bondsAgree (some atoms) (some orders) = eqb (length atoms % 2) 0 && eqb (length orders * 2) (length atoms)
+
+-- how many bonds there are
+abbrev pub pairs : Option (List ℤ) → ℕ
+pairs (some atoms) = length atoms / 2
+pairs nothing = 0
+
+-- orders are 1 to 4
+abbrev pub ordersRight : Option (List ℤ) → Bool
+ordersRight orders = allBetween (pos 1) (pos 4) (listIn orders)
+
+-- how many atoms a group type has
+abbrev pub atomsOf : Document → ℕ
+atomsOf x = count (itemsIn (under "atomNameList" x))
+
+-- its bond indices and orders, if there are any
+abbrev pub bondAtomsOf : Document → Option (List ℤ)
+bondAtomsOf x = integersIn (under "bondAtomList" x)
+
+abbrev pub bondOrdersOf : Document → Option (List ℤ)
+bondOrdersOf x = integersIn (under "bondOrderList" x)
+
+-- how many bonds it has
+abbrev pub bondsOf : Document → ℕ
+bondsOf x = pairs (bondAtomsOf x)
+
+-- its three lists are equally long, and its bonds agree
+abbrev pub listsAgree : Document → Bool
+listsAgree x =
+    eqb (count (itemsIn (under "formalChargeList" x))) (atomsOf x)
+    && (eqb (count (itemsIn (under "elementList" x))) (atomsOf x) && bondsAgree (bondAtomsOf x) (bondOrdersOf x))
+
+-- its bond indices are inside its atoms
+abbrev pub bondsInside : Document → Bool
+bondsInside x = allBelow (atomsOf x) (listIn (bondAtomsOf x))
+
+-- rule 5 for one group type: 20, then 21, then 22
+unfoldable pub groupNumber : Document → ℕ
+groupNumber x =
+    cond (listsAgree x) (cond (bondsInside x) (cond (ordersRight (bondOrdersOf x)) accepted valueOutside) indexOutside) countsDisagree
+
+-- the first number that is not 0
+abbrev pub orElse : ℕ → ℕ → ℕ
+orElse zero m = m
+orElse (suc n) m = suc n
+
+-- rule 5: each group type in turn
+unfoldable pub groupsNumber : Documents → ℕ
+groupsNumber none = accepted
+groupsNumber (item x types) = orElse (groupNumber x) (groupsNumber types)
+
+-- the atoms of each group type, and the bonds
+unfoldable pub each : (Document → ℕ) → Documents → List ℕ
+each f none = []
+each f (item x types) = f x ∷ each f types

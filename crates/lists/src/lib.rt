@@ -1,0 +1,81 @@
+// Arrays of integers at places of a file: their sum, and whether they lie between two numbers. Each function takes any bytes and any place, and
+// says what it answers for whatever document stands there; a document that is no array has no integers.
+ghost use mathlib.Core.Path.{_≡_};
+ghost use Prim.Native.Nat.{ℕ, _≤_};
+ghost use lib.ListN.{length};
+ghost use Rattle.heads.specs.Table.{leadTable};
+ghost use Rattle.messagepack.specs.Limits.{fileLimit};
+ghost use Rattle.messagepack.specs.Document.{Document, Documents, count};
+ghost use Rattle.values.specs.Parts.{itemsOf};
+ghost use Rattle.values.specs.Places.{At, AtAll};
+ghost use Rattle.survey.specs.Cells.{allBetween};
+ghost use Rattle.lists.specs.Integers.{integersOf, summed};
+
+// The sum of integers, or that one of them is negative.
+pub enum Sum {
+    Is(u64),
+    Negative,
+}
+
+// The sum of the integers of the array at a place.
+pub fn sum_at(leads: &[u8; 256], file: &[u8], at: usize) -> Sum
+    ensures { λ r. ⌜ (now (leads .entry) ≡ leadTable → length (now (file .entry)) ≤ fileLimit → (x : Document) (e : ℕ) → At (now (file .entry)) at x e → r ≡ summed (integersOf (itemsOf x))) ⌝ }
+{
+    let part = values::items_at(leads, file, at);
+    sum_from(leads, file, part.count, part.at)
+}
+
+// The sum of n integers from a place on. A file has no more values than bytes.
+fn sum_from(leads: &[u8; 256], file: &[u8], n: usize, at: usize) -> Sum
+    ensures { λ r. ⌜ (now (leads .entry) ≡ leadTable → length (now (file .entry)) ≤ fileLimit → (ds : Documents) (e : ℕ) → AtAll (now (file .entry)) at ds e → count ds ≡ n → r ≡ summed (integersOf ds)) ⌝ }
+{
+    if messagepack::FILE_LIMIT < n {
+        return Sum::Negative;
+    }
+    let mut total: u64 = 0;
+    let mut left = n;
+    let mut p = at;
+    while 0 < left {
+        let next = values::next_integer(leads, file, p);
+        let value = next.value;
+        if value < 0 {
+            return Sum::Negative;
+        }
+        total += wide(numbers::to_u32(value));
+        p = next.end;
+        left -= 1;
+    }
+    Sum::Is(total)
+}
+
+fn wide(x: u32) -> u64
+    ensures { λ r. ⌜ (r ≡ x) × (r ≤ 4294967295) ⌝ }
+{
+    x as u64
+}
+
+// Whether the integers of the array at a place lie between two numbers.
+pub fn all_between(leads: &[u8; 256], file: &[u8], at: usize, low: i32, high: i32) -> bool
+    ensures { λ r. ⌜ (now (leads .entry) ≡ leadTable → (x : Document) (e : ℕ) → At (now (file .entry)) at x e → r ≡ allBetween low high (integersOf (itemsOf x))) ⌝ }
+{
+    let part = values::items_at(leads, file, at);
+    between_from(leads, file, part.count, part.at, low, high)
+}
+
+// Whether n integers from a place on lie between two numbers.
+fn between_from(leads: &[u8; 256], file: &[u8], n: usize, at: usize, low: i32, high: i32) -> bool
+    ensures { λ r. ⌜ (now (leads .entry) ≡ leadTable → (ds : Documents) (e : ℕ) → AtAll (now (file .entry)) at ds e → count ds ≡ n → r ≡ allBetween low high (integersOf ds)) ⌝ }
+{
+    let mut left = n;
+    let mut p = at;
+    while 0 < left {
+        let next = values::next_integer(leads, file, p);
+        let value = next.value;
+        if !survey::is_between(value, low, high) {
+            return false;
+        }
+        p = next.end;
+        left -= 1;
+    }
+    true
+}
