@@ -26,7 +26,7 @@ all-few (item d ds) a =
     let i = at-inside (o .first) in
     omega (arith, i .0, all-inside ds (i .1) (o .rest))
 
-length-integers : (ds : Documents) → length (integersOf ds) ≡ count ds
+pub length-integers : (ds : Documents) → length (integersOf ds) ≡ count ds
 unfolding integersOf count
 length-integers none = refl
 length-integers (item d ds) = ap suc (length-integers ds)

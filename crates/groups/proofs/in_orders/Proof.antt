@@ -1,0 +1,32 @@
+-- Orders lie between 1 and 4.
+use mathlib.Core.Path.{_≡_, refl, sym, ap, ap₂, subst, _∙_}
+use mathlib.Core.Bool.{Bool, true, false, cond}
+use Prim.Native.Nat.{ℕ, _+_, _-_, _*_, _/_, _%_, _≤_, _<_}
+use native.Mathlib.Omega.{arith}
+use mir.Syntax.{w32}
+use mir.Facts.{toZ-ofZ}
+use Rattle.values.specs.Parts.{itemsOf}
+use Rattle.lists.specs.Integers.{integersOf}
+use Rattle.survey.specs.Cells.{allBetween, allBelow}
+use Rattle.groups.specs.Group.{listIn, integersIn, ordersRight}
+use Rattle.groups.specs.Laws.Group.{place-none, place-some}
+use borrow.Author.Needs.{needs}
+use Rattle.groups.proofs.in_orders.Statement.{statement}
+use Rattle.groups.proofs.in_orders.Tie as tie
+
+returns : tie.Need-returns
+returns c = λ t o q. sym (ap (λ z. ordersRight (integersIn z)) (place-none q (c .if1 .taken)))
+
+returns-2 : tie.Need-returns-2
+returns-2 c =
+    λ t o q.
+    let d = place-some q (c .before .if1 .left) in
+    c .all-between .ensures t (d .x) (d .end) (d .at) ∙ sym (ap (λ z. ordersRight (integersIn z)) (d .is))
+
+pub in-orders-spec : {M : Type 1} → statement M
+in-orders-spec =
+    tie.close
+    (tie.spec
+    returns
+    (λ c κs. search needs)
+    returns-2)

@@ -1,0 +1,31 @@
+-- One less than the number of entries.
+use mathlib.Core.Path.{_≡_, refl, sym, ap, ap₂, subst, _∙_}
+use mathlib.Core.Bool.{Bool, true, false, cond}
+use Prim.Native.Nat.{ℕ, _+_, _-_, _*_, _/_, _%_, _≤_, _<_}
+use native.Mathlib.Omega.{arith}
+use mir.Syntax.{w32}
+use mir.Facts.{toZ-pos}
+use Rattle.groups.specs.Steps.{lastIndex}
+use Rattle.groups.specs.Laws.Group.{last-zero, last-suc}
+use borrow.Author.Needs.{needs}
+use Rattle.groups.proofs.last_index.Statement.{statement}
+use Rattle.groups.proofs.last_index.Tie as tie
+
+returns : tie.Need-returns
+returns c = λ l. sym (last-zero (c .if1 .taken))
+
+returns-2 : tie.Need-returns-2
+returns-2 c = λ l. absurd (omega (arith, c .if2 .taken))
+
+returns-3 : tie.Need-returns-3
+returns-3 c = λ l. toZ-pos w32 (omega (arith, c .if2 .left)) ∙ sym (last-suc (c .before .if1 .left))
+
+pub last-index-spec : {M : Type 1} → statement M
+last-index-spec =
+    tie.close
+    (tie.spec
+    returns
+    returns-2
+    (λ c. search needs)
+    (λ c. search needs)
+    returns-3)

@@ -1,0 +1,27 @@
+-- The array at a place has as many values as its head says.
+use mathlib.Core.Path.{_≡_, refl, sym, ap, ap₂, subst, _∙_}
+use mathlib.Core.Bool.{Bool, true, false, cond}
+use Prim.Native.Nat.{ℕ, _+_, _-_, _*_, _/_, _%_, _≤_, _<_}
+use native.Mathlib.Omega.{arith}
+use Rattle.groups.specs.Steps.{listOf}
+use Rattle.groups.specs.Laws.Group.{place-none, place-some}
+use borrow.Author.Needs.{needs}
+use Rattle.groups.proofs.list_at.Statement.{statement}
+use Rattle.groups.proofs.list_at.Tie as tie
+
+returns : tie.Need-returns
+returns c = (omega arith, λ t o q. sym (ap listOf (place-none q (c .if1 .taken))))
+
+returns-2 : tie.Need-returns-2
+returns-2 c =
+    (c .items-at .ensures .0, λ t o q.
+    let d = place-some q (c .before .if1 .left) in
+    ap (λ (n : ℕ). record { there = true; count = n }) (sym (c .items-at .ensures .1 t (d .x) (d .end) (d .at) .counts)) ∙ sym (ap listOf (d .is)))
+
+pub list-at-spec : {M : Type 1} → statement M
+list-at-spec =
+    tie.close
+    (tie.spec
+    returns
+    (λ c κs. search needs)
+    returns-2)
