@@ -71,9 +71,11 @@ loop-again c =
     let k = c .before .before .before .before .before .value .given .0 in
     let g = read (c .before .before .before .before .before) in
     let h = subst (Reaches (between (toZ w32 (ofZ w32 (a .args .low))) (toZ w32 (ofZ w32 (a .args .high)))) _ _) (c .before .x .given .1) (said (c .before .before .before)) in
-    let y = toZ-ofZ {w = w32} {z = c .before .x .given .0 .0} (record { sfits = c .known-told2 .given .0 .1 }) in
-    (g .1, (λ l e. rw y (decide-on (between (toZ w32 (ofZ w32 (a .args .low))) (toZ w32 (ofZ w32 (a .args .high)))) (a .args .delta) (sumsIf (a .args .delta) l) (readIn (a .args .form) (drop (p .at) (a .args .payload .now))) (toZ w32 (p .last)) (p .inv .1 l e)
-    (k .0) (k .1 .0) (readIn (a .args .form) (drop (k .1 .1 .0) (a .args .payload .now))) (g .4) (c .before .x .given .0 .0) (h .0) (h .1))))
+    let y = toZ-ofZ {w = w32} {z = c .before .x .given .0 .0} (record { sfits = c .known-told2 .given .0 .1 }) in (
+      g .1,
+      (λ l e. rw y (decide-on (between (toZ w32 (ofZ w32 (a .args .low))) (toZ w32 (ofZ w32 (a .args .high)))) (a .args .delta) (sumsIf (a .args .delta) l) (readIn (a .args .form) (drop (p .at) (a .args .payload .now))) (toZ w32 (p .last)) (p .inv .1 l e)
+          (k .0) (k .1 .0) (readIn (a .args .form) (drop (k .1 .1 .0) (a .args .payload .now))) (g .4) (c .before .x .given .0 .0) (h .0) (h .1))),
+    )
 
 returns-2 : tie.Need-returns-2 Inv-loop μ-loop
 returns-2 c l e =

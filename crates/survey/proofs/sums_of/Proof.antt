@@ -24,56 +24,61 @@ arm : (c : tie.Start) (r : Sums) (f : Form) → c .args .form ≡ f → OfResult
 arm c r f e h = by-form (c .args .form) f (c .args .delta) (c .args .payload .now) (Says c r) e h
 
 returns : tie.Need-returns
-returns c = arm (c .before .before .before .before .before .before .before) (c .sum-items .result) (Plain One) (c .before .before .before .before .form .given .1 ∙ ap Plain (c .before .enum-told .given .1)) (c .sum-items .ensures)
+returns c = arm (c .before .before .before .before .before .before) (c .sum-items .result) (Plain (c .before .before .before .form .given .0 .0)) (c .before .before .before .form .given .1) (c .sum-items .ensures)
 
 returns-2 : tie.Need-returns-2
-returns-2 c = arm (c .before .before .before .before .before .before .before) (c .sum-items2 .result) (Plain Two) (c .before .before .before .before .form .given .1 ∙ ap Plain (c .before .enum-told2 .given .1)) (c .sum-items2 .ensures)
+returns-2 c = arm (c .before .before .before .before .before .before .before .before) (c .sum-plain .result) (Plain One) (c .before .before .before .before .before .form .given .1 ∙ ap Plain (c .before .enum-told .given .1)) (rw (c .before .before .before .if1 .left) (c .sum-plain .ensures))
 
 returns-3 : tie.Need-returns-3
-returns-3 c = arm (c .before .before .before .before .before .before .before) (c .sum-items3 .result) (Plain Four) (c .before .before .before .before .form .given .1 ∙ ap Plain (c .before .enum-told3 .given .1)) (c .sum-items3 .ensures)
+returns-3 c = arm (c .before .before .before .before .before .before .before .before) (c .sum-plain2 .result) (Plain Two) (c .before .before .before .before .before .form .given .1 ∙ ap Plain (c .before .enum-told2 .given .1)) (rw (c .before .before .before .if1 .left) (c .sum-plain2 .ensures))
 
 returns-4 : tie.Need-returns-4
-returns-4 c = arm (c .before .before .before .before .before .before .before) (c .sum-items4 .result) (Packed One) (c .before .before .before .before .form2 .given .1 ∙ ap Packed (c .before .enum-told4 .given .1)) (c .sum-items4 .ensures)
+returns-4 c = arm (c .before .before .before .before .before .before .before .before) (c .sum-plain3 .result) (Plain Four) (c .before .before .before .before .before .form .given .1 ∙ ap Plain (c .before .enum-told3 .given .1)) (rw (c .before .before .before .if1 .left) (c .sum-plain3 .ensures))
 
 returns-5 : tie.Need-returns-5
-returns-5 c = arm (c .before .before .before .before .before .before .before) (c .sum-items5 .result) (Packed Two) (c .before .before .before .before .form2 .given .1 ∙ ap Packed (c .before .enum-told5 .given .1)) (c .sum-items5 .ensures)
+returns-5 c = arm (c .before .before .before .before .before .before .before) (c .sum-items2 .result) (Packed One) (c .before .before .before .before .form2 .given .1 ∙ ap Packed (c .before .enum-told4 .given .1)) (c .sum-items2 .ensures)
 
 returns-6 : tie.Need-returns-6
-returns-6 c = arm (c .before .before .before .before .before .before .before) (c .sum-items6 .result) (Packed Four) (c .before .before .before .before .form2 .given .1 ∙ ap Packed (c .before .enum-told6 .given .1)) (c .sum-items6 .ensures)
+returns-6 c = arm (c .before .before .before .before .before .before .before) (c .sum-items3 .result) (Packed Two) (c .before .before .before .before .form2 .given .1 ∙ ap Packed (c .before .enum-told5 .given .1)) (c .sum-items3 .ensures)
 
 returns-7 : tie.Need-returns-7
-returns-7 c = arm (c .before .before .before .before .before) (c .sum-items7 .result) (Runs (c .before .before .form3 .given .0 .0)) (c .before .before .form3 .given .1) (c .sum-items7 .ensures)
+returns-7 c = arm (c .before .before .before .before .before .before .before) (c .sum-items4 .result) (Packed Four) (c .before .before .before .before .form2 .given .1 ∙ ap Packed (c .before .enum-told6 .given .1)) (c .sum-items4 .ensures)
 
 returns-8 : tie.Need-returns-8
-returns-8 c = arm (c .before .before .before .before) (c .sum-items8 .result) Names (c .before .enum-told7 .given .1) (c .sum-items8 .ensures)
+returns-8 c = arm (c .before .before .before .before .before) (c .sum-items5 .result) (Runs (c .before .before .form3 .given .0 .0)) (c .before .before .form3 .given .1) (c .sum-items5 .ensures)
+
+returns-9 : tie.Need-returns-9
+returns-9 c = arm (c .before .before .before .before) (c .sum-items6 .result) Names (c .before .enum-told7 .given .1) (c .sum-items6 .ensures)
 
 pub sums-of-spec : {M : Type 1} → statement M
 sums-of-spec =
     tie.close
     (tie.spec
     (λ c. search needs)
-    (λ c. search needs)
-    (λ c κs. search needs)
-    (λ c. search needs)
-    (λ c κs. search needs)
-    (λ c. search needs)
-    (λ c κs. search needs)
-    (λ c. search needs)
-    (λ c. search needs)
-    (λ c κs. search needs)
-    (λ c. search needs)
-    (λ c κs. search needs)
-    (λ c. search needs)
-    (λ c κs. search needs)
-    (λ c. search needs)
-    (λ c κs. search needs)
-    (λ c. search needs)
     (λ c κs. search needs)
     returns
+    (λ c. search needs)
+    (λ c κs. search needs)
+    (λ c. search needs)
+    (λ c κs. search needs)
+    (λ c. search needs)
+    (λ c κs. search needs)
+    (λ c. search needs)
+    (λ c. search needs)
+    (λ c κs. search needs)
+    (λ c. search needs)
+    (λ c κs. search needs)
+    (λ c. search needs)
+    (λ c κs. search needs)
+    (λ c. search needs)
+    (λ c κs. search needs)
+    (λ c. search needs)
+    (λ c κs. search needs)
     returns-2
     returns-3
     returns-4
     returns-5
     returns-6
     returns-7
-    returns-8)
+    returns-8
+    returns-9)

@@ -21,9 +21,20 @@ use Rattle.survey.specs.declared.Sums.{Sums}
 use Rattle.survey.specs.declared.Tally.{Tally}
 use Rattle.survey.specs.declared.Step.the-variants.{On, Off}
 use Rattle.survey.specs.Cells.{allPass, allBelow, total, TotalsOf}
-use Rattle.survey.specs.Steps.{OfResults, cellLimit, noCells, Sound, Adds}
+use Rattle.survey.specs.Steps.{OfResults, cellLimit, noCells, sumsIn, Sound, Adds}
 use Rattle.survey.specs.Laws.Cells.{allPass-on, allPass-off, total-append}
 use Rattle.survey.specs.Laws.Rest.{Rest, rest-run, rest-end, results-first, last-first}
+
+-- What is said of a payload's results
+
+-- what is said by the form that a payload has
+pub by-form : (f g : Form) (d : Bool) (s : List ℕ) (P : List ℤ → Type 0) → f ≡ g → OfResults g d s P → OfResults f d s P
+by-form f g d s P e h = subst (λ (i : Form). OfResults i d s P) (sym e) h
+
+-- the results of plain numbers are the numbers
+pub plain-results : (z : Size) (s : List ℕ) (P : List ℤ → Type 0) → P (numbersIn z s) → OfResults (Plain z) false s P
+unfolding readIn
+plain-results z s P h l e = let q : numbersIn z s ≡ l = cc in subst P q h
 
 -- A test of all cells
 
@@ -88,18 +99,12 @@ module _ (test : ℤ → Bool) (z : Size) (s : List ℕ) (at : ℕ) (fine : Bool
       by false = refl
 
   pub passing-end : length s - at < sizeOf z → OfResults (Plain z) false s (λ (xs : List ℤ). fine ≡ allPass test xs)
-  unfolding allPass readIn
-  passing-end h l e =
-      let q : numbersIn z s ≡ l = cc in
-      sym (sym (ap (allPass test) q) ∙ w ∙ ap (λ (r : List ℤ). fine && allPass test r) (numbers-end z s at h) ∙ by fine)
+  unfolding allPass
+  passing-end h = plain-results z s (λ (xs : List ℤ). fine ≡ allPass test xs) (sym (w ∙ ap (λ (r : List ℤ). fine && allPass test r) (numbers-end z s at h) ∙ by fine))
     where
       by : (f : Bool) → (f && true) ≡ f
       by true = refl
       by false = refl
-
--- what is said by the form that a payload has
-pub by-form : (f g : Form) (d : Bool) (s : List ℕ) (P : List ℤ → Type 0) → f ≡ g → OfResults g d s P → OfResults f d s P
-by-form f g d s P e h = subst (λ (i : Form). OfResults i d s P) (sym e) h
 
 -- Sums over all cells
 
@@ -161,10 +166,25 @@ module _ (n : ℕ) (atoms bonds : List ℕ) (t : Tally) (xs : List ℤ) where
         let r = rest-run d (Onward u) left (u .last) w v k left′ e in
         onward-off u (resultsFrom d (u .last) (replicate k v)) (resultsFrom d (lastFrom d (u .last) (replicate k v)) (r .0)) (lastFrom d (u .last) (replicate k v)) (r .2) a
 
+  -- the next of the plain numbers of a payload
+  module _ (z : Size) (s : List ℕ) (at : ℕ) (u : Tally) (w : Onward u (numbersIn z (drop at s))) where
+    module _ (h : at + sizeOf z ≤ length s) where
+      number : Onward u ((signedAt (widthOf z) s at ∷ []) ++ numbersIn z (drop (at + sizeOf z) s))
+      number = subst (Onward u) (numbers-step z s at h) w
+
+      pub numbers-on : (u′ : Tally) → Adds n atoms bonds u (replicate 1 (signedAt (widthOf z) s at)) (signedAt (widthOf z) s at) (On u′) → Onward u′ (numbersIn z (drop (at + sizeOf z) s))
+      numbers-on u′ a = onward-on u (signedAt (widthOf z) s at ∷ []) (numbersIn z (drop (at + sizeOf z) s)) (signedAt (widthOf z) s at) number u′ a
+
+      pub numbers-off : Adds n atoms bonds u (replicate 1 (signedAt (widthOf z) s at)) (signedAt (widthOf z) s at) Off → t .cells + length xs ≤ cellLimit → allBelow n xs ≡ false
+      numbers-off a = onward-off u (signedAt (widthOf z) s at ∷ []) (numbersIn z (drop (at + sizeOf z) s)) (signedAt (widthOf z) s at) number a
+
+    pub numbers-all : length s - at < sizeOf z → Onward u []
+    numbers-all h = subst (Onward u) (numbers-end z s at h) w
+
 -- The answer
 
 module _ (n : ℕ) (atoms bonds : List ℕ) (xs : List ℤ) where
-  pub totals-all : (u : Tally) → Onward n atoms bonds noCells xs u [] → TotalsOf n atoms bonds xs (record { inside = true; atoms = u .atoms; bonds = u .bonds })
+  pub totals-all : (u : Tally) → Onward n atoms bonds noCells xs u [] → TotalsOf n atoms bonds xs (sumsIn u)
   unfolding allPass total
   totals-all u w = (sym (w .0), (λ _. (omega (arith, w .2), omega (arith, w .3))))
 
