@@ -299,7 +299,7 @@ fn no_sums() -> Sums
     }
 }
 
-// The sums over all results of a payload, by a loop of its form's own.
+// The sums over all results of a payload; plain numbers have a loop of their own.
 fn sums_of(
     payload: &[u8],
     form: Form,
@@ -311,31 +311,16 @@ fn sums_of(
     requires { ⌜ types ≤ 4096 ⌝ }
     ensures { λ r. ⌜ OfResults form delta (now (payload .entry)) (λ xs. length xs ≤ cellLimit → TotalsOf types (now (atoms .entry)) (now (bonds .entry)) xs r) ⌝ }
 {
+    if delta {
+        return sum_items(payload, form, delta, types, atoms, bonds);
+    }
     match form {
-        Form::Plain(size) => {
-            if delta {
-                return sum_items(payload, Form::Plain(size), delta, types, atoms, bonds);
-            }
-            match size {
-                Size::One => sum_plain(payload, Size::One, types, atoms, bonds),
-                Size::Two => sum_plain(payload, Size::Two, types, atoms, bonds),
-                Size::Four => sum_plain(payload, Size::Four, types, atoms, bonds),
-            }
-        }
-        Form::Packed(size) => match size {
-            Size::One => sum_items(payload, Form::Packed(Size::One), delta, types, atoms, bonds),
-            Size::Two => sum_items(payload, Form::Packed(Size::Two), delta, types, atoms, bonds),
-            Size::Four => sum_items(
-                payload,
-                Form::Packed(Size::Four),
-                delta,
-                types,
-                atoms,
-                bonds,
-            ),
+        Form::Plain(size) => match size {
+            Size::One => sum_plain(payload, Size::One, types, atoms, bonds),
+            Size::Two => sum_plain(payload, Size::Two, types, atoms, bonds),
+            Size::Four => sum_plain(payload, Size::Four, types, atoms, bonds),
         },
-        Form::Runs(range) => sum_items(payload, Form::Runs(range), delta, types, atoms, bonds),
-        Form::Names => sum_items(payload, Form::Names, delta, types, atoms, bonds),
+        _ => sum_items(payload, form, delta, types, atoms, bonds),
     }
 }
 
