@@ -36,21 +36,21 @@ pub struct Sums {
 }
 
 // The last of some results that all lie between two numbers; or one does not.
-pub enum Last {
+enum Last {
     Within(i32),
     Outside,
 }
 
 // The cells that are counted, the sums over them, and the last.
-pub struct Tally {
-    pub cells: usize,
-    pub atoms: u64,
-    pub bonds: u64,
-    pub last: i32,
+struct Tally {
+    cells: usize,
+    atoms: u64,
+    bonds: u64,
+    last: i32,
 }
 
 // A tally with some results more; or one is no index, or they are too many.
-pub enum Step {
+enum Step {
     On(Tally),
     Off,
 }

@@ -1,12 +1,11 @@
 -- The results that are left of the payload decide (`decide-on`, `decide-off`).
-use mathlib.Core.Path.{_≡_, refl, sym, ap, subst, _∙_}
-use mathlib.Core.Bool.{Bool, true, false}
+use mathlib.Core.Path.{_≡_, refl, sym, subst}
 use mathlib.Core.Option.{some}
 use mathlib.Core.List.{List}
-use Prim.Native.Nat.{ℕ, _-_, _≤_, _<_}
+use Prim.Native.Nat.{_-_, _≤_}
 use native.Mathlib.Omega.{arith}
 use lib.ListN.{length, drop, replicate}
-use lib.IntN.{ℤ, pos}
+use lib.IntN.{ℤ}
 use mir.Syntax.{w32}
 use mir.Val.{toZ, ofZ}
 use mir.Facts.{toZ-ofZ}
@@ -16,11 +15,9 @@ use Rattle.payloads.specs.declared.Item.{Item}
 use Rattle.payloads.specs.declared.Item.the-variants.{Run}
 use Rattle.payloads.specs.Items.{readIn, Gives}
 use Rattle.payloads.specs.Results.{resultsFrom, lastFrom}
-use Rattle.survey.specs.declared.Last.{Last}
-use Rattle.survey.specs.declared.Last.the-variants.{Within, Outside}
 use Rattle.survey.specs.Cells.{between}
 use Rattle.survey.specs.Steps.{Reaches}
-use Rattle.survey.specs.Laws.Rest.{Rest, rest-start, rest-end, rest-wrong}
+use Rattle.survey.specs.Laws.Rest.{Rest, rest-start, rest-wrong}
 use Rattle.survey.specs.Laws.Steps.{Decide, decide-on, decide-off, decide-end}
 use Rattle.survey.proofs.items_between.Statement.{statement}
 use Rattle.survey.proofs.items_between.Tie as tie

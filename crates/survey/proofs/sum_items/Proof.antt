@@ -1,14 +1,12 @@
 -- The results that are left of the payload bring the tally to the sums over all (`run-on`, `run-off`).
-use mathlib.Core.Path.{_≡_, refl, sym, ap, subst, _∙_}
-use mathlib.Core.Bool.{Bool, true, false}
+use mathlib.Core.Path.{_≡_, subst}
 use mathlib.Core.Option.{some}
 use mathlib.Core.List.{List}
-use Prim.Native.Nat.{ℕ, _+_, _-_, _≤_, _<_}
+use Prim.Native.Nat.{_-_, _≤_}
 use native.Mathlib.Omega.{arith}
 use lib.ListN.{length, drop, replicate}
-use lib.IntN.{ℤ, pos}
+use lib.IntN.{ℤ}
 use mir.Syntax.{w32}
-use mir.Val.{toZ, ofZ}
 use mir.Facts.{toZ-ofZ}
 use borrow.Author.Needs.{needs}
 use Rattle.codecs.specs.Delta.{sumsIf}
@@ -16,7 +14,7 @@ use Rattle.payloads.specs.declared.Item.{Item}
 use Rattle.payloads.specs.declared.Item.the-variants.{Run}
 use Rattle.payloads.specs.Items.{readIn, Gives}
 use Rattle.payloads.specs.Results.{resultsFrom, lastFrom}
-use Rattle.survey.specs.Steps.{cellLimit, noCells, Sound, Adds}
+use Rattle.survey.specs.Steps.{noCells, Sound, Adds}
 use Rattle.survey.specs.Laws.Rest.{Rest, rest-start, rest-end, rest-wrong}
 use Rattle.survey.specs.Laws.Steps.{Onward, onward-start, run-on, run-off, totals-all, totals-none}
 use Rattle.survey.proofs.sum_items.Statement.{statement}

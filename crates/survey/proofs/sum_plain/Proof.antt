@@ -1,5 +1,5 @@
 -- The numbers that are left of the payload bring the tally to the sums over all (`numbers-on`, `numbers-off`).
-use mathlib.Core.Path.{_≡_, sym, ap, subst, _∙_}
+use mathlib.Core.Path.{subst}
 use mathlib.Core.List.{List}
 use Prim.Native.Nat.{_-_, _≤_}
 use native.Mathlib.Omega.{arith}

@@ -3,10 +3,10 @@ use mathlib.Core.Path.{_≡_, refl, sym, ap, subst, _∙_}
 use mathlib.Core.Bool.{Bool, true, false, _&&_}
 use mathlib.Core.Option.{Option, some, Option·map}
 use mathlib.Core.List.{List, [], _∷_, _++_}
-use Prim.Native.Nat.{ℕ, _+_, _-_, _*_, _≤_, _<_}
+use Prim.Native.Nat.{ℕ, _+_, _-_, _≤_, _<_}
 use native.Mathlib.Omega.{arith}
 use lib.ListN.{length, drop, replicate, length-append}
-use lib.IntN.{ℤ, pos}
+use lib.IntN.{ℤ}
 use Rattle.numbers.specs.BigEndian.{signedAt}
 use Rattle.codecs.specs.declared.Size.{Size}
 use Rattle.codecs.specs.declared.Form.{Form}
@@ -62,27 +62,27 @@ unfolding allPass
 decide-end test d xs left x w e = rest-end d (Decide test xs) left x w e
 
 -- of a run of sums from a on, the k that are left after x decide, and have its last
-abbrev pub Runs : (ℤ → Bool) → ℤ → ℤ → ℕ → ℤ → ℕ → Type 0
-Runs test v a n x k =
+abbrev pub RunLeft : (ℤ → Bool) → ℤ → ℤ → ℕ → ℤ → ℕ → Type 0
+RunLeft test v a n x k =
     Decide test (resultsFrom true a (replicate n v)) (resultsFrom true x (replicate k v)) × (lastFrom true a (replicate n v) ≡ lastFrom true x (replicate k v))
 
-module _ (test : ℤ → Bool) (v a : ℤ) (n : ℕ) (x : ℤ) (k : ℕ) (w : Runs test v a n x k) where
+module _ (test : ℤ → Bool) (v a : ℤ) (n : ℕ) (x : ℤ) (k : ℕ) (w : RunLeft test v a n x k) where
   module _ (h : 0 < k) (y : ℤ) (e : y ≡ plusDelta x v) where
     first : allPass test (resultsFrom true a (replicate n v)) ≡ (test y && allPass test (resultsFrom true y (replicate (k - 1) v)))
     unfolding allPass
     first = w .0 ∙ ap (allPass test) (results-first true x v k h) ∙ rw e
 
     -- the next sum passes, or does not
-    pub runs-on : test y ≡ true → Runs test v a n y (k - 1)
-    runs-on t = (first ∙ rw t, w .1 ∙ last-first true x v k h ∙ rw e)
+    pub run-left-on : test y ≡ true → RunLeft test v a n y (k - 1)
+    run-left-on t = (first ∙ rw t, w .1 ∙ last-first true x v k h ∙ rw e)
 
-    pub runs-off : test y ≡ false → allPass test (resultsFrom true a (replicate n v)) ≡ false
-    runs-off t = first ∙ rw t
+    pub run-left-off : test y ≡ false → allPass test (resultsFrom true a (replicate n v)) ≡ false
+    run-left-off t = first ∙ rw t
 
   -- none are left
-  pub runs-end : k ≡ 0 → (allPass test (resultsFrom true a (replicate n v)) ≡ true) × (x ≡ lastFrom true a (replicate n v))
+  pub run-left-end : k ≡ 0 → (allPass test (resultsFrom true a (replicate n v)) ≡ true) × (x ≡ lastFrom true a (replicate n v))
   unfolding allPass resultsFrom lastFrom
-  runs-end e = let z = rw e at w in (z .0, sym (z .1))
+  run-left-end e = let z = rw e at w in (z .0, sym (z .1))
 
 -- of a payload's plain numbers those from a place on decide, where `fine` says whether those before pass
 abbrev pub Passing : (ℤ → Bool) → Size → List ℕ → ℕ → Bool → Type 0
