@@ -127,6 +127,10 @@ checked-cells x n m k d l h c e = rw (e, h, length-sumsIf d l, c)
 pub checked-names : (x : Decoding) (n m : ℕ) (l : List ℤ) → length l ≡ n * fieldNameSize → x ≡ column kind.Strings m l → Good n m ≡ checkedOf x
 checked-names x n m l c e = let q : length l / fieldNameSize ≡ n = omega arith in rw (e, q)
 
+-- cells are results, but in strings
+pub length-cells : (k : Kind) (xs : List ℤ) → isStrings k ≡ false → lengthOf k xs ≡ length xs
+length-cells k xs e = rw e
+
 -- what is answered says what the column is
 pub checked-refusal : (x : Decoding) (r : ℕ) → checkedOf x ≡ Refused r → x ≡ refused r
 checked-refusal (refused q) r e = let z : q ≡ r = cc in ap refused z
