@@ -12,6 +12,7 @@ use Rattle.codecs.specs.Delta.{sumsIf}
 use Rattle.payloads.specs.Items.{readIn}
 use Rattle.survey.specs.declared.Last.{Last}
 use Rattle.survey.specs.declared.Last.the-variants.{Within, Outside}
+use Rattle.survey.specs.declared.Sums.{Sums}
 use Rattle.survey.specs.declared.Tally.{Tally}
 use Rattle.survey.specs.declared.Step.{Step}
 use Rattle.survey.specs.declared.Step.the-variants.{On, Off}
@@ -33,6 +34,10 @@ cellLimit = 4294967295
 -- the tally of no cells
 abbrev pub noCells : Tally
 noCells = record { cells = 0; atoms = 0; bonds = 0; last = pos 0 }
+
+-- the sums of a tally of all cells
+abbrev pub sumsIn : Tally → Sums
+sumsIn t = record { inside = true; atoms = t .atoms; bonds = t .bonds }
 
 -- a tally's numbers have room for what it counts
 abbrev pub Sound : Tally → Type 0

@@ -11,7 +11,7 @@ ghost use Rattle.payloads.specs.Items.{isNames};
 ghost use Rattle.payloads.specs.Results.{resultsFrom, lastFrom};
 ghost use Rattle.survey.specs.Field.{otherSize, otherNames, fieldColumn, isStrings, checkedOf};
 ghost use Rattle.survey.specs.Cells.{Decodes, between, allBetween, TotalsOf};
-ghost use Rattle.survey.specs.Steps.{OfResults, Reaches, cellLimit, Sound, Adds};
+ghost use Rattle.survey.specs.Steps.{OfResults, Reaches, cellLimit, noCells, sumsIn, Sound, Adds};
 use codecs::Form;
 use codecs::Size;
 use columns::Codec;
@@ -36,21 +36,21 @@ pub struct Sums {
 }
 
 // The last of some results that all lie between two numbers; or one does not.
-pub enum Last {
+enum Last {
     Within(i32),
     Outside,
 }
 
 // The cells that are counted, the sums over them, and the last.
-pub struct Tally {
-    pub cells: usize,
-    pub atoms: u64,
-    pub bonds: u64,
-    pub last: i32,
+struct Tally {
+    cells: usize,
+    atoms: u64,
+    bonds: u64,
+    last: i32,
 }
 
 // A tally with some results more; or one is no index, or they are too many.
-pub enum Step {
+enum Step {
     On(Tally),
     Off,
 }
@@ -144,14 +144,7 @@ fn check_strings(payload: &[u8], n: usize) -> Checked
 }
 
 // The answer for a payload of another kind whose header passed.
-fn check_payload(
-    payload: &[u8],
-    n: usize,
-    m: u32,
-    kind: Kind,
-    form: Form,
-    delta: bool,
-) -> Checked
+fn check_payload(payload: &[u8], n: usize, m: u32, kind: Kind, form: Form, delta: bool) -> Checked
     requires { ⌜ (isStrings kind ≡ false) × (isNames form ≡ false) ⌝ }
     ensures { λ r. ⌜ r ≡ checkedOf (judgedPayload (Header.Good n m kind form delta) (now (payload .entry))) ⌝ }
 {
@@ -272,7 +265,30 @@ fn both(a: bool, b: bool) -> bool
     if a { b } else { false }
 }
 
-// No cells are indices.
+// The tally of no cells.
+fn no_cells() -> Tally
+    ensures { λ r. ⌜ r ≡ noCells ⌝ }
+{
+    Tally {
+        cells: 0,
+        atoms: 0,
+        bonds: 0,
+        last: 0,
+    }
+}
+
+// The sums of a tally of all cells.
+fn sums_in(tally: Tally) -> Sums
+    ensures { λ r. ⌜ r ≡ sumsIn tally ⌝ }
+{
+    Sums {
+        inside: true,
+        atoms: tally.atoms,
+        bonds: tally.bonds,
+    }
+}
+
+// The sums where a cell is no index.
 fn no_sums() -> Sums
     ensures { λ r. ⌜ r .inside ≡ false ⌝ }
 {
@@ -283,7 +299,7 @@ fn no_sums() -> Sums
     }
 }
 
-// The sums over all results of a payload, by a loop of its form's own.
+// The sums over all results of a payload; plain numbers have a loop of their own.
 fn sums_of(
     payload: &[u8],
     form: Form,
@@ -295,20 +311,42 @@ fn sums_of(
     requires { ⌜ types ≤ 4096 ⌝ }
     ensures { λ r. ⌜ OfResults form delta (now (payload .entry)) (λ xs. length xs ≤ cellLimit → TotalsOf types (now (atoms .entry)) (now (bonds .entry)) xs r) ⌝ }
 {
+    if delta {
+        return sum_items(payload, form, delta, types, atoms, bonds);
+    }
     match form {
         Form::Plain(size) => match size {
-            Size::One => sum_items(payload, Form::Plain(Size::One), delta, types, atoms, bonds),
-            Size::Two => sum_items(payload, Form::Plain(Size::Two), delta, types, atoms, bonds),
-            Size::Four => sum_items(payload, Form::Plain(Size::Four), delta, types, atoms, bonds),
+            Size::One => sum_plain(payload, Size::One, types, atoms, bonds),
+            Size::Two => sum_plain(payload, Size::Two, types, atoms, bonds),
+            Size::Four => sum_plain(payload, Size::Four, types, atoms, bonds),
         },
-        Form::Packed(size) => match size {
-            Size::One => sum_items(payload, Form::Packed(Size::One), delta, types, atoms, bonds),
-            Size::Two => sum_items(payload, Form::Packed(Size::Two), delta, types, atoms, bonds),
-            Size::Four => sum_items(payload, Form::Packed(Size::Four), delta, types, atoms, bonds),
-        },
-        Form::Runs(range) => sum_items(payload, Form::Runs(range), delta, types, atoms, bonds),
-        Form::Names => sum_items(payload, Form::Names, delta, types, atoms, bonds),
+        _ => sum_items(payload, form, delta, types, atoms, bonds),
     }
+}
+
+// The same for plain numbers.
+fn sum_plain(
+    payload: &[u8],
+    size: Size,
+    types: usize,
+    atoms: &[u32; 4096],
+    bonds: &[u32; 4096],
+) -> Sums
+    requires { ⌜ types ≤ 4096 ⌝ }
+    ensures { λ r. ⌜ OfResults (Form.Plain size) false (now (payload .entry)) (λ xs. length xs ≤ cellLimit → TotalsOf types (now (atoms .entry)) (now (bonds .entry)) xs r) ⌝ }
+{
+    let k = codecs::bytes(size);
+    let mut at: usize = 0;
+    let mut tally = no_cells();
+    while k <= payload.len() - at {
+        let number = codecs::number_at(payload, at, size);
+        let Step::On(t) = add_cells(tally, number, 1, types, atoms, bonds) else {
+            return no_sums();
+        };
+        tally = t;
+        at += k;
+    }
+    sums_in(tally)
 }
 
 // The same, item by item.
@@ -324,12 +362,7 @@ fn sum_items(
     ensures { λ r. ⌜ OfResults form delta (now (payload .entry)) (λ xs. length xs ≤ cellLimit → TotalsOf types (now (atoms .entry)) (now (bonds .entry)) xs r) ⌝ }
 {
     let mut at: usize = 0;
-    let mut tally = Tally {
-        cells: 0,
-        atoms: 0,
-        bonds: 0,
-        last: 0,
-    };
+    let mut tally = no_cells();
     loop {
         match payloads::item_at(payload, at, form) {
             Item::Run(value, count, next) => {
@@ -343,11 +376,7 @@ fn sum_items(
                 return no_sums();
             }
             Item::End => {
-                return Sums {
-                    inside: true,
-                    atoms: tally.atoms,
-                    bonds: tally.bonds,
-                };
+                return sums_in(tally);
             }
         }
     }

@@ -1,6 +1,6 @@
 -- One test of the cell decides for the whole run, and its entries are added as often as it stands there (`allPass-same`, `total-same`).
 use mathlib.Core.Path.{_≡_, sym, ap, _∙_}
-use mathlib.Core.Bool.{true, false}
+use mathlib.Core.Bool.{false}
 use mathlib.Core.List.{List}
 use Prim.Native.Nat.{ℕ, _+_, _*_}
 use native.Mathlib.Omega.{arith}

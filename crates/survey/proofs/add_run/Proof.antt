@@ -1,15 +1,9 @@
 -- With delta the sums are added; else all results are the value (`results-same`).
-use mathlib.Core.Path.{_≡_, sym, ap₂, subst, _∙_}
-use mathlib.Core.Bool.{Bool, true, false}
-use mathlib.Core.List.{List}
-use lib.ListN.{replicate}
-use lib.IntN.{ℤ}
+use mathlib.Core.Bool.{false}
 use mir.Syntax.{w32}
 use mir.Facts.{toZ-ofZ}
 use borrow.Author.Needs.{needs}
-use Rattle.payloads.specs.Results.{resultsFrom, lastFrom}
 use Rattle.payloads.specs.Laws.Scan.{run-last}
-use Rattle.survey.specs.Steps.{Adds}
 use Rattle.survey.specs.Laws.Rest.{results-same}
 use Rattle.survey.proofs.add_run.Statement.{statement}
 use Rattle.survey.proofs.add_run.Tie as tie

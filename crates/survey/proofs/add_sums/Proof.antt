@@ -1,7 +1,7 @@
 -- The sums that are left decide, and bring the tally to the same end (`sums-on`, `sums-off`).
 use mathlib.Core.Path.{_≡_, refl, sym, ap, subst, _∙_}
-use mathlib.Core.Bool.{Bool, true, false}
-use Prim.Native.Nat.{ℕ, _-_, _≤_}
+use mathlib.Core.Bool.{true}
+use Prim.Native.Nat.{_-_}
 use native.Mathlib.Omega.{arith}
 use lib.ListN.{replicate}
 use lib.IntN.{ℤ}
@@ -11,7 +11,6 @@ use mir.Facts.{toZ-ofZ}
 use borrow.Author.Needs.{needs}
 use Rattle.codecs.specs.Delta.{plusDelta}
 use Rattle.payloads.specs.Results.{resultsFrom, lastFrom}
-use Rattle.survey.specs.declared.Step.{Step}
 use Rattle.survey.specs.Steps.{Sound, Adds}
 use Rattle.survey.specs.Laws.Rest.{last-first}
 use Rattle.survey.specs.Laws.Steps.{Onward, onward-start, sums-on, sums-off, sums-end}

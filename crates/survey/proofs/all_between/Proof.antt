@@ -1,15 +1,12 @@
 -- A column that decodes has a header that passes, and its cells are the results of what is read by it (`decode-read`).
-use mathlib.Core.Path.{_≡_, sym, ap, _∙_}
-use mathlib.Core.List.{List}
+use mathlib.Core.Path.{sym, _∙_}
 use native.Mathlib.Omega.{arith}
-use lib.IntN.{ℤ}
 use mir.Syntax.{w32}
 use mir.Facts.{toZ-ofZ}
 use borrow.Author.Needs.{needs}
 use Rattle.numbers.specs.Laws.BigEndian.{bytes-of}
 use Rattle.columns.specs.declared.Wanted.the-variants.{Any}
 use Rattle.columns.specs.Laws.Table.{Passes, header-passes}
-use Rattle.survey.specs.Cells.{allBetween}
 use Rattle.survey.specs.Laws.Field.{decode-header, decode-read}
 use Rattle.survey.proofs.all_between.Statement.{statement}
 use Rattle.survey.proofs.all_between.Tie as tie

@@ -1,6 +1,6 @@
 -- 16 by the size of names, else the header's refusal, or the answer for the payload: strings are the names of 4 bytes (`strings-size`).
 use mathlib.Core.Path.{_≡_, refl, sym, ap, _∙_}
-use mathlib.Core.Bool.{true, false}
+use mathlib.Core.Bool.{false}
 use mathlib.Core.List.{[], _∷_}
 use types.Run.{OneOf, miss}
 use denote.Enum.Declared.{tagOf}

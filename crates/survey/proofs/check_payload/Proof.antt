@@ -1,8 +1,6 @@
 -- 18 and 19 by the scan, which counts the results (`refused-one`, `fine-one`).
 use mathlib.Core.Path.{sym, _∙_}
 use borrow.Author.Needs.{needs}
-use Rattle.codecs.specs.Payload.{valuesIn}
-use Rattle.columns.specs.Decode.{judgedValues}
 use Rattle.payloads.specs.Laws.Judged.{refused-one, fine-one}
 use Rattle.survey.specs.Laws.Field.{checked-refused, checked-cells}
 use Rattle.survey.proofs.check_payload.Statement.{statement}

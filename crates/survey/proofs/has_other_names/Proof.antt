@@ -1,12 +1,7 @@
 -- A column that is too short has no names; else the codec and the parameter are read.
-use mathlib.Core.Path.{sym, ap₂, _∙_}
-use mathlib.Core.Bool.{Bool}
-use Prim.Native.Nat.{ℕ}
 use borrow.Author.Needs.{needs}
 use borrow.Author.Tests.{le-leb, lt-leb}
-use Rattle.columns.specs.declared.Codec.{Codec}
-use Rattle.columns.specs.Table.{codecOf}
-use Rattle.survey.specs.Field.{otherSize, otherNames}
+use Rattle.survey.specs.Field.{otherNames}
 use Rattle.survey.proofs.has_other_names.Statement.{statement}
 use Rattle.survey.proofs.has_other_names.Tie as tie
 

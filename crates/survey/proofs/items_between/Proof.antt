@@ -1,12 +1,11 @@
 -- The results that are left of the payload decide (`decide-on`, `decide-off`).
-use mathlib.Core.Path.{_≡_, refl, sym, ap, subst, _∙_}
-use mathlib.Core.Bool.{Bool, true, false}
+use mathlib.Core.Path.{_≡_, refl, sym, subst}
 use mathlib.Core.Option.{some}
 use mathlib.Core.List.{List}
-use Prim.Native.Nat.{ℕ, _-_, _≤_, _<_}
+use Prim.Native.Nat.{_-_, _≤_}
 use native.Mathlib.Omega.{arith}
 use lib.ListN.{length, drop, replicate}
-use lib.IntN.{ℤ, pos}
+use lib.IntN.{ℤ}
 use mir.Syntax.{w32}
 use mir.Val.{toZ, ofZ}
 use mir.Facts.{toZ-ofZ}
@@ -16,11 +15,9 @@ use Rattle.payloads.specs.declared.Item.{Item}
 use Rattle.payloads.specs.declared.Item.the-variants.{Run}
 use Rattle.payloads.specs.Items.{readIn, Gives}
 use Rattle.payloads.specs.Results.{resultsFrom, lastFrom}
-use Rattle.survey.specs.declared.Last.{Last}
-use Rattle.survey.specs.declared.Last.the-variants.{Within, Outside}
 use Rattle.survey.specs.Cells.{between}
 use Rattle.survey.specs.Steps.{Reaches}
-use Rattle.survey.specs.Laws.Rest.{Rest, rest-start, rest-end, rest-wrong}
+use Rattle.survey.specs.Laws.Rest.{Rest, rest-start, rest-wrong}
 use Rattle.survey.specs.Laws.Steps.{Decide, decide-on, decide-off, decide-end}
 use Rattle.survey.proofs.items_between.Statement.{statement}
 use Rattle.survey.proofs.items_between.Tie as tie
@@ -71,9 +68,11 @@ loop-again c =
     let k = c .before .before .before .before .before .value .given .0 in
     let g = read (c .before .before .before .before .before) in
     let h = subst (Reaches (between (toZ w32 (ofZ w32 (a .args .low))) (toZ w32 (ofZ w32 (a .args .high)))) _ _) (c .before .x .given .1) (said (c .before .before .before)) in
-    let y = toZ-ofZ {w = w32} {z = c .before .x .given .0 .0} (record { sfits = c .known-told2 .given .0 .1 }) in
-    (g .1, (λ l e. rw y (decide-on (between (toZ w32 (ofZ w32 (a .args .low))) (toZ w32 (ofZ w32 (a .args .high)))) (a .args .delta) (sumsIf (a .args .delta) l) (readIn (a .args .form) (drop (p .at) (a .args .payload .now))) (toZ w32 (p .last)) (p .inv .1 l e)
-    (k .0) (k .1 .0) (readIn (a .args .form) (drop (k .1 .1 .0) (a .args .payload .now))) (g .4) (c .before .x .given .0 .0) (h .0) (h .1))))
+    let y = toZ-ofZ {w = w32} {z = c .before .x .given .0 .0} (record { sfits = c .known-told2 .given .0 .1 }) in (
+      g .1,
+      (λ l e. rw y (decide-on (between (toZ w32 (ofZ w32 (a .args .low))) (toZ w32 (ofZ w32 (a .args .high)))) (a .args .delta) (sumsIf (a .args .delta) l) (readIn (a .args .form) (drop (p .at) (a .args .payload .now))) (toZ w32 (p .last)) (p .inv .1 l e)
+          (k .0) (k .1 .0) (readIn (a .args .form) (drop (k .1 .1 .0) (a .args .payload .now))) (g .4) (c .before .x .given .0 .0) (h .0) (h .1))),
+    )
 
 returns-2 : tie.Need-returns-2 Inv-loop μ-loop
 returns-2 c l e =

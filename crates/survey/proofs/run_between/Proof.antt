@@ -1,15 +1,13 @@
 -- With delta the sums decide; else all results are the value (`results-same`).
-use mathlib.Core.Path.{_≡_, sym, ap, subst, _∙_}
-use mathlib.Core.Bool.{Bool, false}
+use mathlib.Core.Path.{_≡_, sym, _∙_}
+use mathlib.Core.Bool.{false}
 use lib.ListN.{replicate}
-use lib.IntN.{ℤ}
 use mir.Syntax.{w32}
 use mir.Facts.{toZ-ofZ}
 use borrow.Author.Needs.{needs}
-use Rattle.payloads.specs.Results.{resultsFrom, lastFrom}
+use Rattle.payloads.specs.Results.{resultsFrom}
 use Rattle.payloads.specs.Laws.Scan.{run-last}
 use Rattle.survey.specs.Cells.{allPass, between}
-use Rattle.survey.specs.Steps.{Reaches}
 use Rattle.survey.specs.Laws.Cells.{allPass-same}
 use Rattle.survey.specs.Laws.Rest.{results-same}
 use Rattle.survey.proofs.run_between.Statement.{statement}

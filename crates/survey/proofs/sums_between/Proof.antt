@@ -1,24 +1,20 @@
 -- The results that are left of the run decide, and have its last (`results-first`, `last-first`).
-use mathlib.Core.Path.{_≡_, refl, sym, ap, ap₂, _∙_}
-use mathlib.Core.Bool.{Bool, true, false, _&&_}
-use Prim.Native.Nat.{ℕ, _-_}
+use mathlib.Core.Path.{_≡_, refl, sym, _∙_}
+use Prim.Native.Nat.{_-_}
 use native.Mathlib.Omega.{arith}
-use lib.ListN.{replicate}
-use lib.IntN.{ℤ}
 use mir.Syntax.{w32}
 use mir.Val.{toZ, ofZ}
 use mir.Facts.{toZ-ofZ}
 use borrow.Author.Needs.{needs}
 use borrow.Author.Tests.{not-true, not-false}
 use Rattle.codecs.specs.Delta.{plusDelta}
-use Rattle.payloads.specs.Results.{resultsFrom, lastFrom}
 use Rattle.survey.specs.Cells.{between}
-use Rattle.survey.specs.Laws.Steps.{Runs, runs-on, runs-off, runs-end}
+use Rattle.survey.specs.Laws.Steps.{RunLeft, run-left-on, run-left-off, run-left-end}
 use Rattle.survey.proofs.sums_between.Statement.{statement}
 use Rattle.survey.proofs.sums_between.Tie as tie
 
 abbrev Inv-loop : tie.InvT-loop
-Inv-loop sum value count low high x₀ left₀ x left = Runs (between (toZ w32 low) (toZ w32 high)) (toZ w32 value) (toZ w32 sum) count (toZ w32 x) left
+Inv-loop sum value count low high x₀ left₀ x left = RunLeft (between (toZ w32 low) (toZ w32 high)) (toZ w32 value) (toZ w32 sum) count (toZ w32 x) left
 
 abbrev μ-loop : tie.MeasureT-loop
 μ-loop sum value count low high x₀ left₀ x left = left
@@ -34,7 +30,7 @@ returns : tie.Need-returns Inv-loop μ-loop
 returns c =
     let a = c .before .before .before .before .before in
     let p = c .before .before .before .before .loop in
-    let e = runs-off (between (toZ w32 (ofZ w32 (a .args .low))) (toZ w32 (ofZ w32 (a .args .high)))) (toZ w32 (ofZ w32 (a .args .value))) (toZ w32 (ofZ w32 (a .args .sum))) (a .args .count) (toZ w32 (p .x)) (p .left) (p .inv) (omega arith)
+    let e = run-left-off (between (toZ w32 (ofZ w32 (a .args .low))) (toZ w32 (ofZ w32 (a .args .high)))) (toZ w32 (ofZ w32 (a .args .value))) (toZ w32 (ofZ w32 (a .args .sum))) (a .args .count) (toZ w32 (p .x)) (p .left) (p .inv) (omega arith)
     (toZ w32 (ofZ w32 (c .before .before .add-delta .result))) (next (c .before .before)) (sym (c .before .is-between .ensures) ∙ not-true _ (c .if1 .taken)) in
     rw (toZ-ofZ {w = w32} (a .fits .low), toZ-ofZ {w = w32} (a .fits .high), toZ-ofZ {w = w32} (a .fits .value), toZ-ofZ {w = w32} (a .fits .sum)) at e
 
@@ -42,14 +38,14 @@ loop-again : tie.Need-loop-again Inv-loop μ-loop
 loop-again c =
     let a = c .before .before .before .before .before in
     let p = c .before .before .before .before .loop in
-    runs-on (between (toZ w32 (ofZ w32 (a .args .low))) (toZ w32 (ofZ w32 (a .args .high)))) (toZ w32 (ofZ w32 (a .args .value))) (toZ w32 (ofZ w32 (a .args .sum))) (a .args .count) (toZ w32 (p .x)) (p .left) (p .inv) (omega arith)
+    run-left-on (between (toZ w32 (ofZ w32 (a .args .low))) (toZ w32 (ofZ w32 (a .args .high)))) (toZ w32 (ofZ w32 (a .args .value))) (toZ w32 (ofZ w32 (a .args .sum))) (a .args .count) (toZ w32 (p .x)) (p .left) (p .inv) (omega arith)
     (toZ w32 (ofZ w32 (c .before .before .add-delta .result))) (next (c .before .before)) (sym (c .before .is-between .ensures) ∙ not-false _ (c .if1 .left))
 
 returns-2 : tie.Need-returns-2 Inv-loop μ-loop
 returns-2 c =
     let a = c .before .before in
     let p = c .before .loop in
-    let e = runs-end (between (toZ w32 (ofZ w32 (a .args .low))) (toZ w32 (ofZ w32 (a .args .high)))) (toZ w32 (ofZ w32 (a .args .value))) (toZ w32 (ofZ w32 (a .args .sum))) (a .args .count) (toZ w32 (p .x)) (p .left) (p .inv) (omega arith) in
+    let e = run-left-end (between (toZ w32 (ofZ w32 (a .args .low))) (toZ w32 (ofZ w32 (a .args .high)))) (toZ w32 (ofZ w32 (a .args .value))) (toZ w32 (ofZ w32 (a .args .sum))) (a .args .count) (toZ w32 (p .x)) (p .left) (p .inv) (omega arith) in
     rw (toZ-ofZ {w = w32} (a .fits .low), toZ-ofZ {w = w32} (a .fits .high), toZ-ofZ {w = w32} (a .fits .value), toZ-ofZ {w = w32} (a .fits .sum)) at e
 
 pub sums-between-spec : {M : Type 1} → statement M

@@ -1,9 +1,7 @@
 -- A column that decodes has a header that passes, and its cells are the results of what is read by it (`decode-read`), not too many
 -- to be counted (`decode-cells`).
-use mathlib.Core.Path.{_≡_, sym, ap, _∙_}
-use mathlib.Core.List.{List}
+use mathlib.Core.Path.{sym, _∙_}
 use native.Mathlib.Omega.{arith}
-use lib.IntN.{ℤ}
 use borrow.Author.Needs.{needs}
 use Rattle.numbers.specs.Laws.BigEndian.{bytes-of}
 use Rattle.columns.specs.declared.Wanted.the-variants.{Any}

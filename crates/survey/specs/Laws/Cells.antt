@@ -1,6 +1,6 @@
 -- Laws of cells taken together: lists one after the other, and runs of one cell. Assumes nothing.
-use mathlib.Core.Path.{_≡_, refl, ap, _∙_}
-use mathlib.Core.Bool.{Bool, true, false, _&&_}
+use mathlib.Core.Path.{_≡_, refl, _∙_}
+use mathlib.Core.Bool.{Bool, true, false, _&&_, and-eq-true-iff}
 use mathlib.Core.List.{List, [], _∷_, _++_}
 use Prim.Native.Nat.{ℕ, zero, suc, _+_, _*_, _≤_}
 use native.Mathlib.Omega.{arith}
@@ -11,6 +11,7 @@ use lib.Dec.{ltb}
 use mir.Syntax.{w32}
 use mir.Val.{ofZ}
 use borrow.Author.Tests.{ltb-true}
+use Rattle.codecs.specs.Fits.{Every}
 use Rattle.survey.specs.Cells.{allPass, below, total}
 
 module _ (test : ℤ → Bool) where
@@ -43,6 +44,17 @@ module _ (test : ℤ → Bool) where
 
   pub allPass-off : (p q : List ℤ) → allPass test p ≡ false → allPass test (p ++ q) ≡ false
   allPass-off p q e = allPass-append p q ∙ rw e
+
+  -- all cells pass where every one does
+  pub allPass-every : (xs : List ℤ) → allPass test xs ≡ true → Every (λ (x : ℤ). test x ≡ true) xs
+  unfolding allPass Every
+  allPass-every [] e = tt
+  allPass-every (x ∷ xs) e = let g = and-eq-true-iff (test x) (allPass test xs) .0 e in (g .0, allPass-every xs (g .1))
+
+  pub every-allPass : (xs : List ℤ) → Every (λ (x : ℤ). test x ≡ true) xs → allPass test xs ≡ true
+  unfolding allPass Every
+  every-allPass [] e = refl
+  every-allPass (x ∷ xs) e = rw (e .0, every-allPass xs (e .1))
 
 module _ (table : List ℕ) where
   pub total-append : (p q : List ℤ) → total table (p ++ q) ≡ total table p + total table q

@@ -7,9 +7,9 @@ use mathlib.Core.List.{List, [], _∷_}
 use Prim.Native.Nat.{ℕ, _-_, _*_, _/_, _≤_, _<_}
 use native.Mathlib.Nat.{mul-le-mul}
 use native.Mathlib.Omega.{arith}
-use lib.ListN.{length, take, drop}
+use lib.ListN.{length, take, drop, getD}
 use lib.IntN.{ℤ, pos, negsuc}
-use lib.Signed.{leZ, mag}
+use lib.Signed.{leZ}
 use lib.Dec.{eqb, leb}
 use mir.Syntax.{w32}
 use mir.Val.{SFits}
@@ -31,7 +31,7 @@ use Rattle.columns.specs.declared.Wanted.{Wanted}
 use Rattle.columns.specs.declared.Wanted.the-variants.{Only, Any}
 use Rattle.columns.specs.declared.Codec.{Codec}
 use Rattle.columns.specs.declared.Codec.the-variants.{Known, Unknown}
-use Rattle.columns.specs.Table.{codecOf, kindNumber, suits, lengthLimit, elements}
+use Rattle.columns.specs.Table.{kindNumber, suits, lengthLimit, elements}
 use Rattle.columns.specs.declared.Header.the-variants as header
 use Rattle.columns.specs.Header.{headerOf}
 use Rattle.columns.specs.Decode.{Decoding, refused, column, judgedPayload, decode}
@@ -46,21 +46,34 @@ use Rattle.decoding.specs.Laws.Calls.{payload-part, decode-refused, decode-good
 use Rattle.survey.specs.declared.Checked.the-variants.{Good, Refused}
 use Rattle.survey.specs.Field.{fieldNameSize, isNameSize, otherNames, fieldColumn, isStrings, lengthOf, checkedOf}
 
+-- Kinds
+
+-- the kind of a number
+abbrev kindAt : ℕ → Kind
+kindAt n = getD (kind.Float32 ∷ kind.FixedPoint ∷ kind.Int8 ∷ kind.Int16 ∷ kind.Int32 ∷ kind.Strings ∷ kind.Chars ∷ []) n kind.Float32
+
+kindAt-number : (k : Kind) → kindAt (kindNumber k) ≡ k
+kindAt-number kind.Float32 = refl
+kindAt-number kind.FixedPoint = refl
+kindAt-number kind.Int8 = refl
+kindAt-number kind.Int16 = refl
+kindAt-number kind.Int32 = refl
+kindAt-number kind.Strings = refl
+kindAt-number kind.Chars = refl
+
+-- where one kind is wanted no other suits
+pub suits-only : (j k : Kind) → suits (Only j) k ≡ true → k ≡ j
+suits-only j k e = sym (kindAt-number k) ∙ ap kindAt (sym (eqb-true (kindNumber j) (kindNumber k) e)) ∙ kindAt-number j
+
+is-strings : (k : Kind) → isStrings k ≡ true → k ≡ kind.Strings
+is-strings k e = sym (kindAt-number k) ∙ ap kindAt (eqb-true (kindNumber k) (kindNumber kind.Strings) e)
+
 -- Rows of the table
 
 -- strings have a size
 abbrev sizedRow : Codec → Bool
 sizedRow Unknown = true
 sizedRow (Known k f d p) = not (isStrings k) || isNameSize p
-
-is-strings : (k : Kind) → isStrings k ≡ true → k ≡ kind.Strings
-is-strings kind.Strings e = refl
-is-strings kind.Float32 e = let y : _≡_ {A = ℕ} 0 1 = cc in absurd (omega arith)
-is-strings kind.FixedPoint e = let y : _≡_ {A = ℕ} 0 1 = cc in absurd (omega arith)
-is-strings kind.Int8 e = let y : _≡_ {A = ℕ} 0 1 = cc in absurd (omega arith)
-is-strings kind.Int16 e = let y : _≡_ {A = ℕ} 0 1 = cc in absurd (omega arith)
-is-strings kind.Int32 e = let y : _≡_ {A = ℕ} 0 1 = cc in absurd (omega arith)
-is-strings kind.Chars e = let y : _≡_ {A = ℕ} 0 1 = cc in absurd (omega arith)
 
 module _ (w : Wanted) (s : List ℕ) (n m : ℕ) (k : Kind) (f : Form) (d : Bool) (h : Passes w s n m k f d) where
   -- the header passes where its own kind is wanted
@@ -113,6 +126,22 @@ checked-cells x n m k d l h c e = rw (e, h, length-sumsIf d l, c)
 
 pub checked-names : (x : Decoding) (n m : ℕ) (l : List ℤ) → length l ≡ n * fieldNameSize → x ≡ column kind.Strings m l → Good n m ≡ checkedOf x
 checked-names x n m l c e = let q : length l / fieldNameSize ≡ n = omega arith in rw (e, q)
+
+-- cells are results, but in strings
+pub length-cells : (k : Kind) (xs : List ℤ) → isStrings k ≡ false → lengthOf k xs ≡ length xs
+length-cells k xs e = rw e
+
+-- what is answered says what the column is
+pub checked-refusal : (x : Decoding) (r : ℕ) → checkedOf x ≡ Refused r → x ≡ refused r
+checked-refusal (refused q) r e = let z : q ≡ r = cc in ap refused z
+checked-refusal (column k m xs) r e = let y : _≡_ {A = ℕ} 0 1 = cc in absurd (omega arith)
+
+pub checked-column : (x : Decoding) (n m : ℕ) → checkedOf x ≡ Good n m → (k : Kind) × (xs : List ℤ) × (x ≡ column k m xs) × (lengthOf k xs ≡ n)
+checked-column (refused q) n m e = let y : _≡_ {A = ℕ} 0 1 = cc in absurd (omega arith)
+checked-column (column k u xs) n m e =
+    let a : u ≡ m = cc in
+    let b : lengthOf k xs ≡ n = cc in
+    (k, xs, ap (λ (i : ℕ). column k i xs) a, b)
 
 -- What a column that decodes keeps
 
@@ -209,6 +238,10 @@ module _ (w : Wanted) (s : List ℕ) (k : Kind) (m : ℕ) (xs : List ℤ) where
   -- it decodes as the kind that is wanted
   pub fieldColumn-decode : fieldColumn w s ≡ column k m xs → decode w s ≡ column k m xs
   fieldColumn-decode e = sym (field-same w s (fieldColumn-same e)) ∙ e
+
+  -- so that its kind is that
+  pub fieldColumn-suits : fieldColumn w s ≡ column k m xs → suits w k ≡ true
+  fieldColumn-suits e = decode-suits (fieldColumn-decode e)
 
   -- and as any
   pub fieldColumn-any : fieldColumn w s ≡ column k m xs → decode Any s ≡ column k m xs

@@ -3,10 +3,10 @@ use mathlib.Core.Path.{_≡_, refl, sym, ap, subst, _∙_}
 use mathlib.Core.Bool.{Bool, true, false, _&&_}
 use mathlib.Core.Option.{Option, some, Option·map}
 use mathlib.Core.List.{List, [], _∷_, _++_}
-use Prim.Native.Nat.{ℕ, _+_, _-_, _*_, _≤_, _<_}
+use Prim.Native.Nat.{ℕ, _+_, _-_, _≤_, _<_}
 use native.Mathlib.Omega.{arith}
 use lib.ListN.{length, drop, replicate, length-append}
-use lib.IntN.{ℤ, pos}
+use lib.IntN.{ℤ}
 use Rattle.numbers.specs.BigEndian.{signedAt}
 use Rattle.codecs.specs.declared.Size.{Size}
 use Rattle.codecs.specs.declared.Form.{Form}
@@ -21,9 +21,20 @@ use Rattle.survey.specs.declared.Sums.{Sums}
 use Rattle.survey.specs.declared.Tally.{Tally}
 use Rattle.survey.specs.declared.Step.the-variants.{On, Off}
 use Rattle.survey.specs.Cells.{allPass, allBelow, total, TotalsOf}
-use Rattle.survey.specs.Steps.{OfResults, cellLimit, noCells, Sound, Adds}
+use Rattle.survey.specs.Steps.{OfResults, cellLimit, noCells, sumsIn, Sound, Adds}
 use Rattle.survey.specs.Laws.Cells.{allPass-on, allPass-off, total-append}
 use Rattle.survey.specs.Laws.Rest.{Rest, rest-run, rest-end, results-first, last-first}
+
+-- What is said of a payload's results
+
+-- what is said by the form that a payload has
+pub by-form : (f g : Form) (d : Bool) (s : List ℕ) (P : List ℤ → Type 0) → f ≡ g → OfResults g d s P → OfResults f d s P
+by-form f g d s P e h = subst (λ (i : Form). OfResults i d s P) (sym e) h
+
+-- the results of plain numbers are the numbers
+pub plain-results : (z : Size) (s : List ℕ) (P : List ℤ → Type 0) → P (numbersIn z s) → OfResults (Plain z) false s P
+unfolding readIn
+plain-results z s P h l e = let q : numbersIn z s ≡ l = cc in subst P q h
 
 -- A test of all cells
 
@@ -51,27 +62,27 @@ unfolding allPass
 decide-end test d xs left x w e = rest-end d (Decide test xs) left x w e
 
 -- of a run of sums from a on, the k that are left after x decide, and have its last
-abbrev pub Runs : (ℤ → Bool) → ℤ → ℤ → ℕ → ℤ → ℕ → Type 0
-Runs test v a n x k =
+abbrev pub RunLeft : (ℤ → Bool) → ℤ → ℤ → ℕ → ℤ → ℕ → Type 0
+RunLeft test v a n x k =
     Decide test (resultsFrom true a (replicate n v)) (resultsFrom true x (replicate k v)) × (lastFrom true a (replicate n v) ≡ lastFrom true x (replicate k v))
 
-module _ (test : ℤ → Bool) (v a : ℤ) (n : ℕ) (x : ℤ) (k : ℕ) (w : Runs test v a n x k) where
+module _ (test : ℤ → Bool) (v a : ℤ) (n : ℕ) (x : ℤ) (k : ℕ) (w : RunLeft test v a n x k) where
   module _ (h : 0 < k) (y : ℤ) (e : y ≡ plusDelta x v) where
     first : allPass test (resultsFrom true a (replicate n v)) ≡ (test y && allPass test (resultsFrom true y (replicate (k - 1) v)))
     unfolding allPass
     first = w .0 ∙ ap (allPass test) (results-first true x v k h) ∙ rw e
 
     -- the next sum passes, or does not
-    pub runs-on : test y ≡ true → Runs test v a n y (k - 1)
-    runs-on t = (first ∙ rw t, w .1 ∙ last-first true x v k h ∙ rw e)
+    pub run-left-on : test y ≡ true → RunLeft test v a n y (k - 1)
+    run-left-on t = (first ∙ rw t, w .1 ∙ last-first true x v k h ∙ rw e)
 
-    pub runs-off : test y ≡ false → allPass test (resultsFrom true a (replicate n v)) ≡ false
-    runs-off t = first ∙ rw t
+    pub run-left-off : test y ≡ false → allPass test (resultsFrom true a (replicate n v)) ≡ false
+    run-left-off t = first ∙ rw t
 
   -- none are left
-  pub runs-end : k ≡ 0 → (allPass test (resultsFrom true a (replicate n v)) ≡ true) × (x ≡ lastFrom true a (replicate n v))
+  pub run-left-end : k ≡ 0 → (allPass test (resultsFrom true a (replicate n v)) ≡ true) × (x ≡ lastFrom true a (replicate n v))
   unfolding allPass resultsFrom lastFrom
-  runs-end e = let z = rw e at w in (z .0, sym (z .1))
+  run-left-end e = let z = rw e at w in (z .0, sym (z .1))
 
 -- of a payload's plain numbers those from a place on decide, where `fine` says whether those before pass
 abbrev pub Passing : (ℤ → Bool) → Size → List ℕ → ℕ → Bool → Type 0
@@ -88,18 +99,12 @@ module _ (test : ℤ → Bool) (z : Size) (s : List ℕ) (at : ℕ) (fine : Bool
       by false = refl
 
   pub passing-end : length s - at < sizeOf z → OfResults (Plain z) false s (λ (xs : List ℤ). fine ≡ allPass test xs)
-  unfolding allPass readIn
-  passing-end h l e =
-      let q : numbersIn z s ≡ l = cc in
-      sym (sym (ap (allPass test) q) ∙ w ∙ ap (λ (r : List ℤ). fine && allPass test r) (numbers-end z s at h) ∙ by fine)
+  unfolding allPass
+  passing-end h = plain-results z s (λ (xs : List ℤ). fine ≡ allPass test xs) (sym (w ∙ ap (λ (r : List ℤ). fine && allPass test r) (numbers-end z s at h) ∙ by fine))
     where
       by : (f : Bool) → (f && true) ≡ f
       by true = refl
       by false = refl
-
--- what is said by the form that a payload has
-pub by-form : (f g : Form) (d : Bool) (s : List ℕ) (P : List ℤ → Type 0) → f ≡ g → OfResults g d s P → OfResults f d s P
-by-form f g d s P e h = subst (λ (i : Form). OfResults i d s P) (sym e) h
 
 -- Sums over all cells
 
@@ -161,10 +166,25 @@ module _ (n : ℕ) (atoms bonds : List ℕ) (t : Tally) (xs : List ℤ) where
         let r = rest-run d (Onward u) left (u .last) w v k left′ e in
         onward-off u (resultsFrom d (u .last) (replicate k v)) (resultsFrom d (lastFrom d (u .last) (replicate k v)) (r .0)) (lastFrom d (u .last) (replicate k v)) (r .2) a
 
+  -- the next of the plain numbers of a payload
+  module _ (z : Size) (s : List ℕ) (at : ℕ) (u : Tally) (w : Onward u (numbersIn z (drop at s))) where
+    module _ (h : at + sizeOf z ≤ length s) where
+      number : Onward u ((signedAt (widthOf z) s at ∷ []) ++ numbersIn z (drop (at + sizeOf z) s))
+      number = subst (Onward u) (numbers-step z s at h) w
+
+      pub numbers-on : (u′ : Tally) → Adds n atoms bonds u (replicate 1 (signedAt (widthOf z) s at)) (signedAt (widthOf z) s at) (On u′) → Onward u′ (numbersIn z (drop (at + sizeOf z) s))
+      numbers-on u′ a = onward-on u (signedAt (widthOf z) s at ∷ []) (numbersIn z (drop (at + sizeOf z) s)) (signedAt (widthOf z) s at) number u′ a
+
+      pub numbers-off : Adds n atoms bonds u (replicate 1 (signedAt (widthOf z) s at)) (signedAt (widthOf z) s at) Off → t .cells + length xs ≤ cellLimit → allBelow n xs ≡ false
+      numbers-off a = onward-off u (signedAt (widthOf z) s at ∷ []) (numbersIn z (drop (at + sizeOf z) s)) (signedAt (widthOf z) s at) number a
+
+    pub numbers-all : length s - at < sizeOf z → Onward u []
+    numbers-all h = subst (Onward u) (numbers-end z s at h) w
+
 -- The answer
 
 module _ (n : ℕ) (atoms bonds : List ℕ) (xs : List ℤ) where
-  pub totals-all : (u : Tally) → Onward n atoms bonds noCells xs u [] → TotalsOf n atoms bonds xs (record { inside = true; atoms = u .atoms; bonds = u .bonds })
+  pub totals-all : (u : Tally) → Onward n atoms bonds noCells xs u [] → TotalsOf n atoms bonds xs (sumsIn u)
   unfolding allPass total
   totals-all u w = (sym (w .0), (λ _. (omega (arith, w .2), omega (arith, w .3))))
 
