@@ -41,7 +41,7 @@ pub struct List {
 
 // The refusal by rule 5 of the first group type of the array at a place that has one, or 0 with the atoms and bonds of each type in the tables.
 pub fn groups(leads: &[u8; 256], file: &[u8], at: usize, atoms: &mut [u32; 4096], bonds: &mut [u32; 4096]) -> u8
-    ensures { λ r. ⌜ (now (leads .entry) ≡ leadTable → length (now (file .entry)) ≤ fileLimit → (x : Document) (e : ℕ) → At (now (file .entry)) at x e → Tables (itemsOf x) (now (atoms .exit)) (now (bonds .exit)) r) ⌝ }
+    ensures { λ r. ⌜ (now (leads .entry) ≡ leadTable → length (now (file .entry)) ≤ fileLimit → length (now (atoms .entry)) ≡ 4096 → length (now (bonds .entry)) ≡ 4096 → (x : Document) (e : ℕ) → At (now (file .entry)) at x e → Tables (itemsOf x) (now (atoms .exit)) (now (bonds .exit)) r) ⌝ }
 {
     let part = values::items_at(leads, file, at);
     if 4096 < part.count {
@@ -60,7 +60,7 @@ fn groups_from(
     bonds: &mut [u32; 4096],
 ) -> u8
     requires { ⌜ n ≤ 4096 ⌝ }
-    ensures { λ r. ⌜ (now (leads .entry) ≡ leadTable → length (now (file .entry)) ≤ fileLimit → (ds : Documents) (e : ℕ) → AtAll (now (file .entry)) at ds e → count ds ≡ n → Tables ds (now (atoms .exit)) (now (bonds .exit)) r) ⌝ }
+    ensures { λ r. ⌜ (now (leads .entry) ≡ leadTable → length (now (file .entry)) ≤ fileLimit → length (now (atoms .entry)) ≡ 4096 → length (now (bonds .entry)) ≡ 4096 → (ds : Documents) (e : ℕ) → AtAll (now (file .entry)) at ds e → count ds ≡ n → Tables ds (now (atoms .exit)) (now (bonds .exit)) r) ⌝ }
 {
     let mut i: usize = 0;
     let mut p = at;
@@ -127,11 +127,11 @@ fn judge(
 }
 
 // Whether bond indices come in pairs, and orders are one for each pair and never without indices; by their lengths, where they are there.
-pub fn lists_agree(has_bonds: bool, bonds: usize, has_orders: bool, orders: usize) -> bool
-    ensures { λ r. ⌜ r ≡ agrees has_bonds bonds has_orders orders ⌝ }
+pub fn lists_agree(bonded: bool, bonds: usize, ordered: bool, orders: usize) -> bool
+    ensures { λ r. ⌜ r ≡ agrees bonded bonds ordered orders ⌝ }
 {
-    if !has_bonds {
-        if has_orders {
+    if !bonded {
+        if ordered {
             return false;
         }
         return true;
@@ -139,7 +139,7 @@ pub fn lists_agree(has_bonds: bool, bonds: usize, has_orders: bool, orders: usiz
     if bonds % 2 != 0 {
         return false;
     }
-    if !has_orders {
+    if !ordered {
         return true;
     }
     if bonds / 2 < orders {

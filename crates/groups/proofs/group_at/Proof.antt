@@ -1,63 +1,53 @@
+-- The lists are found, their lengths taken, and rule 5 judged; what a file holds has no more than 32 bits.
+use mathlib.Core.Path.{_≡_, refl, sym, ap, ap₂, subst, _∙_}
+use mathlib.Core.Bool.{Bool, true, false, cond}
+use Prim.Native.Nat.{ℕ, _+_, _-_, _*_, _/_, _%_, _≤_, _<_}
+use native.Mathlib.Omega.{arith}
+use lib.ListN.{length, take, drop, set, length-set}
+use Rattle.heads.specs.Table.{leadTable}
+use Rattle.messagepack.specs.Limits.{fileLimit}
+use Rattle.messagepack.specs.Document.{Document, Documents, Entries, count, size}
+use Rattle.values.specs.Places.{At, AtAll, AtEntries}
+use Rattle.values.specs.Laws.Places.{at-standing}
+use native.Mathlib.Nat.{mod-eq-of-lt}
+use Rattle.groups.specs.Group.{under}
+use Rattle.groups.specs.Steps.{Counted}
+use Rattle.groups.specs.declared.List as lst
+use Rattle.groups.specs.Laws.Group.{list-count, pairs-is}
 use borrow.Author.Needs.{needs}
 use Rattle.groups.proofs.group_at.Statement.{statement}
 use Rattle.groups.proofs.group_at.Tie as tie
-use Rattle.groups.proofs.group_at.Reads as reads
-use Rattle.groups.proofs.group_at.Lts as lts
-use Rattle.groups.proofs.judge.Reads as judge-reads
-use Rattle.groups.proofs.list_at.Reads as list-at-reads
-use Rattle.groups.proofs.places_at.Reads as places-at-reads
 
--- src/lib.rt:84:9
-places-at-requires : tie.Need-places-at-requires
-places-at-requires c κs = search needs
-
--- src/lib.rt:85:17
-list-at-requires : tie.Need-list-at-requires
-list-at-requires c κs = search needs
-
--- src/lib.rt:86:19
-list-at-requires-2 : tie.Need-list-at-requires-2
-list-at-requires-2 c κs = search needs
-
--- src/lib.rt:87:20
-list-at-requires-3 : tie.Need-list-at-requires-3
-list-at-requires-3 c κs = search needs
-
--- src/lib.rt:88:9
-list-at-requires-4 : tie.Need-list-at-requires-4
-list-at-requires-4 c κs = search needs
-
--- src/lib.rt:89:9
-list-at-requires-5 : tie.Need-list-at-requires-5
-list-at-requires-5 c κs = search needs
-
--- src/lib.rt:90:9
-judge-requires : tie.Need-judge-requires
-judge-requires c κs = search needs
-
--- src/lib.rt:93:16
-cast-t13 : tie.Need-cast-t13
-cast-t13 c = search needs
-
--- src/lib.rt:94:16
-cast-t16 : tie.Need-cast-t16
-cast-t16 c = search needs
-
--- src/lib.rt:81:1
 returns : tie.Need-returns
-returns c = ?
+returns c =
+    λ t l x e a.
+    let p = c .before .before .before .before .before .before .before .places-at .ensures t x e a in
+    let names = c .before .before .before .before .before .before .list-at .ensures .1 t (under "atomNameList" x) (p .names) in
+    let charges = c .before .before .before .before .before .list-at2 .ensures .1 t (under "formalChargeList" x) (p .charges) in
+    let elements = c .before .before .before .before .list-at3 .ensures .1 t (under "elementList" x) (p .elements) in
+    let bonds = c .before .before .before .list-at4 .ensures .1 t (under "bondAtomList" x) (p .bonds) in
+    let orders = c .before .before .list-at5 .ensures .1 t (under "bondOrderList" x) (p .orders) in
+    let atoms-are = ap (λ (z : lst.List). z .count) names ∙ list-count (under "atomNameList" x) in
+    let few = c .before .before .before .before .before .before .list-at .ensures .0 in
+    let few-bonds = c .before .before .before .list-at4 .ensures .0 in
+    let k : Counted x _ _ _ _ _ = record { atoms-are = atoms-are; charges-are = ap (λ (z : lst.List). z .count) charges ∙ list-count (under "formalChargeList" x); elements-are = ap (λ (z : lst.List). z .count) elements ∙ list-count (under "elementList" x); bonds-are = bonds; orders-are = orders } in
+    record {
+      number = c .before .judge .ensures t x p k (omega arith);
+      atoms = λ q. mod-eq-of-lt (omega arith) ∙ atoms-are;
+      bonds = λ q. mod-eq-of-lt (omega arith) ∙ ap (λ (z : lst.List). z .count / 2) bonds ∙ sym (pairs-is (under "bondAtomList" x));
+    }
 
 pub group-at-spec : {M : Type 1} → statement M
 group-at-spec =
     tie.close
     (tie.spec
-    places-at-requires
-    list-at-requires
-    list-at-requires-2
-    list-at-requires-3
-    list-at-requires-4
-    list-at-requires-5
-    judge-requires
-    cast-t13
-    cast-t16
+    (λ c κs. search needs)
+    (λ c κs. search needs)
+    (λ c κs. search needs)
+    (λ c κs. search needs)
+    (λ c κs. search needs)
+    (λ c κs. search needs)
+    (λ c κs. search needs)
+    (λ c. search needs)
+    (λ c. search needs)
     returns)

@@ -1,26 +1,32 @@
+-- The types of the array are those that are judged.
+use mathlib.Core.Path.{_≡_, refl, sym, ap, ap₂, subst, _∙_}
+use mathlib.Core.Bool.{Bool, true, false, cond}
+use Prim.Native.Nat.{ℕ, _+_, _-_, _*_, _/_, _%_, _≤_, _<_}
+use native.Mathlib.Omega.{arith}
+use Rattle.messagepack.specs.Document.{count}
+use Rattle.values.specs.Parts.{itemsOf}
 use borrow.Author.Needs.{needs}
 use Rattle.groups.proofs.groups.Statement.{statement}
 use Rattle.groups.proofs.groups.Tie as tie
-use Rattle.groups.proofs.groups.Reads as reads
-use Rattle.groups.proofs.groups.Lts as lts
-use Rattle.groups.proofs.groups_from.Reads as groups-from-reads
-use Rattle.values.proofs.items_at.Reads as items-at-reads
 
--- src/lib.rt:46:9
-items-at-requires : tie.Need-items-at-requires
-items-at-requires c κs = search needs
-
--- src/lib.rt:48:9
 returns : tie.Need-returns
-returns c = ?
+returns c =
+    λ t l la lb x e a.
+    let i = c .before .before .items-at .ensures .1 t x e a in
+    let out : count (itemsOf x) ≤ 4096 → ⊥ = λ w. omega (arith, i .counts, c .if1 .taken) in
+    record { number = λ w. absurd (out w); atoms-of = λ w. absurd (out w); bonds-of = λ w. absurd (out w) }
 
--- src/lib.rt:50:5
-groups-from-requires : tie.Need-groups-from-requires
-groups-from-requires c κs = search needs
-
--- src/lib.rt:43:1
 returns-2 : tie.Need-returns-2
-returns-2 c = ?
+returns-2 c =
+    λ t l la lb x e a.
+    let i = c .before .before .before .before .before .items-at .ensures .1 t x e a in
+    c .groups-from .ensures t l la lb (itemsOf x) (i .end) (i .all) (i .counts)
 
 pub groups-spec : {M : Type 1} → statement M
-groups-spec = tie.close (tie.spec items-at-requires returns groups-from-requires returns-2)
+groups-spec =
+    tie.close
+    (tie.spec
+    (λ c κs. search needs)
+    returns
+    (λ c κs. search needs)
+    returns-2)

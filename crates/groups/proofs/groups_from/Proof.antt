@@ -1,63 +1,67 @@
+-- The types before are fine and stand in the tables; the one at hand is judged.
+use mathlib.Core.Path.{_≡_, refl, sym, ap, ap₂, subst, _∙_}
+use mathlib.Core.Bool.{Bool, true, false, cond}
+use Prim.Native.Nat.{ℕ, _+_, _-_, _*_, _/_, _%_, _≤_, _<_}
+use native.Mathlib.Omega.{arith}
+use lib.ListN.{length, take, drop, set, length-set}
+use Rattle.heads.specs.Table.{leadTable}
+use Rattle.messagepack.specs.Limits.{fileLimit}
+use Rattle.messagepack.specs.Document.{Document, Documents, Entries, count, size}
+use Rattle.values.specs.Places.{At, AtAll, AtEntries}
+use Rattle.values.specs.Laws.Places.{at-standing}
+use Rattle.groups.specs.Laws.Group.{Judged, judged-start, judged-next, judged-refused, judged-more, judged-end}
+use borrow.Author.Needs.{needs}
 use Rattle.groups.proofs.groups_from.Statement.{statement}
 use Rattle.groups.proofs.groups_from.Tie as tie
-use Rattle.groups.proofs.groups_from.Reads as reads
-use Rattle.groups.proofs.groups_from.Lts as lts
-use Rattle.groups.proofs.group_at.Reads as group-at-reads
-use Rattle.values.proofs.skip.Reads as skip-reads
 
 abbrev Inv-loop : tie.InvT-loop
-Inv-loop leads file n at atoms₀ bonds₀ i₀ p₀ atoms bonds i p = ?
+Inv-loop leads file n at atoms₀ bonds₀ i₀ p₀ atoms bonds i p = (i ≤ n) × (n ≤ 4096) × (leads ≡ leadTable → length file ≤ fileLimit → length atoms₀ ≡ 4096 → length bonds₀ ≡ 4096 → (ds : Documents) (e : ℕ) → AtAll file at ds e → count ds ≡ n → (length atoms ≡ 4096) × (length bonds ≡ 4096) × Judged file ds i n p e atoms bonds)
 
 abbrev μ-loop : tie.MeasureT-loop
-μ-loop leads file n at atoms₀ bonds₀ i₀ p₀ atoms bonds i p = ?
+μ-loop leads file n at atoms₀ bonds₀ i₀ p₀ atoms bonds i p = n - i
 
--- src/lib.rt:67:5
 loop-holds : tie.Need-loop-holds Inv-loop μ-loop
-loop-holds c = ?
+loop-holds c = (omega arith, c .before .pre, λ t l la lb ds e a k. (la, lb, judged-start a k))
 
--- src/lib.rt:68:13
-group-at-requires : tie.Need-group-at-requires Inv-loop μ-loop
-group-at-requires c κs = ?
-
--- src/lib.rt:70:13
 returns : tie.Need-returns Inv-loop μ-loop
-returns c = ?
+returns c =
+    λ t l la lb ds e a k.
+    let v = c .before .before .before .before .loop .inv .2 t l la lb ds e a k in
+    let m = judged-next (v .2) (c .before .before .before .loop-test .taken) in
+    let g = c .before .before .group-at .ensures t l (m .x) (m .q) (m .first) in
+    record { number = λ w. judged-refused (v .2) (c .before .before .before .loop-test .taken) _ (c .if1 .taken) (g .number); atoms-of = λ w r. absurd (c .if1 .taken r); bonds-of = λ w r. absurd (c .if1 .taken r) }
 
--- src/lib.rt:72:9
 mul-atoms : tie.Need-mul-atoms Inv-loop μ-loop
-mul-atoms c = ?
+mul-atoms c = record { fits = omega (arith, c .before .before .before .before .loop .inv .1, c .before .before .before .loop-test .taken) }
 
--- src/lib.rt:72:9
 element-write-atoms : tie.Need-element-write-atoms Inv-loop μ-loop
-element-write-atoms c = ?
+element-write-atoms c = omega (arith, c .before .before .before .before .loop .inv .1, c .before .before .before .loop-test .taken)
 
--- src/lib.rt:73:9
 mul-bonds : tie.Need-mul-bonds Inv-loop μ-loop
-mul-bonds c = ?
+mul-bonds c = record { fits = omega (arith, c .before .before .before .before .loop .inv .1, c .before .before .before .loop-test .taken) }
 
--- src/lib.rt:73:9
 element-write-bonds : tie.Need-element-write-bonds Inv-loop μ-loop
-element-write-bonds c = ?
+element-write-bonds c = omega (arith, c .before .before .before .before .loop .inv .1, c .before .before .before .loop-test .taken)
 
--- src/lib.rt:74:9
-skip-requires : tie.Need-skip-requires Inv-loop μ-loop
-skip-requires c κs = ?
-
--- src/lib.rt:75:9
 add-i : tie.Need-add-i Inv-loop μ-loop
-add-i c = ?
+add-i c = record { fits = omega (arith, c .before .before .before .before .before .loop .inv .1, c .before .before .before .before .loop-test .taken) }
 
--- src/lib.rt:67:5
 loop-less : tie.Need-loop-less Inv-loop μ-loop
-loop-less c = ?
+loop-less c = omega (arith, c .before .before .before .before .loop-test .taken)
 
--- src/lib.rt:67:5
 loop-again : tie.Need-loop-again Inv-loop μ-loop
-loop-again c = ?
+loop-again c =
+    (omega (arith, c .before .before .before .before .loop-test .taken), c .before .before .before .before .before .loop .inv .1, λ t l la lb ds e a k.
+    let v = c .before .before .before .before .before .loop .inv .2 t l la lb ds e a k in
+    let m = judged-next (v .2) (c .before .before .before .before .loop-test .taken) in
+    let g = c .before .before .before .group-at .ensures t l (m .x) (m .q) (m .first) in
+    (length-set (c .before .before .before .before .before .loop .atoms) (c .before .before .before .before .before .loop .i) (c .before .before .before .group-at .result .atoms) ∙ v .0, length-set (c .before .before .before .before .before .loop .bonds) (c .before .before .before .before .before .loop .i) (c .before .before .before .group-at .result .bonds) ∙ v .1, judged-more (v .2) (c .before .before .before .before .loop-test .taken) (c .before .before .before .group-at .result) g (c .before .if1 .left) (c .skip .ensures t (m .q) (at-standing (m .first))) (v .0) (v .1) (omega (arith, c .before .before .before .before .before .loop .inv .1, c .before .before .before .before .loop-test .taken))))
 
--- src/lib.rt:54:1
 returns-2 : tie.Need-returns-2 Inv-loop μ-loop
-returns-2 c = ?
+returns-2 c =
+    λ t l la lb ds e a k.
+    let v = c .before .loop .inv .2 t l la lb ds e a k in
+    judged-end (v .2) k (c .loop-test .left)
 
 pub groups-from-spec : {M : Type 1} → statement M
 groups-from-spec =
@@ -66,13 +70,13 @@ groups-from-spec =
     Inv-loop
     μ-loop
     loop-holds
-    group-at-requires
+    (λ c κs. search needs)
     returns
     mul-atoms
     element-write-atoms
     mul-bonds
     element-write-bonds
-    skip-requires
+    (λ c κs. search needs)
     add-i
     loop-less
     loop-again

@@ -9,13 +9,13 @@ use Rattle.values.specs.Parts.{itemsOf}
 use Rattle.lists.specs.Integers.{integersOf}
 use Rattle.survey.specs.Cells.{allBetween, allBelow}
 use Rattle.groups.specs.Group.{listIn, integersIn, ordersRight}
-use Rattle.groups.specs.Laws.Group.{place-none, place-some}
+use Rattle.groups.specs.Laws.Group.{place-none, place-some, none-ordered}
 use borrow.Author.Needs.{needs}
 use Rattle.groups.proofs.in_orders.Statement.{statement}
 use Rattle.groups.proofs.in_orders.Tie as tie
 
 returns : tie.Need-returns
-returns c = λ t o q. sym (ap (λ z. ordersRight (integersIn z)) (place-none q (c .if1 .taken)))
+returns c = λ t o q. sym (ap (λ z. ordersRight (integersIn z)) (place-none q (c .if1 .taken)) ∙ none-ordered)
 
 returns-2 : tie.Need-returns-2
 returns-2 c =

@@ -18,7 +18,7 @@ returns-2 : tie.Need-returns-2
 returns-2 c = λ l. absurd (omega (arith, c .if2 .taken))
 
 returns-3 : tie.Need-returns-3
-returns-3 c = λ l. toZ-pos w32 (omega (arith, c .if2 .left)) ∙ sym (last-suc (c .before .if1 .left))
+returns-3 c = λ l. toZ-pos w32 (omega (arith, c .if2 .left)) ∙ sym (last-suc _ (c .before .if1 .left))
 
 pub last-index-spec : {M : Type 1} → statement M
 last-index-spec =

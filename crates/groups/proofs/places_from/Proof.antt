@@ -1,64 +1,48 @@
+-- The keys are sought all at once, entry by entry.
+use mathlib.Core.Path.{_≡_, refl, sym, ap, ap₂, subst, _∙_}
+use mathlib.Core.Bool.{Bool, true, false, cond}
+use Prim.Native.Nat.{ℕ, _+_, _-_, _*_, _/_, _%_, _≤_, _<_}
+use native.Mathlib.Omega.{arith}
+use lib.ListN.{length, take, drop, set, length-set}
+use Rattle.heads.specs.Table.{leadTable}
+use Rattle.messagepack.specs.Limits.{fileLimit}
+use Rattle.messagepack.specs.Document.{Document, Documents, Entries, count, size}
+use Rattle.values.specs.Places.{At, AtAll, AtEntries}
+use Rattle.values.specs.Laws.Places.{at-standing}
+use Rattle.keys.specs.Laws.Seeking.{Left, Turn, turn}
+use Rattle.groups.specs.Laws.Group.{SeekAll, seek-start, seek-turn, seek-end}
+use borrow.Author.Needs.{needs}
 use Rattle.groups.proofs.places_from.Statement.{statement}
 use Rattle.groups.proofs.places_from.Tie as tie
-use Rattle.groups.proofs.places_from.Reads as reads
-use Rattle.groups.proofs.places_from.Lts as lts
-use Rattle.groups.proofs.note.Reads as note-reads
-use Rattle.values.proofs.skip.Reads as skip-reads
-use Rattle.values.proofs.text_at.Reads as text-at-reads
 
 abbrev Inv-loop : tie.InvT-loop
-Inv-loop leads file n at places₀ left₀ p₀ places left p = ?
+Inv-loop leads file n at places₀ left₀ p₀ places left p = leads ≡ leadTable → (es : Entries) (e : ℕ) → AtEntries file at es e → size es ≡ n → (l : Left file p left e) × SeekAll file es (l .rest) places
 
 abbrev μ-loop : tie.MeasureT-loop
-μ-loop leads file n at places₀ left₀ p₀ places left p = ?
+μ-loop leads file n at places₀ left₀ p₀ places left p = left
 
--- src/lib.rt:219:5
 loop-holds : tie.Need-loop-holds Inv-loop μ-loop
-loop-holds c = ?
+loop-holds c = λ t es e a k. (record { rest = es; all = a; counts = k }, seek-start)
 
--- src/lib.rt:220:13
-text-at-requires : tie.Need-text-at-requires Inv-loop μ-loop
-text-at-requires c κs = ?
-
--- src/lib.rt:222:21
 add-value : tie.Need-add-value Inv-loop μ-loop
-add-value c = ?
+add-value c = omega (arith, c .before .text-at .ensures .0)
 
--- src/lib.rt:223:23
-sub-note : tie.Need-sub-note Inv-loop μ-loop
-sub-note c = ?
-
--- src/lib.rt:223:23
-part-note-start : tie.Need-part-note-start Inv-loop μ-loop
-part-note-start c = ?
-
--- src/lib.rt:223:23
 part-note-end : tie.Need-part-note-end Inv-loop μ-loop
-part-note-end c = ?
+part-note-end c = omega (arith, c .before .text-at .ensures .0)
 
--- src/lib.rt:223:9
-note-requires : tie.Need-note-requires Inv-loop μ-loop
-note-requires c κs = ?
-
--- src/lib.rt:224:9
-skip-requires : tie.Need-skip-requires Inv-loop μ-loop
-skip-requires c κs = ?
-
--- src/lib.rt:225:9
-sub-left : tie.Need-sub-left Inv-loop μ-loop
-sub-left c = ?
-
--- src/lib.rt:219:5
-loop-less : tie.Need-loop-less Inv-loop μ-loop
-loop-less c = ?
-
--- src/lib.rt:219:5
 loop-again : tie.Need-loop-again Inv-loop μ-loop
-loop-again c = ?
+loop-again c =
+    λ t es e a k.
+    let i = c .before .before .before .before .before .before .loop .inv t es e a k in
+    let u = turn (i .0) (c .before .before .before .before .before .loop-test .taken) (c .before .before .before .before .text-at .result) (λ x f d. c .before .before .before .before .text-at .ensures .1 t x f d) in
+    let end = c .skip .ensures t (u .q) (at-standing (u .value)) in
+    (record { rest = u .after; all = subst (λ (j : ℕ). AtEntries (c .before .before .before .before .before .before .before .before .args .file .now) j (u .after) e) (sym end) (u .all); counts = u .counts }, rw (c .before .note .ensures) (seek-turn u (i .1)))
 
--- src/lib.rt:207:1
 returns : tie.Need-returns Inv-loop μ-loop
-returns c = ?
+returns c =
+    λ t es e a k.
+    let i = c .before .loop .inv t es e a k in
+    seek-end (i .0 .rest) (i .1) (omega (arith, i .0 .counts, c .loop-test .left))
 
 pub places-from-spec : {M : Type 1} → statement M
 places-from-spec =
@@ -67,14 +51,14 @@ places-from-spec =
     Inv-loop
     μ-loop
     loop-holds
-    text-at-requires
+    (λ c κs. search needs)
     add-value
-    sub-note
-    part-note-start
+    (λ c. search needs)
+    (λ c. search needs)
     part-note-end
-    note-requires
-    skip-requires
-    sub-left
-    loop-less
+    (λ c κs. search needs)
+    (λ c κs. search needs)
+    (λ c. search needs)
+    (λ c. search needs)
     loop-again
     returns)

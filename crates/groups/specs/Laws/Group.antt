@@ -6,23 +6,28 @@ use mathlib.Core.List.{List, [], _∷_}
 use mathlib.Core.Option.{Option, some, none as nothing}
 use Prim.Native.Nat.{ℕ, zero, suc, _+_, _-_, _*_, _/_, _%_, _≤_, _<_}
 use native.Mathlib.Omega.{arith}
+use native.Mathlib.Nat.{zero-add, add-zero}
 use lib.Dec.{eqb, leb, ltb}
 use lib.IntN.{ℤ, pos, negsuc}
 use lib.Signed.{leZ}
-use lib.ListN.{length, getD}
-use borrow.Author.Tests.{eq-eqb, ne-eqb, eqb-true, le-leb, lt-leb, lt-ltb, le-ltb, ltb-true, ltb-false}
+use lib.ListN.{length, getD, take, drop, set}
+use lib.Seq.{getD-set-same, getD-set-other}
+use borrow.Author.Tests.{eq-eqb, ne-eqb, eqb-true, eqb-false, le-leb, lt-leb, lt-ltb, le-ltb, ltb-true, ltb-false}
 use Rattle.refusal.specs.Table.{accepted, countsDisagree, indexOutside, valueOutside}
-use Rattle.messagepack.specs.Document.{Document, Documents, Entries, none, item, count}
+use Rattle.messagepack.specs.Document.{Document, Documents, Entries, none, item, count, size}
 use Rattle.values.specs.Parts.{itemsOf, entriesOf}
-use Rattle.values.specs.Places.{At}
+use Rattle.values.specs.Places.{At, AtAll}
+use Rattle.values.specs.Laws.Places.{open-item}
+use Rattle.values.specs.declared.Part.{Part}
 use Rattle.fields.specs.Types.{bytesIn, look}
 use Rattle.fields.specs.Noted.{PlaceSays, gone, there}
 use Rattle.survey.specs.Cells.{allPass, between, below, allBetween, allBelow}
 use Rattle.lists.specs.Integers.{integersOf}
 use Rattle.lists.specs.Laws.Integers.{length-integers}
 use Rattle.keys.specs.Seeking.{Seeking}
+use Rattle.keys.specs.Laws.Seeking.{Turn, seeking-start, seeking-end, seeking-turn}
 use Rattle.groups.specs.Group.{under, itemsIn, integersIn, listIn, bondsAgree, pairs, ordersRight, atomsOf, bondAtomsOf, bondOrdersOf, bondsOf, listsAgree, bondsInside, groupNumber, orElse, groupsNumber, each}
-use Rattle.groups.specs.Steps.{PlacesIn, listOf, agrees, lastIndex, Tables, GroupSays}
+use Rattle.groups.specs.Steps.{PlacesIn, noted, listOf, agrees, lastIndex, Tables, GroupSays}
 use Rattle.groups.specs.declared.Places.{Places}
 use Rattle.groups.specs.declared.Group as g
 
@@ -119,9 +124,9 @@ pub record SeekAll (s : List ℕ) (es rest : Entries) (r : Places) : Type 0 wher
 pub last-zero : {n : ℕ} → n ≡ 0 → lastIndex n ≡ negsuc 0
 last-zero e = ap lastIndex e
 
-pub last-suc : {n : ℕ} → (n ≡ 0 → ⊥) → lastIndex n ≡ pos (n - 1)
-last-suc {zero} h = absurd (h refl)
-last-suc {suc n} h = ap pos (omega arith)
+pub last-suc : (n : ℕ) → (n ≡ 0 → ⊥) → lastIndex n ≡ pos (n - 1)
+last-suc zero h = absurd (h refl)
+last-suc (suc n) h = let l : n ≡ suc n - 1 = omega arith in ap pos l
 
 pub none-below : (n : ℕ) → allBelow n [] ≡ true
 unfolding allPass
@@ -130,3 +135,130 @@ none-below n = refl
 -- more orders than pairs
 pub too-many : (orders bonds : ℕ) → bonds / 2 < orders → orders * 2 ≡ bonds → ⊥
 too-many orders bonds l e = omega arith
+
+-- a turn of the search, where the key's part is read up to its end
+module _ {s : List ℕ} {es rest : Entries} {key : Part} {left e : ℕ} (t : Turn s rest key left e) where
+  pub seek-turn : {r : Places} → SeekAll s es rest r → SeekAll s es (t .after) (noted (take (key .at + key .count - key .at) (drop (key .at) s)) (key .at + key .count) r)
+  seek-turn k =
+      let l : key .at + key .count - key .at ≡ key .count = omega arith in
+      rw l
+      (record {
+        charges = seeking-turn (k .charges) t;
+        names = seeking-turn (k .names) t;
+        elements = seeking-turn (k .elements) t;
+        bonds = seeking-turn (k .bonds) t;
+        orders = seeking-turn (k .orders) t;
+      })
+
+pub seek-start : {s : List ℕ} {es : Entries} → SeekAll s es es (record { charges = 0; names = 0; elements = 0; bonds = 0; orders = 0 })
+seek-start = record { charges = seeking-start; names = seeking-start; elements = seeking-start; bonds = seeking-start; orders = seeking-start }
+
+pub seek-end : {s : List ℕ} {es : Entries} {r : Places} (rest : Entries) → SeekAll s es rest r → size rest ≤ 0 → PlacesIn s es r
+seek-end rest k l = record {
+  charges = seeking-end rest (k .charges) l;
+  names = seeking-end rest (k .names) l;
+  elements = seeking-end rest (k .elements) l;
+  bonds = seeking-end rest (k .bonds) l;
+  orders = seeking-end rest (k .orders) l;
+}
+
+-- rule 5 over the types: the first i of them are fine and stand in the tables, and the others are left
+pub record Judged (s : List ℕ) (types : Documents) (i n p e : ℕ) (atoms bonds : List ℕ) : Type 0 where
+  pub rest : Documents
+  pub all : AtAll s p rest e
+  pub counts : i + count rest ≡ n
+  pub number : groupsNumber types ≡ groupsNumber rest
+  pub atoms-done : (j : ℕ) → j < i → getD atoms j 0 ≡ getD (each atomsOf types) j 0
+  pub bonds-done : (j : ℕ) → j < i → getD bonds j 0 ≡ getD (each bondsOf types) j 0
+  pub atoms-left : (j : ℕ) → getD (each atomsOf types) (i + j) 0 ≡ getD (each atomsOf rest) j 0
+  pub bonds-left : (j : ℕ) → getD (each bondsOf types) (i + j) 0 ≡ getD (each bondsOf rest) j 0
+
+pub judged-start : {s : List ℕ} {types : Documents} {n p e : ℕ} {atoms bonds : List ℕ} → AtAll s p types e → count types ≡ n → Judged s types 0 n p e atoms bonds
+judged-start {types = types} a c = record {
+  rest = types;
+  all = a;
+  counts = omega arith;
+  number = refl;
+  atoms-done = λ j l. absurd (omega arith);
+  bonds-done = λ j l. absurd (omega arith);
+  atoms-left = λ j. ap (λ (m : ℕ). getD (each atomsOf types) m 0) (zero-add j);
+  bonds-left = λ j. ap (λ (m : ℕ). getD (each bondsOf types) m 0) (zero-add j);
+}
+
+-- the next type
+pub record NextType (s : List ℕ) (p e : ℕ) (rest : Documents) : Type 0 where
+  pub x : Document
+  pub after : Documents
+  pub is : rest ≡ item x after
+  pub q : ℕ
+  pub first : At s p x q
+  pub all : AtAll s q after e
+
+next-type : {s : List ℕ} {p e : ℕ} (rest : Documents) → AtAll s p rest e → 0 < count rest → NextType s p e rest
+unfolding count
+next-type none a l = absurd (omega arith)
+next-type (item x ds) a l = let o = open-item a in record { x = x; after = ds; is = refl; q = o .q; first = o .first; all = o .rest }
+
+module _ {s : List ℕ} {types : Documents} {i n p e : ℕ} {atoms bonds : List ℕ} (k : Judged s types i n p e atoms bonds) (lt : i < n) where
+  pub judged-next : NextType s p e (k .rest)
+  judged-next = next-type (k .rest) (k .all) (omega (arith, k .counts))
+
+  -- a type that is refused decides
+  pub judged-refused : (r : ℕ) → (r ≡ accepted → ⊥) → r ≡ groupNumber (judged-next .x) → r ≡ groupsNumber types
+  unfolding groupsNumber
+  judged-refused zero h q = absurd (h refl)
+  judged-refused (suc r) h q = sym (k .number ∙ ap groupsNumber (judged-next .is) ∙ ap (λ (m : ℕ). orElse m (groupsNumber (judged-next .after))) (sym q))
+
+  -- a type that is fine stands in the tables
+  pub judged-more : {q : ℕ} (g : g.Group) → GroupSays (judged-next .x) g → g .refusal ≡ accepted → q ≡ judged-next .q → length atoms ≡ 4096 → length bonds ≡ 4096 → i < 4096 → Judged s types (i + 1) n q e (set atoms i (g .atoms)) (set bonds i (g .bonds))
+  unfolding groupsNumber count each
+  judged-more {q} g says fine end la lb li =
+      let m = judged-next in
+      let c : i + suc (count (m .after)) ≡ n = sym (ap (λ (z : Documents). i + count z) (m .is)) ∙ k .counts in
+      let z : groupNumber (m .x) ≡ accepted = sym (says .number) ∙ fine in
+      record {
+        rest = m .after;
+        all = subst (λ (j : ℕ). AtAll s j (m .after) e) (sym end) (m .all);
+        counts = omega arith;
+        number = k .number ∙ ap groupsNumber (m .is) ∙ ap (λ (v : ℕ). orElse v (groupsNumber (m .after))) z;
+        atoms-done = λ j l. placed atoms (each atomsOf types) (g .atoms) la (k .atoms-done) (says .atoms fine ∙ sym (first atomsOf (k .atoms-left))) j l;
+        bonds-done = λ j l. placed bonds (each bondsOf types) (g .bonds) lb (k .bonds-done) (says .bonds fine ∙ sym (first bondsOf (k .bonds-left))) j l;
+        atoms-left = λ j. shifted atomsOf (k .atoms-left) j;
+        bonds-left = λ j. shifted bondsOf (k .bonds-left) j;
+      }
+    where
+      first : (f : Document → ℕ) → ((j : ℕ) → getD (each f types) (i + j) 0 ≡ getD (each f (k .rest)) j 0) → getD (each f types) i 0 ≡ f (judged-next .x)
+      first f h = ap (λ (m : ℕ). getD (each f types) m 0) (sym (add-zero i)) ∙ h 0 ∙ ap (λ (z : Documents). getD (each f z) 0 0) (judged-next .is)
+
+      shifted : (f : Document → ℕ) → ((j : ℕ) → getD (each f types) (i + j) 0 ≡ getD (each f (k .rest)) j 0) → (j : ℕ) → getD (each f types) (i + 1 + j) 0 ≡ getD (each f (judged-next .after)) j 0
+      shifted f h j =
+          let w : i + 1 + j ≡ i + suc j = omega arith in
+          ap (λ (m : ℕ). getD (each f types) m 0) w ∙ h (suc j) ∙ ap (λ (z : Documents). getD (each f z) (suc j) 0) (judged-next .is)
+
+      placed : (old full : List ℕ) (v : ℕ) → length old ≡ 4096 → ((j : ℕ) → j < i → getD old j 0 ≡ getD full j 0) → v ≡ getD full i 0 → (j : ℕ) → j < i + 1 → getD (set old i v) j 0 ≡ getD full j 0
+      placed old full v l h q j lt = go (eqb j i) refl
+        where
+          go : (b : Bool) → eqb j i ≡ b → getD (set old i v) j 0 ≡ getD full j 0
+          go true t = let w : j ≡ i = eqb-true j i t in rw w (getD-set-same old i v 0 (omega arith) ∙ q)
+          go false t = let w = eqb-false j i t in getD-set-other old i j v 0 w ∙ h j (omega arith)
+
+pub judged-end : {s : List ℕ} {types : Documents} {i n p e : ℕ} {atoms bonds : List ℕ} → Judged s types i n p e atoms bonds → count types ≡ n → n ≤ i → Tables types atoms bonds accepted
+unfolding groupsNumber count
+judged-end {s} {types} {i} {n} {p} {e} {atoms} {bonds} k c le = record {
+  number = λ l. sym (k .number ∙ none-left (k .rest) (k .counts));
+  atoms-of = λ l r j lt. k .atoms-done j (omega arith);
+  bonds-of = λ l r j lt. k .bonds-done j (omega arith);
+}
+  where
+    none-left : (rest : Documents) → i + count rest ≡ n → groupsNumber rest ≡ accepted
+    none-left none q = refl
+    none-left (item x ds) q = absurd (omega arith)
+
+pub none-ordered : ordersRight nothing ≡ true
+unfolding allPass
+none-ordered = refl
+
+pub list-count : (o : Option Document) → listOf o .count ≡ count (itemsIn o)
+unfolding count
+list-count (some x) = refl
+list-count nothing = refl
