@@ -3,3 +3,5 @@ pub mod Fields
 pub mod Sets
 pub mod Rows
 pub mod Numbers
+pub mod Steps
+pub mod Notes
