@@ -14,8 +14,8 @@ use Rattle.fields.specs.Types.{Has, Fits}
 use Rattle.fields.specs.Table.{named}
 use Rattle.fields.specs.Fields.{versionOf, VersionOne, fieldsNumber}
 use Rattle.groups.specs.Group.{orElse}
-use Rattle.structure.specs.Columns.{columns, AllRight, columnsNumber}
-use Rattle.structure.specs.Counts.{CountsAgree, countsNumber}
+use Rattle.counts.specs.Columns.{columns, AllRight, columnsNumber}
+use Rattle.counts.specs.Counts.{CountsAgree, countsNumber}
 
 -- the file is a writing of some document: a map that keeps the limits, holds every required field, each named field of its type, with major
 -- version 1, each named column of its field's kind and decoding, and every count, index and listed value right

@@ -1,4 +1,2 @@
-pub mod Columns
-pub mod Counts
 pub mod Accepted
 pub mod Laws

@@ -20,7 +20,7 @@ use Rattle.columns.specs.declared.Wanted.the-variants.{Only}
 use Rattle.survey.specs.Cells.{allBetween, allBelow, total}
 use Rattle.lists.specs.Integers.{integersOf, noneNegative, sum}
 use Rattle.groups.specs.Group.{under, itemsIn, integersIn, listIn, bondsAgree, pairs, ordersRight, atomsOf, bondsOf, groupNumber, orElse, groupsNumber, each}
-use Rattle.structure.specs.Columns.{field, columns, cellsIn, allLong}
+use Rattle.counts.specs.Columns.{field, columns, cellsIn, allLong}
 
 -- the most group types
 abbrev pub typeLimit : ℕ
