@@ -1,30 +1,46 @@
 -- What the functions inside this crate say of the places of a file's named fields. No lemma stands here. Assumes nothing.
 use mathlib.Core.Path.{_≡_}
-use mathlib.Core.Bool.{Bool, true, false, cond, _&&_}
+use mathlib.Core.Bool.{Bool, true, false, cond}
 use mathlib.Core.List.{List, [], _∷_}
 use mathlib.Core.Option.{Option, some, none as nothing}
-use Prim.Native.Nat.{ℕ, _+_, _*_, _≤_, _<_}
-use lib.Dec.{eqb, leb, ltb}
-use lib.IntN.{ℤ, pos, natAbs}
+use Prim.Native.Nat.{ℕ, _<_}
+use lib.Dec.{eqb}
+use lib.IntN.{ℤ}
 use lib.ListN.{length, getD}
 use Rattle.messagepack.specs.Document.{Document, Entries}
 use Rattle.fields.specs.Table.{fieldCount}
 use Rattle.fields.specs.Fields.{fieldAt}
 use Rattle.fields.specs.Noted.{PlaceSays}
+use Rattle.columns.specs.declared.Kind.{Kind}
 use Rattle.columns.specs.declared.Wanted.{Wanted}
-use Rattle.columns.specs.declared.Wanted.the-variants.{Real}
-use Rattle.survey.specs.Cells.{between}
+use Rattle.columns.specs.Decode.{column}
+use Rattle.columns.specs.declared.Wanted.the-variants.{Only, Real}
+use Rattle.columns.specs.declared.Kind.the-variants.{Int8, Int32, Strings, Chars}
 use Rattle.groups.specs.declared.List as list
-use Rattle.counts.specs.Columns.{Column, Per, bond, columns, columnOf, decoded, refusalIn, lengthIn}
+use Rattle.counts.specs.Columns.{Column, Per, atom, group, chain, bond, columns, columnOf, decoded, refusalIn, lengthIn}
 
 -- the places of the named fields among a file's entries
 pub record PlacesOf (s : List ℕ) (es : Entries) (places : List ℕ) : Type 0 where
   pub long : length places ≡ fieldCount
   pub says : (i : ℕ) → i < fieldCount → PlaceSays s (getD places i 0) (fieldAt i es)
 
--- the field of column i
-abbrev pub fieldOf : ℕ → ℕ
-fieldOf i = cond (ltb i 6) (i + 8) (i + 10)
+-- the columns by numbers, as the code goes through them: the field of each, its kind, and what it has one entry for
+abbrev pub fieldNumbers : List ℕ
+fieldNumbers = 8 ∷ 9 ∷ 10 ∷ 11 ∷ 12 ∷ 13 ∷ 16 ∷ 17 ∷ 18 ∷ 19 ∷ 20 ∷ 21 ∷ 22 ∷ 23 ∷ 24 ∷ 25 ∷ []
+
+abbrev pub kindNumbers : List ℕ
+kindNumbers = 0 ∷ 0 ∷ 0 ∷ 1 ∷ 1 ∷ 2 ∷ 1 ∷ 3 ∷ 0 ∷ 1 ∷ 4 ∷ 0 ∷ 3 ∷ 4 ∷ 1 ∷ 2 ∷ []
+
+abbrev pub perNumbers : List ℕ
+perNumbers = 0 ∷ 0 ∷ 0 ∷ 1 ∷ 1 ∷ 2 ∷ 3 ∷ 3 ∷ 0 ∷ 0 ∷ 0 ∷ 0 ∷ 1 ∷ 1 ∷ 1 ∷ 2 ∷ []
+
+-- the kind of a number
+abbrev pub kindFrom : ℕ → Wanted
+kindFrom n = cond (eqb n 0) Real (cond (eqb n 1) (Only Int32) (cond (eqb n 2) (Only Strings) (cond (eqb n 3) (Only Int8) (Only Chars))))
+
+-- what a column of a number has one entry for
+abbrev pub perFrom : ℕ → Per
+perFrom n = cond (eqb n 0) atom (cond (eqb n 1) group (cond (eqb n 2) chain bond))
 
 -- column i, in field order
 abbrev pub columnAt : ℕ → Column
@@ -39,3 +55,8 @@ refusalOf w (some x) = refusalIn (decoded w x)
 abbrev pub listOf : Wanted → Option Document → list.List
 listOf w nothing = record { there = false; count = 0 }
 listOf w (some x) = record { there = true; count = lengthIn (decoded w x) }
+
+-- a column that is there decodes
+abbrev pub Right : Wanted → Option Document → Type 0
+Right w nothing = Unit {0}
+Right w (some x) = record { k : Kind; m : ℕ; cells : List ℤ; is : decoded w x ≡ column k m cells }

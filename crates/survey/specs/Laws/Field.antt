@@ -247,9 +247,9 @@ module _ (w : Wanted) (s : List ℕ) (k : Kind) (m : ℕ) (xs : List ℤ) where
   pub fieldColumn-any : fieldColumn w s ≡ column k m xs → decode Any s ≡ column k m xs
   fieldColumn-any e = decode-any (fieldColumn-decode e)
 
-  -- its length is at most the limit
-  pub fieldColumn-length : fieldColumn w s ≡ column k m xs → lengthOf k xs ≤ lengthLimit
-  fieldColumn-length e = by (isStrings k) refl
+  -- its length is the one that its header states
+  pub fieldColumn-stated : fieldColumn w s ≡ column k m xs → lengthOf k xs ≡ unsignedAt 4 s 4
+  fieldColumn-stated e = by (isStrings k) refl
     where
       r : Decoded w s k m xs
       r = decode-rules w s k m xs (fieldColumn-decode e)
@@ -261,9 +261,13 @@ module _ (w : Wanted) (s : List ℕ) (k : Kind) (m : ℕ) (xs : List ℤ) where
           let four = strings-size w s (unsignedAt 4 s 4) m k (r .form) (r .delta) (passes r) z (fieldColumn-same e) in
           counted r ∙ rw (f, four)
 
-      by : (t : Bool) → isStrings k ≡ t → cond t (length xs / fieldNameSize) (length xs) ≤ lengthLimit
-      by true h = let l = names h in omega (arith, r .few)
-      by false h = decode-length (fieldColumn-decode e) h
+      by : (t : Bool) → isStrings k ≡ t → cond t (length xs / fieldNameSize) (length xs) ≡ unsignedAt 4 s 4
+      by true h = let l = names h in omega arith
+      by false h = counted r ∙ elements-one (r .form) (unsignedAt 4 s 4) m (other-row w s (unsignedAt 4 s 4) m k (r .form) (r .delta) (passes r) h)
+
+  -- which is at most the limit
+  pub fieldColumn-length : fieldColumn w s ≡ column k m xs → lengthOf k xs ≤ lengthLimit
+  fieldColumn-length e = let q = fieldColumn-stated e in omega (arith, decode-rules w s k m xs (fieldColumn-decode e) .few)
 
 -- What is read of it, by its header
 

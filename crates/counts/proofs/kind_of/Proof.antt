@@ -1,0 +1,36 @@
+-- The table of kinds.
+use mathlib.Core.Path.{_≡_, refl, sym, ap, ap₂, subst, _∙_}
+use mathlib.Core.Bool.{Bool, true, false, cond, _&&_}
+use Prim.Native.Nat.{ℕ, _+_, _-_, _*_, _/_, _%_, _≤_, _<_}
+use native.Mathlib.Omega.{arith}
+use borrow.Author.Tests.{eq-eqb, ne-eqb, not-true, not-false}
+use Rattle.counts.specs.Steps.{kindFrom}
+use borrow.Author.Needs.{needs}
+use Rattle.counts.proofs.kind_of.Statement.{statement}
+use Rattle.counts.proofs.kind_of.Tie as tie
+
+returns : tie.Need-returns
+returns c = ap kindFrom (sym (c .match .keys1))
+
+returns-2 : tie.Need-returns-2
+returns-2 c = ap kindFrom (sym (c .match .keys2))
+
+returns-3 : tie.Need-returns-3
+returns-3 c = ap kindFrom (sym (c .match .keys3))
+
+returns-4 : tie.Need-returns-4
+returns-4 c = ap kindFrom (sym (c .match .keys4))
+
+returns-5 : tie.Need-returns-5
+returns-5 c = rw (ne-eqb _ 0 (c .match .rest .0 .0 .0 .1), ne-eqb _ 1 (c .match .rest .0 .0 .1), ne-eqb _ 2 (c .match .rest .0 .1), ne-eqb _ 3 (c .match .rest .1))
+
+pub kind-of-spec : {M : Type 1} → statement M
+kind-of-spec =
+    tie.close
+    (tie.spec
+    (λ c. search needs)
+    returns
+    returns-2
+    returns-3
+    returns-4
+    returns-5)

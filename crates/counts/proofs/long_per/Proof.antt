@@ -1,0 +1,36 @@
+-- By what the column is per.
+use mathlib.Core.Path.{_≡_, refl, sym, ap, ap₂, subst, _∙_}
+use mathlib.Core.Bool.{Bool, true, false, cond, _&&_}
+use Prim.Native.Nat.{ℕ, _+_, _-_, _*_, _/_, _%_, _≤_, _<_}
+use native.Mathlib.Omega.{arith}
+use borrow.Author.Tests.{eq-eqb, ne-eqb, not-true, not-false}
+use mathlib.Core.Option.{Option}
+use Rattle.messagepack.specs.Document.{Document}
+use Rattle.counts.specs.Columns.{longPer}
+use borrow.Author.Needs.{needs}
+use Rattle.counts.proofs.long_per.Statement.{statement}
+use Rattle.counts.proofs.long_per.Tie as tie
+
+returns : tie.Need-returns
+returns c = λ w o e. c .is-long .ensures w o e ∙ rw (eq-eqb _ 0 (c .before .if1 .taken))
+
+returns-2 : tie.Need-returns-2
+returns-2 c = λ w o e. c .is-long2 .ensures w o e ∙ rw (ne-eqb _ 0 (c .before .before .if1 .left), eq-eqb _ 1 (c .before .if2 .taken))
+
+returns-3 : tie.Need-returns-3
+returns-3 c = λ w o e. c .is-long3 .ensures w o e ∙ rw (ne-eqb _ 0 (c .before .before .before .if1 .left), ne-eqb _ 1 (c .before .before .if2 .left), eq-eqb _ 2 (c .before .if3 .taken))
+
+returns-4 : tie.Need-returns-4
+returns-4 c = λ w o e. rw (ne-eqb _ 0 (c .before .before .if1 .left), ne-eqb _ 1 (c .before .if2 .left), ne-eqb _ 2 (c .if3 .left))
+
+pub long-per-spec : {M : Type 1} → statement M
+long-per-spec =
+    tie.close
+    (tie.spec
+    (λ c κs. search needs)
+    returns
+    (λ c κs. search needs)
+    returns-2
+    (λ c κs. search needs)
+    returns-3
+    returns-4)
