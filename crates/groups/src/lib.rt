@@ -182,7 +182,7 @@ fn in_orders(leads: &[u8; 256], file: &[u8], at: usize) -> bool
 }
 
 // How many values the array at a place has; a place 0 has none.
-fn list_at(leads: &[u8; 256], file: &[u8], at: usize) -> List
+pub fn list_at(leads: &[u8; 256], file: &[u8], at: usize) -> List
     ensures few { λ r. ⌜ r .count ≤ length (now (file .entry)) ⌝ }
     ensures is { λ r. ⌜ (now (leads .entry) ≡ leadTable → (o : Option Document) → PlaceSays (now (file .entry)) at o → r ≡ listOf o) ⌝ }
 {

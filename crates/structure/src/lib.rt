@@ -1,2 +1,292 @@
-// stub
-pub fn stub() -> u8 { 0 }
+// The verdict on a file: 0 exactly if it is accepted, else the number of the first rule that it breaks, by the order of paper 01. One walk of
+// the container, one pass over the outer map that notes and judges the named fields, one pass over each column, and the rules of counts.
+ghost use mathlib.Core.Path.{_≡_};
+ghost use mathlib.Core.Logic.{_↔_};
+ghost use Prim.Native.Nat.{ℕ, _+_, _≤_};
+ghost use lib.Dec.{eqb};
+ghost use lib.ListN.{length};
+ghost use Rattle.heads.specs.Table.{leadTable};
+ghost use Rattle.messagepack.specs.Limits.{fileLimit};
+ghost use Rattle.messagepack.specs.Document.{Document, Entries};
+ghost use Rattle.values.specs.Parts.{integerOf};
+ghost use Rattle.values.specs.Places.{At};
+ghost use Rattle.fields.specs.Noted.{Noted};
+ghost use Rattle.counts.specs.Counts.{typeLimit, countsNumber};
+ghost use Rattle.structure.specs.Accepted.{Accepted, entriesNumber, verdictOf};
+ghost use Rattle.structure.specs.Steps.{Facts, countOf, CountsIn, CountsAre, countsFit, chainsFit, typeCount, chainsNumber, totalsNumber, groupsPart, valuesPart};
+use columns::Kind;
+use columns::Wanted;
+use fields::Fields;
+use groups::List;
+use lists::Sum;
+use survey::Sums;
+
+// The most models, chains, groups, atoms or bonds.
+pub const COUNT_LIMIT: usize = 16_777_216;
+
+// The most group types.
+pub const TYPE_LIMIT: usize = 4_096;
+
+// The numbers of the fields that the rules of counts look at.
+const NUM_BONDS: usize = 2;
+const NUM_ATOMS: usize = 3;
+const NUM_GROUPS: usize = 4;
+const NUM_CHAINS: usize = 5;
+const NUM_MODELS: usize = 6;
+const GROUP_LIST: usize = 7;
+const GROUP_TYPE_LIST: usize = 12;
+const GROUPS_PER_CHAIN: usize = 14;
+const CHAINS_PER_MODEL: usize = 15;
+const BOND_ATOM_LIST: usize = 16;
+const BOND_ORDER_LIST: usize = 17;
+const SEC_STRUCT_LIST: usize = 22;
+const SEQUENCE_ID_LIST: usize = 24;
+const BIO_ASSEMBLY_LIST: usize = 37;
+const ENTITY_LIST: usize = 38;
+
+// The five num fields; one that is out of range is one above the limit.
+pub struct Counts {
+    pub bonds: usize,
+    pub atoms: usize,
+    pub groups: usize,
+    pub chains: usize,
+    pub models: usize,
+}
+
+// The verdict on a file.
+pub fn verdict(file: &[u8]) -> u8
+    ensures number { λ r. ⌜ r ≡ verdictOf (now (file .entry)) ⌝ }
+    ensures exactly { λ r. ⌜ (r ≡ 0) ↔ Accepted (now (file .entry)) ⌝ }
+{
+    first_fault(file)
+}
+
+// The number of the first rule that a file breaks, or 0.
+fn first_fault(file: &[u8]) -> u8
+    ensures { λ r. ⌜ r ≡ verdictOf (now (file .entry)) ⌝ }
+{
+    let number = messagepack::container(file);
+    if number != refusal::ACCEPTED {
+        return number;
+    }
+    let leads = heads::leads();
+    let entries = values::entries_at(&leads, file, 0);
+    let noted = fields::note(&leads, file, entries.count, entries.at);
+    document_refusal(&leads, file, noted)
+}
+
+// The refusal of a container's document by what is noted of its fields: 12 to 24, or 0.
+fn document_refusal(leads: &[u8; 256], file: &[u8], noted: Fields) -> u8
+    ensures { λ r. ⌜ (now (leads .entry) ≡ leadTable → length (now (file .entry)) ≤ fileLimit → (es : Entries) → Noted (now (file .entry)) es noted → r ≡ entriesNumber es) ⌝ }
+{
+    let number = fields::refusal_of(leads, file, noted);
+    if number != refusal::ACCEPTED {
+        return number;
+    }
+    let places = noted.places;
+    let number = counts::columns_refusal(leads, file, &places);
+    if number != refusal::ACCEPTED {
+        return number;
+    }
+    counts_refusal(leads, file, &places)
+}
+
+// The refusal by the rules of counts, 20 to 23, or 0.
+fn counts_refusal(leads: &[u8; 256], file: &[u8], places: &[usize; 39]) -> u8
+    ensures { λ r. ⌜ (now (leads .entry) ≡ leadTable → length (now (file .entry)) ≤ fileLimit → (es : Entries) → Facts (now (file .entry)) es (now (places .entry)) → r ≡ countsNumber es) ⌝ }
+{
+    let types = groups::list_at(leads, file, places[GROUP_LIST]).count;
+    if TYPE_LIMIT < types {
+        return refusal::TOO_MANY_GROUP_TYPES;
+    }
+    let counts = counts_at(leads, file, places);
+    let number = chains_refusal(leads, file, places, counts);
+    if number != refusal::ACCEPTED {
+        return number;
+    }
+    if !counts::lengths_agree(leads, file, places, counts.atoms, counts.groups, counts.chains) {
+        return refusal::COUNTS_DISAGREE;
+    }
+    let number = groups_refusal(leads, file, places, types, counts);
+    if number != refusal::ACCEPTED {
+        return number;
+    }
+    values_refusal(leads, file, places, counts)
+}
+
+// Rules 2 and 3: the num fields and the entries of chainsPerModel and groupsPerChain.
+fn chains_refusal(leads: &[u8; 256], file: &[u8], places: &[usize; 39], counts: Counts) -> u8
+    ensures { λ r. ⌜ (now (leads .entry) ≡ leadTable → length (now (file .entry)) ≤ fileLimit → (es : Entries) → Facts (now (file .entry)) es (now (places .entry)) → CountsIn es counts → r ≡ chainsNumber es) ⌝ }
+{
+    if !counts_fit(counts) {
+        return refusal::VALUE_OUTSIDE;
+    }
+    let Sum::Is(groups) = lists::sum_at(leads, file, places[GROUPS_PER_CHAIN]) else {
+        return refusal::VALUE_OUTSIDE;
+    };
+    let Sum::Is(chains) = lists::sum_at(leads, file, places[CHAINS_PER_MODEL]) else {
+        return refusal::VALUE_OUTSIDE;
+    };
+    let models = groups::list_at(leads, file, places[CHAINS_PER_MODEL]).count;
+    let ends = groups::list_at(leads, file, places[GROUPS_PER_CHAIN]).count;
+    if chains_agree(counts, models, chains, ends, groups) {
+        return refusal::ACCEPTED;
+    }
+    refusal::COUNTS_DISAGREE
+}
+
+// Whether models, chains and groups are as many as chainsPerModel and groupsPerChain say: their entries, and the sums of these.
+fn chains_agree(counts: Counts, models: usize, chains: u64, ends: usize, groups: u64) -> bool
+    ensures { λ r. ⌜ r ≡ chainsFit counts models chains ends groups ⌝ }
+{
+    if models != counts.models {
+        return false;
+    }
+    if chains != wide(counts.chains) {
+        return false;
+    }
+    if ends != counts.chains {
+        return false;
+    }
+    groups == wide(counts.groups)
+}
+
+// The five num fields at their places.
+fn counts_at(leads: &[u8; 256], file: &[u8], places: &[usize; 39]) -> Counts
+    ensures { λ r. ⌜ (now (leads .entry) ≡ leadTable → (es : Entries) → Facts (now (file .entry)) es (now (places .entry)) → CountsIn es r) ⌝ }
+{
+    Counts {
+        bonds: count_at(leads, file, places[NUM_BONDS]),
+        atoms: count_at(leads, file, places[NUM_ATOMS]),
+        groups: count_at(leads, file, places[NUM_GROUPS]),
+        chains: count_at(leads, file, places[NUM_CHAINS]),
+        models: count_at(leads, file, places[NUM_MODELS]),
+    }
+}
+
+// The integer at a place as a count; one above the limit where it is out of range.
+fn count_at(leads: &[u8; 256], file: &[u8], at: usize) -> usize
+    ensures { λ r. ⌜ (now (leads .entry) ≡ leadTable → (x : Document) (e : ℕ) → At (now (file .entry)) at x e → r ≡ countOf (integerOf x)) ⌝ }
+{
+    as_count(values::integer_at(leads, file, at))
+}
+
+// An integer as a count.
+fn as_count(number: i32) -> usize
+    ensures { λ r. ⌜ r ≡ countOf number ⌝ }
+{
+    if number < 0 {
+        return COUNT_LIMIT + 1;
+    }
+    let n = numbers::to_u32(number) as usize;
+    if COUNT_LIMIT < n {
+        return COUNT_LIMIT + 1;
+    }
+    n
+}
+
+// Whether the counts are all in range.
+fn counts_fit(counts: Counts) -> bool
+    ensures { λ r. ⌜ r ≡ countsFit counts ⌝ }
+{
+    if COUNT_LIMIT < counts.bonds {
+        return false;
+    }
+    if COUNT_LIMIT < counts.atoms {
+        return false;
+    }
+    if COUNT_LIMIT < counts.groups {
+        return false;
+    }
+    if COUNT_LIMIT < counts.chains {
+        return false;
+    }
+    counts.models <= COUNT_LIMIT
+}
+
+// Rules 5 to 8: each group type, the groups that are of them, and the atoms and bonds that these add up to.
+fn groups_refusal(leads: &[u8; 256], file: &[u8], places: &[usize; 39], types: usize, counts: Counts) -> u8
+    ensures { λ r. ⌜ (now (leads .entry) ≡ leadTable → length (now (file .entry)) ≤ fileLimit → (es : Entries) → Facts (now (file .entry)) es (now (places .entry)) → CountsAre es counts → types ≡ typeCount es → types ≤ typeLimit → r ≡ groupsPart es) ⌝ }
+{
+    let mut atoms = no_entries();
+    let mut bonds = no_entries();
+    let number = groups::groups(leads, file, places[GROUP_LIST], &mut atoms, &mut bonds);
+    if number != refusal::ACCEPTED {
+        return number;
+    }
+    let int32 = Wanted::Only(Kind::Int32);
+    let sums = counts::totals(leads, file, places[GROUP_TYPE_LIST], int32, types, &atoms, &bonds);
+    let outer = counts::list_at(leads, file, places[BOND_ATOM_LIST], int32);
+    let orders = counts::list_at(leads, file, places[BOND_ORDER_LIST], Wanted::Only(Kind::Int8));
+    totals_refusal(sums, outer, orders, counts)
+}
+
+// A table of group types with nothing in it.
+fn no_entries() -> [u32; 4096]
+    ensures { λ r. ⌜ length r ≡ 4096 ⌝ }
+{
+    [0u32; 4096]
+}
+
+// Rules 6 to 8 by the sums over all groups, and by the bonds outside.
+fn totals_refusal(sums: Sums, outer: List, orders: List, counts: Counts) -> u8
+    ensures { λ r. ⌜ r ≡ totalsNumber sums outer orders counts ⌝ }
+{
+    if !sums.inside {
+        return refusal::INDEX_OUTSIDE;
+    }
+    if sums.atoms != wide(counts.atoms) {
+        return refusal::COUNTS_DISAGREE;
+    }
+    if !adds_up(sums.bonds, wide(outer.count / 2), wide(counts.bonds)) {
+        return refusal::COUNTS_DISAGREE;
+    }
+    if !groups::lists_agree(outer.there, outer.count, orders.there, orders.count) {
+        return refusal::COUNTS_DISAGREE;
+    }
+    refusal::ACCEPTED
+}
+
+// Whether two numbers add up to a third.
+fn adds_up(a: u64, b: u64, sum: u64) -> bool
+    ensures { λ r. ⌜ r ≡ eqb (a + b) sum ⌝ }
+{
+    if sum < a {
+        return false;
+    }
+    sum - a == b
+}
+
+fn wide(x: usize) -> u64
+    ensures { λ r. ⌜ r ≡ x ⌝ }
+{
+    x as u64
+}
+
+// Rules 9 to 11: the bonds outside, the listed values, and the chains that entities and transforms list.
+fn values_refusal(leads: &[u8; 256], file: &[u8], places: &[usize; 39], counts: Counts) -> u8
+    ensures { λ r. ⌜ (now (leads .entry) ≡ leadTable → (es : Entries) → Facts (now (file .entry)) es (now (places .entry)) → CountsAre es counts → r ≡ valuesPart es) ⌝ }
+{
+    let int32 = Wanted::Only(Kind::Int32);
+    let int8 = Wanted::Only(Kind::Int8);
+    let last = groups::last_index(counts.atoms);
+    if !counts::all_between(leads, file, places[BOND_ATOM_LIST], int32, 0, last) {
+        return refusal::INDEX_OUTSIDE;
+    }
+    if !counts::all_between(leads, file, places[BOND_ORDER_LIST], int8, 1, 4) {
+        return refusal::VALUE_OUTSIDE;
+    }
+    if !counts::all_between(leads, file, places[SEC_STRUCT_LIST], int8, -1, 7) {
+        return refusal::VALUE_OUTSIDE;
+    }
+    if !counts::all_between(leads, file, places[SEQUENCE_ID_LIST], int32, -1, 2147483647) {
+        return refusal::VALUE_OUTSIDE;
+    }
+    if !indices::all_inside(leads, file, places[ENTITY_LIST], counts.chains) {
+        return refusal::INDEX_OUTSIDE;
+    }
+    if !indices::assemblies_inside(leads, file, places[BIO_ASSEMBLY_LIST], counts.chains) {
+        return refusal::INDEX_OUTSIDE;
+    }
+    refusal::ACCEPTED
+}
