@@ -1,0 +1,24 @@
+-- The difference is the other number.
+use mathlib.Core.Path.{_≡_, refl, sym, ap, ap₂, subst, _∙_}
+use mathlib.Core.Bool.{Bool, true, false, cond, _&&_}
+use Prim.Native.Nat.{ℕ, suc, _+_, _-_, _*_, _/_, _%_, _≤_, _<_}
+use native.Mathlib.Omega.{arith}
+use borrow.Author.Tests.{eq-eqb, ne-eqb, le-leb, lt-leb, not-true, not-false}
+use lib.Dec.{eqb}
+use Rattle.structure.specs.Laws.Steps.{sum-less, sum-rest}
+use borrow.Author.Needs.{needs}
+use Rattle.structure.proofs.adds_up.Statement.{statement}
+use Rattle.structure.proofs.adds_up.Tie as tie
+
+returns : tie.Need-returns
+returns c = sym (sum-less _ _ _ (c .if1 .taken))
+
+returns-2 : tie.Need-returns-2
+returns-2 c = sum-rest _ _ _ (c .if1 .left)
+
+pub adds-up-spec : {M : Type 1} → statement M
+adds-up-spec =
+    tie.close
+    (tie.spec
+    returns
+    returns-2)

@@ -1,0 +1,44 @@
+-- An integer in range is its own count.
+use mathlib.Core.Path.{_≡_, refl, sym, ap, ap₂, subst, _∙_}
+use mathlib.Core.Bool.{Bool, true, false, cond, _&&_}
+use Prim.Native.Nat.{ℕ, suc, _+_, _-_, _*_, _/_, _%_, _≤_, _<_}
+use native.Mathlib.Omega.{arith}
+use borrow.Author.Tests.{eq-eqb, ne-eqb, le-leb, lt-leb, not-true, not-false}
+use mir.Syntax.{w32}
+use mir.Val.{toZ, ofZ}
+use mir.Facts.{toZ-ofZ}
+use lib.IntN.{natAbs}
+use Rattle.survey.specs.Laws.Cells.{index-bits}
+use Rattle.structure.specs.Laws.Steps.{count-negative, count-large, count-small}
+use borrow.Author.Needs.{needs}
+use Rattle.structure.proofs.as_count.Statement.{statement}
+use Rattle.structure.proofs.as_count.Tie as tie
+
+returns : tie.Need-returns
+returns c = sym (count-negative (c .before .args .number) (rw (toZ-ofZ {w = w32} (c .before .fits .number)) at (c .if1 .taken)))
+
+returns-2 : tie.Need-returns-2
+returns-2 c =
+    let z = toZ-ofZ {w = w32} (c .before .before .before .fits .number) in
+    let h = rw z at (c .before .before .if1 .left) in
+    let b : c .before .to-u32 .result ≡ natAbs (c .before .before .before .args .number) = c .before .to-u32 .ensures ∙ ap (ofZ w32) z ∙ index-bits (c .before .before .before .args .number) h in
+    sym (count-large (c .before .before .before .args .number) h (omega (arith, c .if2 .taken)))
+
+returns-3 : tie.Need-returns-3
+returns-3 c =
+    let z = toZ-ofZ {w = w32} (c .before .before .before .fits .number) in
+    let h = rw z at (c .before .before .if1 .left) in
+    let b : c .before .to-u32 .result ≡ natAbs (c .before .before .before .args .number) = c .before .to-u32 .ensures ∙ ap (ofZ w32) z ∙ index-bits (c .before .before .before .args .number) h in
+    b ∙ sym (count-small (c .before .before .before .args .number) h (omega (arith, c .if2 .left)))
+
+pub as-count-spec : {M : Type 1} → statement M
+as-count-spec =
+    tie.close
+    (tie.spec
+    (λ c. search needs)
+    returns
+    (λ c κs. search needs)
+    (λ c. search needs)
+    (λ c. search needs)
+    returns-2
+    returns-3)

@@ -1,0 +1,38 @@
+-- Each num field stands at its place.
+use mathlib.Core.Path.{_≡_, refl, sym, ap, ap₂, subst, _∙_}
+use mathlib.Core.Bool.{Bool, true, false, cond, _&&_}
+use Prim.Native.Nat.{ℕ, suc, _+_, _-_, _*_, _/_, _%_, _≤_, _<_}
+use native.Mathlib.Omega.{arith}
+use borrow.Author.Tests.{eq-eqb, ne-eqb, le-leb, lt-leb, not-true, not-false}
+use lib.Dec.{lit<}
+use Rattle.counts.specs.Columns.{field}
+use Rattle.structure.specs.Laws.Steps.{count-named, by-name, needed}
+use borrow.Author.Needs.{needs}
+use Rattle.structure.proofs.counts_at.Statement.{statement}
+use Rattle.structure.proofs.counts_at.Tie as tie
+
+returns : tie.Need-returns
+returns c =
+    λ t es f. let n = by-name es in record {
+      bonds = count-named f 2 (lit< tt) (needed .numBonds) (λ x e a. c .before .before .before .before .before .before .before .before .count-at .ensures t x e a) (field "numBonds" es) (n .numBonds);
+      atoms = count-named f 3 (lit< tt) (needed .numAtoms) (λ x e a. c .before .before .before .before .before .before .count-at2 .ensures t x e a) (field "numAtoms" es) (n .numAtoms);
+      groups = count-named f 4 (lit< tt) (needed .numGroups) (λ x e a. c .before .before .before .before .count-at3 .ensures t x e a) (field "numGroups" es) (n .numGroups);
+      chains = count-named f 5 (lit< tt) (needed .numChains) (λ x e a. c .before .before .count-at4 .ensures t x e a) (field "numChains" es) (n .numChains);
+      models = count-named f 6 (lit< tt) (needed .numModels) (λ x e a. c .count-at5 .ensures t x e a) (field "numModels" es) (n .numModels);
+    }
+
+pub counts-at-spec : {M : Type 1} → statement M
+counts-at-spec =
+    tie.close
+    (tie.spec
+    (λ c. search needs)
+    (λ c κs. search needs)
+    (λ c. search needs)
+    (λ c κs. search needs)
+    (λ c. search needs)
+    (λ c κs. search needs)
+    (λ c. search needs)
+    (λ c κs. search needs)
+    (λ c. search needs)
+    (λ c κs. search needs)
+    returns)

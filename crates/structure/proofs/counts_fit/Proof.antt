@@ -1,0 +1,34 @@
+-- Each count is compared with the limit.
+use mathlib.Core.Path.{_≡_, refl, sym, ap, ap₂, subst, _∙_}
+use mathlib.Core.Bool.{Bool, true, false, cond, _&&_}
+use Prim.Native.Nat.{ℕ, suc, _+_, _-_, _*_, _/_, _%_, _≤_, _<_}
+use native.Mathlib.Omega.{arith}
+use borrow.Author.Tests.{eq-eqb, ne-eqb, le-leb, lt-leb, not-true, not-false}
+use borrow.Author.Needs.{needs}
+use Rattle.structure.proofs.counts_fit.Statement.{statement}
+use Rattle.structure.proofs.counts_fit.Tie as tie
+
+returns : tie.Need-returns
+returns c = rw (lt-leb _ 16777216 (c .if1 .taken))
+
+returns-2 : tie.Need-returns-2
+returns-2 c = rw (le-leb _ 16777216 (c .before .before .if1 .left), lt-leb _ 16777216 (c .if2 .taken))
+
+returns-3 : tie.Need-returns-3
+returns-3 c = rw (le-leb _ 16777216 (c .before .before .before .before .if1 .left), le-leb _ 16777216 (c .before .before .if2 .left), lt-leb _ 16777216 (c .if3 .taken))
+
+returns-4 : tie.Need-returns-4
+returns-4 c = rw (le-leb _ 16777216 (c .before .before .before .before .before .before .if1 .left), le-leb _ 16777216 (c .before .before .before .before .if2 .left), le-leb _ 16777216 (c .before .before .if3 .left), lt-leb _ 16777216 (c .if4 .taken))
+
+returns-5 : tie.Need-returns-5
+returns-5 c = rw (le-leb _ 16777216 (c .before .before .before .before .before .before .before .if1 .left), le-leb _ 16777216 (c .before .before .before .before .before .if2 .left), le-leb _ 16777216 (c .before .before .before .if3 .left), le-leb _ 16777216 (c .before .if4 .left))
+
+pub counts-fit-spec : {M : Type 1} → statement M
+counts-fit-spec =
+    tie.close
+    (tie.spec
+    returns
+    returns-2
+    returns-3
+    returns-4
+    returns-5)
