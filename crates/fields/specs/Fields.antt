@@ -1,0 +1,78 @@
+-- The named fields of a file: each one's value, the set of those that are present, and the refusals 12, 13 and 24 in their order. No reader, no
+-- place and no lemma stands here. Assumes nothing.
+use mathlib.Core.Path.{_≡_}
+use mathlib.Core.Bool.{Bool, true, false, cond, _&&_}
+use mathlib.Core.List.{List, [], _∷_}
+use mathlib.Core.Option.{Option, some, none as nothing}
+use Prim.Native.Nat.{ℕ, zero, suc, _+_, _*_, _≤_}
+use lib.Dec.{eqb, leb}
+use lib.ListN.{getD}
+use Rattle.refusal.specs.Table.{accepted, fieldMissing, fieldType, versionNot1}
+use Rattle.messagepack.specs.Document.{Document, Entries, integer, float, string, binary, array, map}
+use Rattle.fields.specs.Types.{Rows, last, row, look, Has, Fits}
+use Rattle.fields.specs.Tests.{isThere, have, fitting}
+use Rattle.fields.specs.Table.{named}
+
+-- the value under the key of row i
+unfoldable pub valueOf : ℕ → Rows → Entries → Option Document
+valueOf i last es = nothing
+valueOf zero (row k q t rows) es = look k es
+valueOf (suc i) (row k q t rows) es = valueOf i rows es
+
+-- the value of the named field i, 0 to 38
+unfoldable pub fieldAt : ℕ → Entries → Option Document
+fieldAt i es = valueOf i named es
+
+-- which of the rows' keys are there
+unfoldable pub present : Rows → Entries → List Bool
+present last es = []
+present (row k q t rows) es = isThere (look k es) ∷ present rows es
+
+abbrev pub bit : Bool → ℕ
+bit true = 1
+bit false = 0
+
+-- a set as a number with one bit for each: bit i, 2^i, is of the one with number i
+unfoldable pub setOf : List Bool → ℕ
+setOf [] = 0
+setOf (b ∷ bs) = bit b + setOf bs * 2
+
+-- the set of the named fields that are present
+unfoldable pub presenceOf : Entries → ℕ
+presenceOf es = setOf (present named es)
+
+-- the bytes of a string, else none
+abbrev pub stringIn : Option Document → List ℕ
+stringIn nothing = []
+stringIn (some (string t)) = t
+stringIn (some (integer v)) = []
+stringIn (some (float bits)) = []
+stringIn (some (binary t)) = []
+stringIn (some (array ds)) = []
+stringIn (some (map es)) = []
+
+-- the text of mmtfVersion, field 0
+abbrev pub versionOf : Entries → List ℕ
+versionOf es = stringIn (fieldAt 0 es)
+
+-- the major version is 1: the text begins with "1." and a digit
+pub record VersionOne (t : List ℕ) : Type 0 where
+  pub digit : ℕ
+  pub rest : List ℕ
+  pub is : t ≡ 0x31 ∷ 0x2e ∷ digit ∷ rest
+  pub low : 0x30 ≤ digit
+  pub high : digit ≤ 0x39
+
+-- the same as a test
+unfoldable pub isVersionOne : List ℕ → Bool
+isVersionOne t = eqb (getD t 0 0) 0x31 && (eqb (getD t 1 0) 0x2e && (leb 0x30 (getD t 2 0) && leb (getD t 2 0) 0x39))
+
+-- the required fields are there, each named field that is there has its type, and the major version is 1
+pub record FieldsRight (es : Entries) : Type 0 where
+  pub has : Has named es
+  pub fits : Fits named es
+  pub version : VersionOne (versionOf es)
+
+-- 12 over all required fields, then 13 over all named fields, then 24
+unfoldable pub fieldsNumber : Entries → ℕ
+fieldsNumber es = cond (have named es) (cond (fitting named es) (cond (isVersionOne (versionOf es)) accepted versionNot1) fieldType) fieldMissing

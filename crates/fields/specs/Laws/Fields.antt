@@ -1,0 +1,58 @@
+-- No number exactly if the fields are right.
+-- Assumes nothing.
+use mathlib.Core.Path.{_≡_, refl, sym, ap, _∙_}
+use mathlib.Core.Bool.{Bool, true, false, cond, _&&_}
+use mathlib.Core.List.{List, [], _∷_}
+use mathlib.Core.Logic.{_↔_}
+use Prim.Native.Nat.{ℕ, zero, suc}
+use native.Mathlib.Omega.{arith}
+use lib.Dec.{eqb, leb}
+use lib.ListN.{getD}
+use borrow.Author.Tests.{eqb-true, leb-true, le-leb}
+use Rattle.refusal.specs.Table.{accepted, fieldMissing, fieldType, versionNot1}
+use Rattle.messagepack.specs.Document.{Entries}
+use Rattle.fields.specs.Tests.{have, fitting}
+use Rattle.fields.specs.Table.{named}
+use Rattle.fields.specs.Fields.{VersionOne, isVersionOne, versionOf, FieldsRight, fieldsNumber}
+use Rattle.fields.specs.Laws.Types.{clash, and-left, and-right, have-exactly, fitting-exactly}
+
+-- the test of the version says what its rule says
+
+test-version : (t : List ℕ) → isVersionOne t ≡ true → VersionOne t
+unfolding isVersionOne
+test-version [] e = clash e
+test-version (a ∷ []) e = clash (and-right (eqb a 0x31) false e)
+test-version (a ∷ b ∷ []) e = clash (and-right (eqb b 0x2e) false (and-right (eqb a 0x31) (eqb b 0x2e && false) e))
+test-version (a ∷ b ∷ d ∷ t) e =
+    let f = and-right (eqb a 0x31) (eqb b 0x2e && (leb 0x30 d && leb d 0x39)) e in
+    let g = and-right (eqb b 0x2e) (leb 0x30 d && leb d 0x39) f in
+    let x : a ≡ 0x31 = eqb-true a 0x31 (and-left (eqb a 0x31) (eqb b 0x2e && (leb 0x30 d && leb d 0x39)) e) in
+    let y : b ≡ 0x2e = eqb-true b 0x2e (and-left (eqb b 0x2e) (leb 0x30 d && leb d 0x39) f) in
+    record { digit = d; rest = t; is = rw (x, y); low = leb-true 0x30 d (and-left (leb 0x30 d) (leb d 0x39) g); high = leb-true d 0x39 (and-right (leb 0x30 d) (leb d 0x39) g) }
+
+version-test : (t : List ℕ) → VersionOne t → isVersionOne t ≡ true
+unfolding isVersionOne
+version-test t v = rw (v .is, le-leb 0x30 (v .digit) (v .low), le-leb (v .digit) 0x39 (v .high))
+
+pub version-exactly : (t : List ℕ) → (isVersionOne t ≡ true) ↔ VersionOne t
+version-exactly t = (test-version t, version-test t)
+
+-- no number exactly if all is right
+
+three : (a b c : Bool) → cond a (cond b (cond c accepted versionNot1) fieldType) fieldMissing ≡ accepted → (a ≡ true) × (b ≡ true) × (c ≡ true)
+three true true true e = (refl, refl, refl)
+three true true false e = absurd (omega (arith, e))
+three true false c e = absurd (omega (arith, e))
+three false b c e = absurd (omega (arith, e))
+
+pub fields-exactly : (es : Entries) → (fieldsNumber es ≡ accepted) ↔ FieldsRight es
+unfolding fieldsNumber
+fields-exactly es = (there, back)
+  where
+    there : cond (have named es) (cond (fitting named es) (cond (isVersionOne (versionOf es)) accepted versionNot1) fieldType) fieldMissing ≡ accepted → FieldsRight es
+    there e =
+        let h = three (have named es) (fitting named es) (isVersionOne (versionOf es)) e in
+        record { has = have-exactly named es .0 (h .0); fits = fitting-exactly named es .0 (h .1); version = version-exactly (versionOf es) .0 (h .2) }
+
+    back : FieldsRight es → cond (have named es) (cond (fitting named es) (cond (isVersionOne (versionOf es)) accepted versionNot1) fieldType) fieldMissing ≡ accepted
+    back r = rw (have-exactly named es .1 (r .has), fitting-exactly named es .1 (r .fits), version-exactly (versionOf es) .1 (r .version))

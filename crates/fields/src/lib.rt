@@ -1,0 +1,2 @@
+// The named fields of a file.
+pub fn keep(x: usize) -> usize { x }
