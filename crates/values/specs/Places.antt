@@ -43,12 +43,12 @@ lastOf size = cond (eqb size 1) 31 (cond (eqb size 2) 255 (cond (eqb size 3) 655
 abbrev pub halfOf : ℕ → ℕ
 halfOf size = cond (eqb size 1) 0 (cond (eqb size 2) 128 (cond (eqb size 3) 32768 2147483648))
 
--- the integer of an unsigned head that holds n, and of a signed one of a size; 0 where none has that number
+-- the integer of an unsigned head that holds n, 0 where it is above the limit; and that of a signed head of a size
 abbrev pub unsignedBy : ℕ → ℤ
 unsignedBy n = cond (leb n integerLimit) (pos n) (pos 0)
 
 abbrev pub signedBy : ℕ → ℕ → ℤ
-signedBy n size = cond (ltb n (halfOf size)) (pos n) (cond (leb n (lastOf size)) (negsuc (lastOf size - n)) (pos 0))
+signedBy n size = cond (ltb n (halfOf size)) (pos n) (negsuc (lastOf size - n))
 
 -- a string or a binary ends with its body
 abbrev pub EndsWith : Document → ℕ → Part → Type 0

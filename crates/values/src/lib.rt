@@ -136,11 +136,7 @@ fn signed(n: usize, size: usize) -> i32
     if n < half(size) {
         return n as i32;
     }
-    let last = last_of(size);
-    if n <= last {
-        return !((last - n) as i32);
-    }
-    0
+    !(less(last_of(size), n) as i32)
 }
 
 // The first number of a signed head of a size that stands for a negative integer.
@@ -222,29 +218,49 @@ pub fn items_at(leads: &[u8; 256], file: &[u8], at: usize) -> Part
     ensures inside { λ r. ⌜ r .count ≤ length (now (file .entry)) ⌝ }
     ensures says { λ r. ⌜ (now (leads .entry) ≡ leadTable → (x : Document) (e : ℕ) → At (now (file .entry)) at x e → ItemsAt (now (file .entry)) x r) ⌝ }
 {
-    let Kind::Array = heads::kind_at(leads, file, at) else {
+    let Head::At(n, p) = heads::head_at(leads, file, at) else {
         return Part { at: 0, count: 0 };
     };
-    match heads::head_at(leads, file, at) {
-        Head::Cut => Part { at: 0, count: 0 },
-        Head::At(n, p) => {
-            if n <= file.len() {
-                return Part { at: p, count: n };
-            }
-            Part { at: 0, count: 0 }
-        }
+    match heads::kind_at(leads, file, at) {
+        Kind::Array => values_from(file, n, p),
+        Kind::Unsigned => Part { at: 0, count: 0 },
+        Kind::Signed => Part { at: 0, count: 0 },
+        Kind::Float => Part { at: 0, count: 0 },
+        Kind::Str => Part { at: 0, count: 0 },
+        Kind::Bin => Part { at: 0, count: 0 },
+        Kind::Map => Part { at: 0, count: 0 },
+        Kind::Outside => Part { at: 0, count: 0 },
+        Kind::Missing => Part { at: 0, count: 0 },
     }
+}
+
+// The n values from p on, or none where they cannot be inside.
+fn values_from(file: &[u8], n: usize, p: usize) -> Part
+    ensures inside { λ r. ⌜ r .count ≤ length (now (file .entry)) ⌝ }
+    ensures is { λ r. ⌜ (n ≤ length (now (file .entry)) → r ≡ record { at = p; count = n }) ⌝ }
+{
+    if file.len() < n {
+        return Part { at: 0, count: 0 };
+    }
+    Part { at: p, count: n }
 }
 
 // The entries of the map at a place; of another value none.
 pub fn entries_at(leads: &[u8; 256], file: &[u8], at: usize) -> Part
     ensures { λ r. ⌜ (now (leads .entry) ≡ leadTable → (x : Document) (e : ℕ) → At (now (file .entry)) at x e → EntriesAt (now (file .entry)) x r) ⌝ }
 {
-    let Kind::Map = heads::kind_at(leads, file, at) else {
+    let Head::At(n, p) = heads::head_at(leads, file, at) else {
         return Part { at: 0, count: 0 };
     };
-    match heads::head_at(leads, file, at) {
-        Head::Cut => Part { at: 0, count: 0 },
-        Head::At(n, p) => Part { at: p, count: n },
+    match heads::kind_at(leads, file, at) {
+        Kind::Map => Part { at: p, count: n },
+        Kind::Unsigned => Part { at: 0, count: 0 },
+        Kind::Signed => Part { at: 0, count: 0 },
+        Kind::Float => Part { at: 0, count: 0 },
+        Kind::Str => Part { at: 0, count: 0 },
+        Kind::Bin => Part { at: 0, count: 0 },
+        Kind::Array => Part { at: 0, count: 0 },
+        Kind::Outside => Part { at: 0, count: 0 },
+        Kind::Missing => Part { at: 0, count: 0 },
     }
 }

@@ -1,3 +1,3 @@
 pub mod View
-pub mod Skip
+pub mod Shown
 pub mod Laws

@@ -13,6 +13,7 @@ use Rattle.messagepack.specs.Document.{Document, Entries, integer, float, strin
 use Rattle.messagepack.specs.Rules.{Container}
 use Rattle.messagepack.specs.Walk.{equal, containerNumber}
 use Rattle.messagepack.specs.Read.{documentOf}
+use Rattle.values.specs.Parts.{entriesOf}
 use Rattle.views.specs.declared.Place.{Place}
 
 -- in the file, which is a map's writing, the value x of the outer key name is written w
@@ -55,15 +56,6 @@ startOf v =
 unfoldable pub hasKey : List ℕ → Entries → Bool
 hasKey name empty = false
 hasKey name (entry k x es) = equal k name || hasKey name es
-
--- the entries of a map; none of another value
-abbrev pub entriesOf : Document → Entries
-entriesOf (map es) = es
-entriesOf (integer v) = empty
-entriesOf (float bits) = empty
-entriesOf (string t) = empty
-entriesOf (binary t) = empty
-entriesOf (array ds) = empty
 
 -- the refusal: the container's, else 26 where there is no such key
 unfoldable pub viewNumber : List ℕ → List ℕ → ℕ

@@ -2,11 +2,11 @@
 ghost use mathlib.Core.Path.{_≡_};
 ghost use mathlib.Core.Logic.{_↔_};
 ghost use Prim.Native.Nat.{ℕ, _-_};
-ghost use lib.ListN.{length};
 ghost use Rattle.heads.specs.Table.{leadTable};
 ghost use Rattle.heads.specs.Head.{headAt};
 ghost use Rattle.views.specs.View.{Viewable, viewNumber, Placed, Viewed};
-ghost use Rattle.views.specs.Skip.{Standing, isText, bodyPlace, ShowsAt, pastOver, pairsOver, Stepped, Looking};
+ghost use Rattle.values.specs.Standing.{Standing};
+ghost use Rattle.views.specs.Shown.{isText, bodyPlace, ShowsAt, Looking};
 ghost use Rattle.views.specs.declared.Place.{Place};
 use heads::Head;
 use heads::Kind;
@@ -15,12 +15,6 @@ use heads::Kind;
 pub enum Place {
     At(usize, usize),
     Refused(u8),
-}
-
-// A step over a value: where it goes on, and how many values are inside; or no value stands there.
-pub enum Over {
-    On(usize, usize),
-    Stop,
 }
 
 // The part of the file that shows the outer key's value; empty on refusal.
@@ -74,7 +68,7 @@ fn entry(leads: &[u8; 256], file: &[u8], name: &[u8], n: usize, at: usize) -> Pl
         if messagepack::same_bytes(&file[a..value], name) {
             return part(leads, file, value);
         }
-        p = skip(leads, file, value);
+        p = values::skip(leads, file, value);
         left -= 1;
     }
     Place::Refused(refusal::NO_SUCH_FIELD)
@@ -122,81 +116,9 @@ fn whole(leads: &[u8; 256], file: &[u8], at: usize) -> Place
     requires { ⌜ now leads ≡ leadTable ⌝ }
     ensures { λ r. ⌜ ((e : ℕ) → Standing (now (file .entry)) 1 at e → r ≡ Place.At at (e - at)) ⌝ }
 {
-    let end = skip(leads, file, at);
+    let end = values::skip(leads, file, at);
     if end < at {
         return Place::Refused(refusal::NO_SUCH_FIELD);
     }
     Place::At(at, end - at)
-}
-
-// Where the value at a place ends. Each value inside takes a byte at least, so that a count that cannot be true ends the loop.
-fn skip(leads: &[u8; 256], file: &[u8], at: usize) -> usize
-    requires { ⌜ now leads ≡ leadTable ⌝ }
-    ensures { λ r. ⌜ ((e : ℕ) → Standing (now (file .entry)) 1 at e → r ≡ e) ⌝ }
-{
-    let mut left: usize = 1;
-    let mut p = at;
-    while 0 < left {
-        let Over::On(q, inside) = step_over(leads, file, p) else {
-            return p;
-        };
-        let others = left - 1;
-        let room = file.len() - q;
-        if room < others {
-            return p;
-        }
-        if room - others < inside {
-            return p;
-        }
-        left = others + inside;
-        p = q;
-    }
-    p
-}
-
-// A step over the head of the value at a place, and the body of a string or a binary.
-fn step_over(leads: &[u8; 256], file: &[u8], at: usize) -> Over
-    requires { ⌜ now leads ≡ leadTable ⌝ }
-    ensures { λ r. ⌜ Stepped (now (file .entry)) at r ⌝ }
-{
-    let Head::At(n, p) = heads::head_at(leads, file, at) else {
-        return Over::Stop;
-    };
-    match heads::kind_at(leads, file, at) {
-        Kind::Missing => Over::Stop,
-        Kind::Outside => Over::Stop,
-        Kind::Unsigned => Over::On(p, 0),
-        Kind::Signed => Over::On(p, 0),
-        Kind::Float => Over::On(p, 0),
-        Kind::Str => past(file, n, p),
-        Kind::Bin => past(file, n, p),
-        Kind::Array => Over::On(p, n),
-        Kind::Map => pairs(file, n, p),
-    }
-}
-
-// A step over n bytes.
-fn past(file: &[u8], n: usize, p: usize) -> Over
-    ensures { λ r. ⌜ r ≡ pastOver (length (now (file .entry))) n p ⌝ }
-{
-    if file.len() < p {
-        return Over::Stop;
-    }
-    if file.len() - p < n {
-        return Over::Stop;
-    }
-    Over::On(p + n, 0)
-}
-
-// A step to n keys and their values.
-fn pairs(file: &[u8], n: usize, p: usize) -> Over
-    ensures { λ r. ⌜ r ≡ pairsOver (length (now (file .entry))) n p ⌝ }
-{
-    if file.len() < p {
-        return Over::Stop;
-    }
-    if (file.len() - p) / 2 < n {
-        return Over::Stop;
-    }
-    Over::On(p, n + n)
 }

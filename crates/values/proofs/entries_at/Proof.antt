@@ -1,51 +1,64 @@
+-- Each kind is a case of the laws of places: a map by its head, else nothing.
+use mathlib.Core.Path.{refl, sym, _∙_}
+use Rattle.values.specs.Laws.Places.{at-head, no-entries, read-entries}
 use borrow.Author.Needs.{needs}
 use Rattle.values.proofs.entries_at.Statement.{statement}
 use Rattle.values.proofs.entries_at.Tie as tie
-use Rattle.values.proofs.entries_at.Reads as reads
-use Rattle.values.proofs.entries_at.Lts as lts
-use Rattle.heads.proofs.head_at.Reads as head-at-reads
-use Rattle.heads.proofs.kind_at.Reads as kind-at-reads
 
--- src/lib.rt:243:21
-kind-at-requires : tie.Need-kind-at-requires
-kind-at-requires c κs = search needs
-
-enum-told : tie.Need-enum-told
-enum-told c = search needs
-
--- src/lib.rt:244:9
 returns : tie.Need-returns
-returns c = ?
+returns c = λ t x e a. absurd (at-head a (sym (c .before .before .head-at .ensures .1 t) ∙ c .enum-told .given .1))
 
--- src/lib.rt:246:11
-head-at-requires : tie.Need-head-at-requires
-head-at-requires c κs = search needs
-
--- src/lib.rt:247:22
-enum-told-2 : tie.Need-enum-told-2
-enum-told-2 c = search needs
-
--- src/lib.rt:248:18
-enum-known-n : tie.Need-enum-known-n
-enum-known-n c = search needs
-
--- src/lib.rt:240:1
 returns-2 : tie.Need-returns-2
-returns-2 c = ?
+returns-2 c = λ t x e a. read-entries x a (sym (c .before .before .before .before .before .before .head-at .ensures .1 t) ∙ c .before .before .before .before .n .given .1) (sym (c .before .before .kind-at .ensures .1 t) ∙ c .enum-told2 .given .1)
 
--- src/lib.rt:240:1
 returns-3 : tie.Need-returns-3
-returns-3 c = ?
+returns-3 c = λ t x e a. no-entries x a (sym (c .before .before .kind-at .ensures .1 t) ∙ c .enum-told3 .given .1) refl
+
+returns-4 : tie.Need-returns-4
+returns-4 c = λ t x e a. no-entries x a (sym (c .before .before .kind-at .ensures .1 t) ∙ c .enum-told4 .given .1) refl
+
+returns-5 : tie.Need-returns-5
+returns-5 c = λ t x e a. no-entries x a (sym (c .before .before .kind-at .ensures .1 t) ∙ c .enum-told5 .given .1) refl
+
+returns-6 : tie.Need-returns-6
+returns-6 c = λ t x e a. no-entries x a (sym (c .before .before .kind-at .ensures .1 t) ∙ c .enum-told6 .given .1) refl
+
+returns-7 : tie.Need-returns-7
+returns-7 c = λ t x e a. no-entries x a (sym (c .before .before .kind-at .ensures .1 t) ∙ c .enum-told7 .given .1) refl
+
+returns-8 : tie.Need-returns-8
+returns-8 c = λ t x e a. no-entries x a (sym (c .before .before .kind-at .ensures .1 t) ∙ c .enum-told8 .given .1) refl
+
+returns-9 : tie.Need-returns-9
+returns-9 c = λ t x e a. no-entries x a (sym (c .before .before .kind-at .ensures .1 t) ∙ c .enum-told9 .given .1) refl
+
+returns-10 : tie.Need-returns-10
+returns-10 c = λ t x e a. no-entries x a (sym (c .before .before .kind-at .ensures .1 t) ∙ c .enum-told10 .given .1) refl
 
 pub entries-at-spec : {M : Type 1} → statement M
 entries-at-spec =
     tie.close
     (tie.spec
-    kind-at-requires
-    enum-told
+    (λ c κs. search needs)
+    (λ c. search needs)
+    (λ c. search needs)
     returns
-    head-at-requires
-    enum-told-2
-    enum-known-n
+    (λ c κs. search needs)
+    (λ c. search needs)
+    (λ c. search needs)
+    (λ c. search needs)
+    (λ c. search needs)
+    (λ c. search needs)
+    (λ c. search needs)
+    (λ c. search needs)
+    (λ c. search needs)
+    (λ c. search needs)
     returns-2
-    returns-3)
+    returns-3
+    returns-4
+    returns-5
+    returns-6
+    returns-7
+    returns-8
+    returns-9
+    returns-10)

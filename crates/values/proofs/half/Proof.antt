@@ -1,23 +1,26 @@
+-- Each size is a case.
+use borrow.Author.Tests.{eq-eqb, ne-eqb}
+use borrow.Author.Needs.{needs}
 use Rattle.values.proofs.half.Statement.{statement}
 use Rattle.values.proofs.half.Tie as tie
-use Rattle.values.proofs.half.Reads as reads
-use Rattle.values.proofs.half.Lts as lts
 
--- src/lib.rt:151:9
 returns : tie.Need-returns
-returns c = ?
+returns c = rw (eq-eqb _ 1 (c .if1 .taken))
 
--- src/lib.rt:154:9
 returns-2 : tie.Need-returns-2
-returns-2 c = ?
+returns-2 c = rw (ne-eqb _ 1 (c .before .if1 .left), eq-eqb _ 2 (c .if2 .taken))
 
--- src/lib.rt:157:9
 returns-3 : tie.Need-returns-3
-returns-3 c = ?
+returns-3 c = rw (ne-eqb _ 1 (c .before .before .if1 .left), ne-eqb _ 2 (c .before .if2 .left), eq-eqb _ 3 (c .if3 .taken))
 
--- src/lib.rt:147:1
 returns-4 : tie.Need-returns-4
-returns-4 c = ?
+returns-4 c = rw (ne-eqb _ 1 (c .before .before .if1 .left), ne-eqb _ 2 (c .before .if2 .left), ne-eqb _ 3 (c .if3 .left))
 
 pub half-spec : {M : Type 1} → statement M
-half-spec = tie.close (tie.spec returns returns-2 returns-3 returns-4)
+half-spec =
+    tie.close
+    (tie.spec
+    returns
+    returns-2
+    returns-3
+    returns-4)

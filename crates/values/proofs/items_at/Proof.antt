@@ -1,56 +1,77 @@
+-- Each kind is a case of the laws of places: an array by its head, else nothing.
+use mathlib.Core.Path.{refl, sym, subst, _∙_}
+use native.Mathlib.Omega.{arith}
+use Rattle.heads.specs.Laws.Head.{head-inside}
+use Rattle.values.specs.Parts.{itemsOf}
+use Rattle.values.specs.Places.{ItemsAt}
+use Rattle.values.specs.Laws.Places.{at-head, no-items, read-items, all-inside}
 use borrow.Author.Needs.{needs}
 use Rattle.values.proofs.items_at.Statement.{statement}
 use Rattle.values.proofs.items_at.Tie as tie
-use Rattle.values.proofs.items_at.Reads as reads
-use Rattle.values.proofs.items_at.Lts as lts
-use Rattle.heads.proofs.head_at.Reads as head-at-reads
-use Rattle.heads.proofs.kind_at.Reads as kind-at-reads
 
--- src/lib.rt:225:23
-kind-at-requires : tie.Need-kind-at-requires
-kind-at-requires c κs = search needs
-
-enum-told : tie.Need-enum-told
-enum-told c = search needs
-
--- src/lib.rt:226:9
 returns : tie.Need-returns
-returns c = ?
+returns c = (omega arith, λ t x e a. absurd (at-head a (sym (c .before .before .head-at .ensures .1 t) ∙ c .enum-told .given .1)))
 
--- src/lib.rt:228:11
-head-at-requires : tie.Need-head-at-requires
-head-at-requires c κs = search needs
-
--- src/lib.rt:229:22
-enum-told-2 : tie.Need-enum-told-2
-enum-told-2 c = search needs
-
--- src/lib.rt:230:18
-enum-known-n : tie.Need-enum-known-n
-enum-known-n c = search needs
-
--- src/lib.rt:232:17
 returns-2 : tie.Need-returns-2
-returns-2 c = ?
+returns-2 c =
+    let v = c .values-from in (
+      v .ensures .0,
+      λ t x e a.
+          let h = sym (c .before .before .before .before .before .before .before .head-at .ensures .1 t) ∙ c .before .before .before .before .before .n .given .1 in
+          let i = read-items x a h (sym (c .before .before .before .kind-at .ensures .1 t) ∙ c .before .enum-told2 .given .1) in
+          let l = all-inside (itemsOf x) (head-inside _ _ h .1) (i .all) in
+          subst (ItemsAt _ x) (sym (v .ensures .1 (omega (arith, i .counts)))) i,
+    )
 
--- src/lib.rt:221:1
 returns-3 : tie.Need-returns-3
-returns-3 c = ?
+returns-3 c = (omega arith, λ t x e a. no-items x a (sym (c .before .before .kind-at .ensures .1 t) ∙ c .enum-told3 .given .1) refl)
 
--- src/lib.rt:221:1
 returns-4 : tie.Need-returns-4
-returns-4 c = ?
+returns-4 c = (omega arith, λ t x e a. no-items x a (sym (c .before .before .kind-at .ensures .1 t) ∙ c .enum-told4 .given .1) refl)
+
+returns-5 : tie.Need-returns-5
+returns-5 c = (omega arith, λ t x e a. no-items x a (sym (c .before .before .kind-at .ensures .1 t) ∙ c .enum-told5 .given .1) refl)
+
+returns-6 : tie.Need-returns-6
+returns-6 c = (omega arith, λ t x e a. no-items x a (sym (c .before .before .kind-at .ensures .1 t) ∙ c .enum-told6 .given .1) refl)
+
+returns-7 : tie.Need-returns-7
+returns-7 c = (omega arith, λ t x e a. no-items x a (sym (c .before .before .kind-at .ensures .1 t) ∙ c .enum-told7 .given .1) refl)
+
+returns-8 : tie.Need-returns-8
+returns-8 c = (omega arith, λ t x e a. no-items x a (sym (c .before .before .kind-at .ensures .1 t) ∙ c .enum-told8 .given .1) refl)
+
+returns-9 : tie.Need-returns-9
+returns-9 c = (omega arith, λ t x e a. no-items x a (sym (c .before .before .kind-at .ensures .1 t) ∙ c .enum-told9 .given .1) refl)
+
+returns-10 : tie.Need-returns-10
+returns-10 c = (omega arith, λ t x e a. no-items x a (sym (c .before .before .kind-at .ensures .1 t) ∙ c .enum-told10 .given .1) refl)
 
 pub items-at-spec : {M : Type 1} → statement M
 items-at-spec =
     tie.close
     (tie.spec
-    kind-at-requires
-    enum-told
+    (λ c κs. search needs)
+    (λ c. search needs)
+    (λ c. search needs)
     returns
-    head-at-requires
-    enum-told-2
-    enum-known-n
+    (λ c κs. search needs)
+    (λ c. search needs)
+    (λ c κs. search needs)
+    (λ c. search needs)
+    (λ c. search needs)
+    (λ c. search needs)
+    (λ c. search needs)
+    (λ c. search needs)
+    (λ c. search needs)
+    (λ c. search needs)
+    (λ c. search needs)
     returns-2
     returns-3
-    returns-4)
+    returns-4
+    returns-5
+    returns-6
+    returns-7
+    returns-8
+    returns-9
+    returns-10)

@@ -1,40 +1,42 @@
+-- Below half a number is its own integer; above it is as far below 0 as it is below the last.
+use mathlib.Core.Path.{_≡_, ap, _∙_}
+use Prim.Native.Nat.{suc, _-_, _≤_}
+use native.Mathlib.Omega.{arith}
+use mir.Syntax.{w32}
+use mir.Val.{toZ}
+use mir.Facts.{toZ-pos, toZ-neg}
+use borrow.Author.Tests.{lt-ltb, le-ltb}
+use Rattle.values.specs.Laws.Places.{half-small, last-small}
 use borrow.Author.Needs.{needs}
 use Rattle.values.proofs.signed.Statement.{statement}
 use Rattle.values.proofs.signed.Tie as tie
-use Rattle.values.proofs.signed.Reads as reads
-use Rattle.values.proofs.signed.Lts as lts
-use Rattle.values.proofs.half.Reads as half-reads
-use Rattle.values.proofs.last_of.Reads as last-of-reads
 
--- src/lib.rt:136:12
-half-requires : tie.Need-half-requires
-half-requires c κs = search needs
-
--- src/lib.rt:137:16
 cast-result : tie.Need-cast-result
-cast-result c = ?
+cast-result c = record { sfits = omega (arith, c .if1 .taken, c .before .half .ensures, half-small (c .before .before .args .size)) }
 
--- src/lib.rt:137:9
 returns : tie.Need-returns
-returns c = ?
+returns c =
+    let h = half-small (c .before .before .args .size) in
+    rw (← c .before .half .ensures, lt-ltb _ _ (c .if1 .taken)) (toZ-pos w32 (omega (arith, c .if1 .taken, c .before .half .ensures)))
 
--- src/lib.rt:139:9
-last-of-requires : tie.Need-last-of-requires
-last-of-requires c κs = search needs
-
--- src/lib.rt:141:18
 cast-result-2 : tie.Need-cast-result-2
-cast-result-2 c = ?
+cast-result-2 c = record { sfits = omega (arith, c .before .before .if1 .left, c .before .before .before .half .ensures, c .before .last-of .ensures, c .less .ensures, last-small (c .before .before .before .before .args .size)) }
 
--- src/lib.rt:141:9
 returns-2 : tie.Need-returns-2
-returns-2 c = ?
-
--- src/lib.rt:133:1
-returns-3 : tie.Need-returns-3
-returns-3 c = ?
+returns-2 c =
+    let l = last-small (c .before .before .before .before .args .size) in
+    let s : c .less .result ≤ 2147483647 = omega (arith, c .before .before .if1 .left, c .before .before .before .half .ensures, c .before .last-of .ensures, c .less .ensures) in
+    let comp : 4294967295 - c .less .result ≡ 4294967296 - suc (c .less .result) = omega arith in
+    rw (← c .before .before .before .half .ensures, le-ltb _ _ (c .before .before .if1 .left), ← c .before .last-of .ensures, ← c .less .ensures) (ap (toZ w32) comp ∙ toZ-neg w32 (c .less .result) (omega arith))
 
 pub signed-spec : {M : Type 1} → statement M
 signed-spec =
     tie.close
-    (tie.spec half-requires cast-result returns last-of-requires cast-result-2 returns-2 returns-3)
+    (tie.spec
+    (λ c κs. search needs)
+    cast-result
+    returns
+    (λ c κs. search needs)
+    (λ c κs. search needs)
+    cast-result-2
+    returns-2)

@@ -3,50 +3,62 @@ use mathlib.Core.Path.{_≡_, sym, _∙_}
 use Prim.Native.Nat.{ℕ, suc, _+_, _-_, _≤_}
 use native.Mathlib.Omega.{arith}
 use lib.ListN.{length}
-use borrow.Author.Needs.{needs}
+use Rattle.heads.specs.Table.{leadTable}
 use Rattle.values.specs.Standing.{Standing}
 use Rattle.values.specs.Laws.Standing.{Went, standing-counts, standing-inside, standing-none, standing-suc, standing-swap, stepped-stop, stepped-on}
+use borrow.Author.Needs.{needs}
 use Rattle.values.proofs.skip.Statement.{statement}
 use Rattle.values.proofs.skip.Tie as tie
 
 abbrev Inv-loop : tie.InvT-loop
-Inv-loop leads file at left₀ p₀ left p = (e : ℕ) → Standing file 1 at e → Standing file left p e
+Inv-loop leads file at left₀ p₀ left p = leads ≡ leadTable → (e : ℕ) → Standing file 1 at e → Standing file left p e
 
 abbrev μ-loop : tie.MeasureT-loop
 μ-loop leads file at left₀ p₀ left p = length file - p
 
 loop-holds : tie.Need-loop-holds Inv-loop μ-loop
-loop-holds c = λ e st. st
+loop-holds c = λ t e st. st
 
 returns : tie.Need-returns Inv-loop μ-loop
-returns c =
-    λ e st. absurd (stepped-stop _ _ (c .before .before .step-over .ensures) (c .enum-told .given .1) (c .before .before .before .before .loop .left - 1) e (standing-suc _ _ _ e (c .before .before .before .loop-test .taken) (c .before .before .before .before .loop .inv e st)))
-
-sub-room : tie.Need-sub-room Inv-loop μ-loop
-sub-room c = stepped-on _ _ (c .before .before .before .step-over .ensures) (c .before .q .given .1) .within
+returns c = λ t e st. absurd (stepped-stop _ _ (c .before .before .step-over .ensures t) (c .enum-told .given .1) (c .before .before .before .before .loop .left - 1) e (standing-suc _ _ _ e (c .before .before .before .loop-test .taken) (c .before .before .before .before .loop .inv t e st)))
 
 returns-2 : tie.Need-returns-2 Inv-loop μ-loop
-returns-2 c = λ e st.
-    let w = stepped-on _ _ (c .before .before .before .before .step-over .ensures) (c .before .before .q .given .1) in
-    let s = w .goes (c .before .before .before .before .before .before .loop .left - 1) e (standing-suc _ _ _ e (c .before .before .before .before .before .loop-test .taken) (c .before .before .before .before .before .before .loop .inv e st)) in
-    absurd (omega (arith, w .within, standing-counts _ _ _ e s, standing-inside _ _ _ e s (w .within)))
+returns-2 c =
+    λ t e st.
+    let w = stepped-on _ _ (c .before .before .before .before .step-over .ensures t) (c .before .before .q .given .1) in
+    let s = w .goes (c .before .before .before .before .before .before .loop .left - 1) e (standing-suc _ _ _ e (c .before .before .before .before .before .loop-test .taken) (c .before .before .before .before .before .before .loop .inv t e st)) in
+    absurd (omega (arith, w .after))
 
 returns-3 : tie.Need-returns-3 Inv-loop μ-loop
-returns-3 c = λ e st.
-    let w = stepped-on _ _ (c .before .before .before .before .before .step-over .ensures) (c .before .before .before .q .given .1) in
-    let s = w .goes (c .before .before .before .before .before .before .before .loop .left - 1) e (standing-suc _ _ _ e (c .before .before .before .before .before .before .loop-test .taken) (c .before .before .before .before .before .before .before .loop .inv e st)) in
-    absurd (omega (arith, w .within, standing-counts _ _ _ e s, standing-inside _ _ _ e s (w .within)))
-
-loop-less : tie.Need-loop-less Inv-loop μ-loop
-loop-less c = let w = stepped-on _ _ (c .before .before .before .before .before .step-over .ensures) (c .before .before .before .q .given .1) in omega (arith, w .within, w .after)
-
-loop-again : tie.Need-loop-again Inv-loop μ-loop
-loop-again c = λ e st.
-    let w = stepped-on _ _ (c .before .before .before .before .before .step-over .ensures) (c .before .before .before .q .given .1) in
-    standing-swap _ _ _ _ e (w .goes (c .before .before .before .before .before .before .before .loop .left - 1) e (standing-suc _ _ _ e (c .before .before .before .before .before .before .loop-test .taken) (c .before .before .before .before .before .before .before .loop .inv e st)))
+returns-3 c =
+    λ t e st.
+    let w = stepped-on _ _ (c .before .before .before .before .before .step-over .ensures t) (c .before .before .before .q .given .1) in
+    let s = w .goes (c .before .before .before .before .before .before .before .loop .left - 1) e (standing-suc _ _ _ e (c .before .before .before .before .before .before .loop-test .taken) (c .before .before .before .before .before .before .before .loop .inv t e st)) in
+    absurd (omega (arith, w .within))
 
 returns-4 : tie.Need-returns-4 Inv-loop μ-loop
-returns-4 c = λ e st. standing-none _ _ _ e (c .loop-test .left) (c .before .loop .inv e st)
+returns-4 c =
+    λ t e st.
+    let w = stepped-on _ _ (c .before .before .before .before .before .before .step-over .ensures t) (c .before .before .before .before .q .given .1) in
+    let s = w .goes (c .before .before .before .before .before .before .before .before .loop .left - 1) e (standing-suc _ _ _ e (c .before .before .before .before .before .before .before .loop-test .taken) (c .before .before .before .before .before .before .before .before .loop .inv t e st)) in
+    absurd (omega (arith, w .within, standing-counts _ _ _ e s, standing-inside _ _ _ e s (w .within)))
+
+returns-5 : tie.Need-returns-5 Inv-loop μ-loop
+returns-5 c =
+    λ t e st.
+    let w = stepped-on _ _ (c .before .before .before .before .before .before .before .step-over .ensures t) (c .before .before .before .before .before .q .given .1) in
+    let s = w .goes (c .before .before .before .before .before .before .before .before .before .loop .left - 1) e (standing-suc _ _ _ e (c .before .before .before .before .before .before .before .before .loop-test .taken) (c .before .before .before .before .before .before .before .before .before .loop .inv t e st)) in
+    absurd (omega (arith, w .within, standing-counts _ _ _ e s, standing-inside _ _ _ e s (w .within)))
+
+loop-again : tie.Need-loop-again Inv-loop μ-loop
+loop-again c =
+    λ t e st.
+    let w = stepped-on _ _ (c .before .before .before .before .before .before .before .step-over .ensures t) (c .before .before .before .before .before .q .given .1) in
+    let s = w .goes (c .before .before .before .before .before .before .before .before .before .loop .left - 1) e (standing-suc _ _ _ e (c .before .before .before .before .before .before .before .before .loop-test .taken) (c .before .before .before .before .before .before .before .before .before .loop .inv t e st)) in
+    standing-swap _ _ _ _ e s
+
+returns-6 : tie.Need-returns-6 Inv-loop μ-loop
+returns-6 c = λ t e st. standing-none _ _ _ e (c .loop-test .left) (c .before .loop .inv t e st)
 
 pub skip-spec : {M : Type 1} → statement M
 skip-spec =
@@ -59,11 +71,13 @@ skip-spec =
     (λ c. search needs)
     (λ c. search needs)
     returns
-    (λ c. search needs)
-    sub-room
     returns-2
     returns-3
     (λ c. search needs)
-    loop-less
+    (λ c. search needs)
+    returns-4
+    returns-5
+    (λ c. search needs)
+    (λ c. search needs)
     loop-again
-    returns-4)
+    returns-6)

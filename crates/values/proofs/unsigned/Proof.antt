@@ -1,20 +1,23 @@
+-- A number up to the limit is its own integer.
+use mathlib.Core.Path.{_∙_}
+use native.Mathlib.Omega.{arith}
+use mir.Syntax.{w32}
+use mir.Facts.{toZ-pos}
+use borrow.Author.Tests.{le-leb, lt-leb}
 use borrow.Author.Needs.{needs}
 use Rattle.values.proofs.unsigned.Statement.{statement}
 use Rattle.values.proofs.unsigned.Tie as tie
-use Rattle.values.proofs.unsigned.Reads as reads
-use Rattle.values.proofs.unsigned.Lts as lts
 
--- src/lib.rt:127:16
-cast-result : tie.Need-cast-result
-cast-result c = search needs
-
--- src/lib.rt:127:9
 returns : tie.Need-returns
-returns c = ?
+returns c = rw (le-leb _ 2147483647 (c .if1 .taken)) (toZ-pos w32 (omega (arith, c .if1 .taken)))
 
--- src/lib.rt:123:1
 returns-2 : tie.Need-returns-2
-returns-2 c = ?
+returns-2 c = rw (lt-leb _ 2147483647 (c .if1 .left))
 
 pub unsigned-spec : {M : Type 1} → statement M
-unsigned-spec = tie.close (tie.spec cast-result returns returns-2)
+unsigned-spec =
+    tie.close
+    (tie.spec
+    (λ c. search needs)
+    returns
+    returns-2)

@@ -6,8 +6,9 @@ use mathlib.Core.List.{List, [], _∷_, _++_, append-assoc, append-nil}
 use mathlib.Core.Logic.{_⊎_, inl, inr}
 use Prim.Native.Nat.{ℕ, zero, suc, _+_, _-_, _^_, _*_, _<_, _≤_}
 use native.Mathlib.Omega.{arith}
+use borrow.Author.Tests.{le-leb, le-ltb}
 use native.Mathlib.Nat.{zero-add}
-use lib.Dec.{ltb, lit<}
+use lib.Dec.{ltb, leb, eqb, lit<, lit≤}
 use lib.IntN.{ℤ, pos, negsuc}
 use lib.ListN.{length, take, drop, getD, length-append}
 use lib.Seq.{drop-length}
@@ -15,16 +16,19 @@ use Rattle.heads.specs.Lead.{moreOf}
 use Rattle.heads.specs.Head.{HeadOf, kindAt, headAt}
 use Rattle.heads.specs.declared.Kind.{Kind}
 use Rattle.heads.specs.declared.Head.{Head}
+use Rattle.heads.specs.Table.{kindNumber}
 use Rattle.heads.specs.Span.{Span}
-use Rattle.heads.specs.Laws.Span.{follows, holds, fits}
+use Rattle.heads.specs.Laws.Span.{span-none, follows, holds, fits}
 use Rattle.heads.specs.Laws.Head.{Told, head-told}
 use Rattle.heads.specs.Laws.Table.{moreOf-bound, moreOf-four}
 use Rattle.numbers.specs.Laws.BigEndian.{length-bytesOf}
 use Rattle.messagepack.specs.Document.{Document, Documents, Entries, integer, float, string, binary, array, map, none, item, empty, entry, count, size, signedValue, UnsignedOf, SignedOf, TextOf, Writes, WritesAll, WritesEntries}
 use Rattle.messagepack.specs.Rules.{Keeps, KeepsAll, KeepsEntries, Distinct, NoKey, InRange, Container}
-use Rattle.values.specs.Places.{At, AtAll, AtEntries, lastOf, halfOf}
+use Rattle.values.specs.Parts.{integerOf, textOf, itemsOf, entriesOf}
+use Rattle.values.specs.Places.{At, AtAll, AtEntries, TextAt, ItemsAt, EntriesAt, lastOf, halfOf, unsignedBy, signedBy}
+use Rattle.values.specs.declared.Part.{Part}
 use Rattle.values.specs.Standing.{Standing}
-use Rattle.values.specs.Laws.Standing.{span-split, writes-long, standing-one}
+use Rattle.values.specs.Laws.Standing.{span-split, writes-long, standing-one, stands-head}
 
 -- a document at a place is one value that stands there
 pub at-standing : {s : List ℕ} {p e : ℕ} {x : Document} → At s p x e → Standing s 1 p e
@@ -67,7 +71,7 @@ unfolding Writes Keeps
 open-map {s} {p} a =
     let wr = a .writes in
     let t = head-split (a .w) (wr .h) (wr .v) (wr .head) (wr .is) (a .span) in
-    record { q = p + length (wr .h); told = t .0; all = record { w = wr .v; writes = wr .body; span = t .1; keeps = a .keeps .1 .1; distinct = a .keeps .1 .0 } }
+    record { q = p + length (wr .h); told = t .0; all = record { w = wr .v; writes = wr .body; span = t .1; keeps = a .keeps .2; distinct = a .keeps .1 } }
 
 -- the head of a string or a binary, and its bytes
 pub record OpenText (s : List ℕ) (p : ℕ) (k : Kind) (t : List ℕ) (e : ℕ) : Type 0 where
@@ -119,8 +123,8 @@ open-integer {s} {p} {e} {v} a = go (a .writes)
         signed m (o .n) (subst (Told s p Kind.Signed (o .n)) (sym (a .span .ends)) (t .0)) (a .span .ends ∙ ap (λ (i : ℕ). p + i) l) (moreOf-bound (o .head .lead)) (moreOf-four (o .head .lead)) (o .is)
 
 -- a signed head's integer by the head's size
-pub signed-sized : (k n : ℕ) → k ≤ 4 → (2 < k → k ≡ 4) → signedValue k n ≡ cond (ltb n (halfOf (suc k))) (pos n) (negsuc (lastOf (suc k) - n))
-signed-sized zero n le f = refl
+pub signed-sized : (k n : ℕ) → k ≤ 4 → (2 < k → k ≡ 4) → signedValue k n ≡ signedBy n (suc k)
+signed-sized zero n le f = rw (le-ltb n 0 (omega arith))
 signed-sized (suc zero) n le f = refl
 signed-sized (suc (suc zero)) n le f = refl
 signed-sized (suc (suc (suc zero))) n le f = absurd (omega (arith, f (lit< tt)))
@@ -163,8 +167,8 @@ open-entry {s} {p} a =
       q = p + length (wr .a);
       r = p + length (wr .a) + length (wr .u);
       key = record { w = wr .a; writes = wr .key; span = one .0; keeps = a .keeps .0 };
-      value = record { w = wr .u; writes = wr .first; span = two .0; keeps = a .keeps .1 .0 };
-      rest = record { w = wr .v; writes = wr .rest; span = two .1; keeps = a .keeps .1 .1; distinct = a .distinct .1 };
+      value = record { w = wr .u; writes = wr .first; span = two .0; keeps = a .keeps .1 };
+      rest = record { w = wr .v; writes = wr .rest; span = two .1; keeps = a .keeps .2; distinct = a .distinct .1 };
       fresh = a .distinct .0;
     }
 
@@ -176,3 +180,231 @@ outer-at {s} c = record {
   span = record { is = sym (append-nil s) ∙ ap (λ (t : List ℕ). s ++ t) (sym (drop-length s)); ends = sym (zero-add (length s)) };
   keeps = c .keeps;
 }
+
+-- kinds told apart
+
+abbrev pub isInteger : Kind → Bool
+isInteger k = cond (eqb (kindNumber k) 1) true (eqb (kindNumber k) 2)
+
+abbrev pub isFloat : Kind → Bool
+isFloat k = eqb (kindNumber k) 3
+
+abbrev pub isString : Kind → Bool
+isString k = eqb (kindNumber k) 4
+
+abbrev pub isBinary : Kind → Bool
+isBinary k = eqb (kindNumber k) 5
+
+abbrev pub isArray : Kind → Bool
+isArray k = eqb (kindNumber k) 6
+
+abbrev pub isMap : Kind → Bool
+isMap k = eqb (kindNumber k) 7
+
+abbrev pub isSigned : Kind → Bool
+isSigned k = eqb (kindNumber k) 2
+
+-- whether a kind is that of a document's heads
+abbrev pub heads : Document → Kind → Bool
+heads (integer v) k = isInteger k
+heads (float bits) k = isFloat k
+heads (string t) k = isString k
+heads (binary t) k = isBinary k
+heads (array ds) k = isArray k
+heads (map es) k = isMap k
+
+-- the kind that is read where a document stands is one of its heads'
+pub at-heads : {s : List ℕ} {p e : ℕ} (x : Document) → At s p x e → heads x (kindAt s p) ≡ true
+at-heads {s} {p} {e} (integer v) a = go (open-integer a)
+  where
+    go : OpenInteger s p v e → isInteger (kindAt s p) ≡ true
+    go (unsigned n t q) = ap isInteger (t .kind)
+    go (signed k n t q le f i) = ap isInteger (t .kind)
+at-heads (float bits) a = ap isFloat (open-float a .kind)
+at-heads (string t) a = ap isString (open-string a .told .kind)
+at-heads (binary t) a = ap isBinary (open-binary a .told .kind)
+at-heads (array ds) a = ap isArray (open-array a .told .kind)
+at-heads (map es) a = ap isMap (open-map a .told .kind)
+
+-- and there is a head
+pub at-head : {s : List ℕ} {p e : ℕ} {x : Document} → At s p x e → headAt s p ≡ Head.Cut → ⊥
+at-head {s} {p} {e} a = stands-head s p 0 e (at-standing a)
+
+clash : {A : Type 0} → false ≡ true → A
+clash q = let z : _≡_ {A = ℕ} 0 1 = cc in absurd (omega arith)
+
+-- a document with heads of another kind has none of a kind's parts
+module _ {s : List ℕ} {p e : ℕ} (x : Document) (a : At s p x e) {k : Kind} (q : kindAt s p ≡ k) where
+  pub read-heads : heads x k ≡ true
+  read-heads = ap (heads x) (sym q) ∙ at-heads x a
+
+  pub no-integer : isInteger k ≡ false → pos 0 ≡ integerOf x
+  no-integer f = go x read-heads
+    where
+      go : (y : Document) → heads y k ≡ true → pos 0 ≡ integerOf y
+      go (integer v) h = clash (sym f ∙ h)
+      go (float bits) h = refl
+      go (string t) h = refl
+      go (binary t) h = refl
+      go (array ds) h = refl
+      go (map es) h = refl
+
+  pub no-text : isString k ≡ false → isBinary k ≡ false → TextAt s x e (record { at = 0; count = 0 })
+  no-text f g = go x read-heads
+    where
+      go : (y : Document) → heads y k ≡ true → TextAt s y e (record { at = 0; count = 0 })
+      go (string t) h = clash (sym f ∙ h)
+      go (binary t) h = clash (sym g ∙ h)
+      go (integer v) h = record { is = refl; ends = tt }
+      go (float bits) h = record { is = refl; ends = tt }
+      go (array ds) h = record { is = refl; ends = tt }
+      go (map es) h = record { is = refl; ends = tt }
+
+  pub no-items : isArray k ≡ false → ItemsAt s x (record { at = 0; count = 0 })
+  unfolding count WritesAll KeepsAll
+  no-items f = go x read-heads
+    where
+      nothing : AtAll s 0 none 0
+      nothing = record { w = []; writes = refl; span = span-none s 0; keeps = tt }
+
+      go : (y : Document) → heads y k ≡ true → ItemsAt s y (record { at = 0; count = 0 })
+      go (array ds) h = clash (sym f ∙ h)
+      go (string t) h = record { counts = refl; end = 0; all = nothing }
+      go (binary t) h = record { counts = refl; end = 0; all = nothing }
+      go (integer v) h = record { counts = refl; end = 0; all = nothing }
+      go (float bits) h = record { counts = refl; end = 0; all = nothing }
+      go (map es) h = record { counts = refl; end = 0; all = nothing }
+
+  pub no-entries : isMap k ≡ false → EntriesAt s x (record { at = 0; count = 0 })
+  unfolding size WritesEntries KeepsEntries Distinct
+  no-entries f = go x read-heads
+    where
+      nothing : AtEntries s 0 empty 0
+      nothing = record { w = []; writes = refl; span = span-none s 0; keeps = tt; distinct = tt }
+
+      go : (y : Document) → heads y k ≡ true → EntriesAt s y (record { at = 0; count = 0 })
+      go (map es) h = clash (sym f ∙ h)
+      go (string t) h = record { counts = refl; end = 0; all = nothing }
+      go (binary t) h = record { counts = refl; end = 0; all = nothing }
+      go (integer v) h = record { counts = refl; end = 0; all = nothing }
+      go (float bits) h = record { counts = refl; end = 0; all = nothing }
+      go (array ds) h = record { counts = refl; end = 0; all = nothing }
+
+-- what is read of a head, by the document that stands there
+module _ {s : List ℕ} {p e : ℕ} (x : Document) (a : At s p x e) {n r : ℕ} (h : headAt s p ≡ Head.At n r) where
+  same-number : {k : Kind} {m q : ℕ} → Told s p k m q → (m ≡ n) × (q ≡ r)
+  same-number t = let g = sym (t .head) ∙ h in (cc, cc)
+
+  pub read-unsigned : kindAt s p ≡ Kind.Unsigned → unsignedBy n ≡ integerOf x
+  unfolding Keeps
+  read-unsigned q = go x a (read-heads x a q)
+    where
+      go : (y : Document) → At s p y e → heads y Kind.Unsigned ≡ true → unsignedBy n ≡ integerOf y
+      go (integer v) b f = by (open-integer b)
+        where
+          by : OpenInteger s p v e → unsignedBy n ≡ v
+          by (unsigned m t i) =
+              let l : n ≤ 2147483647 = subst (λ (j : ℕ). j ≤ 2147483647) (same-number t .0) (subst InRange i (b .keeps)) in
+              rw (le-leb n 2147483647 l) (ap pos (sym (same-number t .0)) ∙ sym i)
+          by (signed k m t w le g i) = clash (ap isSigned (sym q ∙ t .kind))
+      go (float bits) b f = clash f
+      go (string t) b f = clash f
+      go (binary t) b f = clash f
+      go (array ds) b f = clash f
+      go (map es) b f = clash f
+
+  pub read-signed : kindAt s p ≡ Kind.Signed → signedBy n (r - p) ≡ integerOf x
+  read-signed q = go x a (read-heads x a q)
+    where
+      go : (y : Document) → At s p y e → heads y Kind.Signed ≡ true → signedBy n (r - p) ≡ integerOf y
+      go (integer v) b f = by (open-integer b)
+        where
+          by : OpenInteger s p v e → signedBy n (r - p) ≡ v
+          by (unsigned m t i) = clash (ap isSigned (sym (t .kind) ∙ q))
+          by (signed k m t w le g i) =
+              let j : r - p ≡ suc k = omega (arith, same-number t .1) in
+              rw (j, ← same-number t .0) (sym (i ∙ signed-sized k m le g))
+      go (float bits) b f = clash f
+      go (string t) b f = clash f
+      go (binary t) b f = clash f
+      go (array ds) b f = clash f
+      go (map es) b f = clash f
+
+-- what stands below half is small, and so is what is left above it
+pub half-small : (size : ℕ) → halfOf size ≤ 2147483648
+half-small size = go (eqb size 1) (eqb size 2) (eqb size 3)
+  where
+    go : (a b c : Bool) → cond a 0 (cond b 128 (cond c 32768 2147483648)) ≤ 2147483648
+    go true b c = lit≤ tt
+    go false true c = lit≤ tt
+    go false false true = lit≤ tt
+    go false false false = lit≤ tt
+
+pub last-small : (size : ℕ) → lastOf size ≤ halfOf size + 2147483647
+last-small size = go (eqb size 1) (eqb size 2) (eqb size 3)
+  where
+    go : (a b c : Bool) → cond a 31 (cond b 255 (cond c 65535 4294967295)) ≤ cond a 0 (cond b 128 (cond c 32768 2147483648)) + 2147483647
+    go true b c = lit≤ tt
+    go false true c = lit≤ tt
+    go false false true = lit≤ tt
+    go false false false = lit≤ tt
+
+-- parts by the document that stands there
+module _ {s : List ℕ} {p e : ℕ} (x : Document) (a : At s p x e) {n r : ℕ} (h : headAt s p ≡ Head.At n r) where
+  body-is : {k : Kind} {t : List ℕ} → OpenText s p k t e → (y : Part) → (r + n ≤ length s → (y .at ≡ r) × (y .count ≡ n)) → (take (y .count) (drop (y .at) s) ≡ t) × (e ≡ y .at + y .count)
+  body-is {t = t} o y f =
+      let g = sym (o .told .head) ∙ h in
+      let i : length t ≡ n = cc in
+      let j : o .q ≡ r = cc in
+      let b = f (omega (arith, o .inside)) in
+      (rw (b .0, b .1, ← i, ← j) (o .text), omega (arith, o .ends, b .0, b .1))
+
+  pub read-text : {k : Kind} → kindAt s p ≡ k → isInteger k ≡ false → isFloat k ≡ false → isArray k ≡ false → isMap k ≡ false → (y : Part) → (r + n ≤ length s → (y .at ≡ r) × (y .count ≡ n)) → TextAt s x e y
+  read-text {k} q fi ff fa fm y f = go x a (read-heads x a q)
+    where
+      go : (z : Document) → At s p z e → heads z k ≡ true → TextAt s z e y
+      go (string t) b g = let c = body-is (open-string b) y f in record { is = c .0; ends = c .1 }
+      go (binary t) b g = let c = body-is (open-binary b) y f in record { is = c .0; ends = c .1 }
+      go (integer v) b g = clash (sym fi ∙ g)
+      go (float bits) b g = clash (sym ff ∙ g)
+      go (array ds) b g = clash (sym fa ∙ g)
+      go (map es) b g = clash (sym fm ∙ g)
+
+  pub read-items : kindAt s p ≡ Kind.Array → ItemsAt s x (record { at = r; count = n })
+  read-items q = go x a (read-heads x a q)
+    where
+      go : (z : Document) → At s p z e → heads z Kind.Array ≡ true → ItemsAt s z (record { at = r; count = n })
+      go (array ds) b g =
+          let o = open-array b in
+          let i = sym (o .told .head) ∙ h in
+          let j : o .q ≡ r = cc in
+          record { counts = cc; end = e; all = subst (λ (m : ℕ). AtAll s m ds e) j (o .all) }
+      go (string t) b g = clash g
+      go (binary t) b g = clash g
+      go (integer v) b g = clash g
+      go (float bits) b g = clash g
+      go (map es) b g = clash g
+
+  pub read-entries : kindAt s p ≡ Kind.Map → EntriesAt s x (record { at = r; count = n })
+  read-entries q = go x a (read-heads x a q)
+    where
+      go : (z : Document) → At s p z e → heads z Kind.Map ≡ true → EntriesAt s z (record { at = r; count = n })
+      go (map es) b g =
+          let o = open-map b in
+          let i = sym (o .told .head) ∙ h in
+          let j : o .q ≡ r = cc in
+          record { counts = cc; end = e; all = subst (λ (m : ℕ). AtEntries s m es e) j (o .all) }
+      go (string t) b g = clash g
+      go (binary t) b g = clash g
+      go (integer v) b g = clash g
+      go (float bits) b g = clash g
+      go (array ds) b g = clash g
+
+-- there are at most as many values as bytes
+pub all-inside : {s : List ℕ} {p e : ℕ} (ds : Documents) → p ≤ length s → AtAll s p ds e → p + count ds ≤ length s
+unfolding count
+all-inside none le a = omega arith
+all-inside {s} {p} {e} (item d ds) le a =
+    let o = open-item a in
+    let i = at-inside (o .first) in
+    omega (arith, i .0, all-inside ds (i .1) (o .rest))

@@ -8,8 +8,8 @@ use borrow.Author.Needs.{needs}
 use Rattle.numbers.specs.Laws.BigEndian.{bytes-of}
 use Rattle.messagepack.specs.Walk.{equal}
 use Rattle.views.specs.View.{Placed}
-use Rattle.views.specs.Skip.{Looking}
-use Rattle.views.specs.Laws.Skip.{stands-one}
+use Rattle.views.specs.Shown.{Looking}
+use Rattle.values.specs.Laws.Standing.{stands-one}
 use Rattle.views.specs.Laws.View.{Next, looking-next, looking-last, next-read, next-there, next-same}
 use Rattle.views.proofs.entry.Statement.{statement}
 use Rattle.views.proofs.entry.Tie as tie
@@ -54,7 +54,7 @@ loop-again c =
     let at : c .before .before .before .before .before .m .given .0 .1 .0 + c .before .before .before .before .before .m .given .0 .0 ≡ n .from + length (n .k) = omega arith in
     let e : equal (n .k) (c .before .before .before .before .before .before .before .before .before .before .before .before .args .name .now) ≡ false = next-same n (c .before .before .before .before .before .m .given .0 .1 .0) (c .before .before .before .before .before .m .given .0 .0) (r .0) (r .1) (sym (c .before .before .same-bytes .ensures) ∙ c .before .if1 .left) in
     let d = ap (λ (i : ℕ). drop i (c .before .before .before .before .before .before .before .before .before .before .before .before .args .file .now)) at ∙ n .value in
-    let end : c .skip .result ≡ n .from + length (n .k) + length (n .w) = c .skip .ensures _ (stands-one _ _ (n .x) (n .w) (n .v) (n .writes) d) ∙ ap (λ (i : ℕ). i + length (n .w)) at in
+    let end : c .skip .result ≡ n .from + length (n .k) + length (n .w) = c .skip .ensures (c .before .before .before .before .before .before .before .before .before .before .before .before .pre .0) _ (stands-one _ _ (n .x) (n .w) (n .v) (n .writes) d) ∙ ap (λ (i : ℕ). i + length (n .w)) at in
     subst (Looking (c .before .before .before .before .before .before .before .before .before .before .before .before .args .file .now) (c .before .before .before .before .before .before .before .before .before .before .before .before .args .name .now) (c .before .before .before .before .before .before .before .before .before .loop .left - 1)) (sym end) (n .others e)
 
 returns-3 : tie.Need-returns-3 Inv-loop μ-loop

@@ -1,7 +1,7 @@
 -- A string or a binary shows its body, another value the whole.
 use mathlib.Core.Path.{sym, _∙_}
 use borrow.Author.Needs.{needs}
-use Rattle.views.specs.Laws.Skip.{body-shows, whole-shows}
+use Rattle.views.specs.Laws.Shown.{body-shows, whole-shows}
 use Rattle.views.proofs.part.Statement.{statement}
 use Rattle.views.proofs.part.Tie as tie
 

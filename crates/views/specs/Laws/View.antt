@@ -27,9 +27,10 @@ use Rattle.messagepack.specs.Read.{documentOf}
 use Rattle.messagepack.specs.Laws.Keys.{equal-true, equal-refl}
 use Rattle.messagepack.specs.Laws.Unique.{no-two-documents, documentOf-is}
 use Rattle.messagepack.specs.Laws.Container.{container-exactly}
-use Rattle.views.specs.View.{EntryIn, shown, Viewable, startOf, hasKey, entriesOf, viewNumber, Placed, placed, refused, Viewed, viewed, nothing}
-use Rattle.views.specs.Skip.{Standing, Looking}
-use Rattle.views.specs.Laws.Skip.{writes-long}
+use Rattle.views.specs.View.{EntryIn, shown, Viewable, startOf, hasKey, viewNumber, Placed, placed, refused, Viewed, viewed, nothing}
+use Rattle.views.specs.Shown.{Looking}
+use Rattle.values.specs.Parts.{entriesOf}
+use Rattle.values.specs.Laws.Standing.{writes-long}
 use Rattle.views.specs.declared.Place.{Place}
 
 -- entries after entries

@@ -1,9 +1,8 @@
--- Values that stand one after another in a file, the part that shows one, and the search for a key: what the functions inside this crate say. No lemma stands here. Assumes nothing.
+-- The part that shows a value, and the search for a key: what the functions inside this crate say. No lemma stands here. Assumes nothing.
 use mathlib.Core.Path.{_≡_}
-use mathlib.Core.Bool.{Bool, true, false, cond}
+use mathlib.Core.Bool.{Bool, true, false}
 use mathlib.Core.List.{List, _++_}
-use Prim.Native.Nat.{ℕ, zero, suc, _+_, _-_, _≤_, _<_}
-use lib.Dec.{leb}
+use Prim.Native.Nat.{ℕ, _+_, _-_}
 use lib.ListN.{length, drop}
 use Rattle.messagepack.specs.Document.{Document, Entries, size, Writes, WritesEntries}
 use Rattle.messagepack.specs.Rules.{Container}
@@ -11,15 +10,8 @@ use Rattle.refusal.specs.Table.{noSuchField}
 use Rattle.heads.specs.Head.{HeadOf}
 use Rattle.heads.specs.declared.Kind.{Kind}
 use Rattle.heads.specs.declared.Head.{Head}
-use Rattle.heads.specs.Span.{Span}
 use Rattle.views.specs.View.{shown, hasKey}
 use Rattle.views.specs.declared.Place.{Place}
-use Rattle.views.specs.declared.Over.{Over}
-
--- n values stand in s from p up to e, one after another
-unfoldable pub Standing : List ℕ → ℕ → ℕ → ℕ → Type 0
-Standing s zero p e = p ≡ e
-Standing s (suc n) p e = record { x : Document; w : List ℕ; q : ℕ; writes : Writes x w; span : Span s p q w; rest : Standing s n q e }
 
 -- is a kind that of a string or a binary?
 abbrev pub isText : Kind → Bool
@@ -42,19 +34,6 @@ bodyPlace Head.Cut = Place.Refused noSuchField
 abbrev pub ShowsAt : List ℕ → ℕ → Place → Type 0
 ShowsAt s at r =
     (x : Document) (w v : List ℕ) → Writes x w → drop at s ≡ w ++ v → r ≡ Place.At (at + (length w - length (shown x w))) (length (shown x w))
-
--- a step over n bytes from p on in a file of some length
-abbrev pub pastOver : ℕ → ℕ → ℕ → Over
-pastOver size n p = cond (leb (p + n) size) (Over.On (p + n) 0) Over.Stop
-
--- a step to n keys and their values
-abbrev pub pairsOver : ℕ → ℕ → ℕ → Over
-pairsOver size n p = cond (leb (p + (n + n)) size) (Over.On p (n + n)) Over.Stop
-
--- a step over one value's head, and its body if it is a string or a binary: where it goes on, and how many values are inside
-pub data Stepped (s : List ℕ) (p : ℕ) : Over → Type 0 where
-  on : {q k : ℕ} → p < q → q ≤ length s → ((n e : ℕ) → Standing s (suc n) p e → Standing s (k + n) q e) → Stepped s p (Over.On q k)
-  stop : ((n e : ℕ) → Standing s (suc n) p e → ⊥) → Stepped s p Over.Stop
 
 -- a search for a name among a container's entries: the entries before have another key; those from here on are to be looked at
 pub record Looking (s name : List ℕ) (left p : ℕ) : Type 0 where
