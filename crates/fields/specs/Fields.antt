@@ -8,7 +8,8 @@ use Prim.Native.Nat.{ℕ, zero, suc, _+_, _*_, _≤_}
 use lib.Dec.{eqb, leb}
 use lib.ListN.{getD}
 use Rattle.refusal.specs.Table.{accepted, fieldMissing, fieldType, versionNot1}
-use Rattle.messagepack.specs.Document.{Document, Entries, integer, float, string, binary, array, map}
+use Rattle.messagepack.specs.Document.{Document, Entries}
+use Rattle.values.specs.Parts.{textOf}
 use Rattle.fields.specs.Types.{Rows, last, row, look, Has, Fits}
 use Rattle.fields.specs.Tests.{isThere, have, fitting}
 use Rattle.fields.specs.Table.{named}
@@ -41,19 +42,14 @@ setOf (b ∷ bs) = bit b + setOf bs * 2
 unfoldable pub presenceOf : Entries → ℕ
 presenceOf es = setOf (present named es)
 
--- the bytes of a string, else none
-abbrev pub stringIn : Option Document → List ℕ
-stringIn nothing = []
-stringIn (some (string t)) = t
-stringIn (some (integer v)) = []
-stringIn (some (float bits)) = []
-stringIn (some (binary t)) = []
-stringIn (some (array ds)) = []
-stringIn (some (map es)) = []
+-- the bytes of a string, if there is one
+abbrev pub textIn : Option Document → List ℕ
+textIn (some x) = textOf x
+textIn nothing = []
 
 -- the text of mmtfVersion, field 0
 abbrev pub versionOf : Entries → List ℕ
-versionOf es = stringIn (fieldAt 0 es)
+versionOf es = textIn (fieldAt 0 es)
 
 -- the major version is 1: the text begins with "1." and a digit
 pub record VersionOne (t : List ℕ) : Type 0 where

@@ -1,2 +1,527 @@
-// The named fields of a file.
-pub fn keep(x: usize) -> usize { x }
+// The named fields of a file: one pass over the entries of its outer map that notes where each field's value stands and whether it has its
+// type, with the set of those that are present; and the refusals 12, 13 and 24. The types stand in one table of bytes, made once for a pass
+// and lent. Values, arrays and maps are gone through by functions that call each other, the levels left falling.
+ghost use mathlib.Core.Path.{_≡_};
+ghost use mathlib.Core.Bool.{Bool, true, false, _&&_};
+ghost use Prim.Native.Nat.{ℕ, _+_, _*_, _≤_, _<_};
+ghost use lib.ListN.{length, getD, take, drop};
+ghost use Rattle.heads.specs.Table.{leadTable};
+ghost use Rattle.messagepack.specs.Document.{Document, Entries, size};
+ghost use Rattle.messagepack.specs.Walk.{equal};
+ghost use Rattle.values.specs.Places.{At, AtEntries};
+ghost use Rattle.fields.specs.Types.{FieldType, plain};
+ghost use Rattle.fields.specs.Table.{fieldCount};
+ghost use Rattle.fields.specs.Tests.{typed};
+ghost use Rattle.fields.specs.Fields.{isVersionOne, fieldsNumber};
+ghost use Rattle.fields.specs.Noted.{Noted};
+ghost use Rattle.fields.specs.Numbers.{typeTable, cellOf, nameOf, needOf, rowsFrom, typeOf, findRow, rowTest, build, covered, marked, lacking, distinctNames};
+ghost use Rattle.fields.specs.Steps.{numberOf, plainEnd, ValueSays, ItemsSay, EntriesSay, RowSays, putAt};
+use heads::Head;
+use heads::Kind;
+
+// How many fields are named.
+pub const FIELD_COUNT: usize = 39;
+
+// What a pass over a file's entries notes of the named fields: where each one's value stands, 0 where it is absent; the set of those present,
+// a bit for each; whether each of them has its type.
+pub struct Fields {
+    pub places: [usize; 39],
+    pub presence: u64,
+    pub typed: bool,
+}
+
+// Where a value ends, or that it has not its type.
+pub enum Typed {
+    Ends(usize),
+    Wrong,
+}
+
+// Where a field's value ends, and whether it has its type.
+pub struct Judged {
+    pub end: usize,
+    pub typed: bool,
+}
+
+// What is noted of the count entries of a file from a place on. A value of the wrong type is stepped over, since 12 comes before 13.
+pub fn note(leads: &[u8; 256], file: &[u8], count: usize, at: usize) -> Fields
+    ensures { λ r. ⌜ (now (leads .entry) ≡ leadTable → (es : Entries) (e : ℕ) → AtEntries (now (file .entry)) at es e → size es ≡ count → Noted (now (file .entry)) es r) ⌝ }
+{
+    let types = types();
+    let mut places = no_places();
+    let mut presence: u64 = 0;
+    let mut typed = true;
+    let mut left = count;
+    let mut p = at;
+    while 0 < left {
+        let key = values::text_at(leads, file, p);
+        let a = key.at;
+        let m = key.count;
+        let value = a + m;
+        let row = row_of(&types, file, a, m, FIRST_FIELD, FIELD_COUNT);
+        let judged = judge(leads, file, &types, value, row);
+        put_place(&mut places, row, value);
+        presence = mark(FIELD_COUNT, presence, row);
+        typed = both(typed, judged.typed);
+        p = judged.end;
+        left -= 1;
+    }
+    Fields {
+        places: places,
+        presence: presence,
+        typed: typed,
+    }
+}
+
+// The refusal of a file by what is noted of its fields: 12, 13, 24, or 0.
+pub fn refusal_of(leads: &[u8; 256], file: &[u8], fields: Fields) -> u8
+    ensures { λ r. ⌜ (now (leads .entry) ≡ leadTable → (es : Entries) → Noted (now (file .entry)) es fields → r ≡ fieldsNumber es) ⌝ }
+{
+    let types = types();
+    if !all_seen(&types, fields.presence, FIRST_FIELD, FIELD_COUNT) {
+        return refusal::FIELD_MISSING;
+    }
+    if !fields.typed {
+        return refusal::FIELD_TYPE;
+    }
+    let version = values::text_at(leads, file, fields.places[0]);
+    let a = version.at;
+    let m = version.count;
+    if !is_version_one(file, a, m) {
+        return refusal::VERSION_NOT_1;
+    }
+    refusal::ACCEPTED
+}
+
+// Do the m bytes from a on begin with "1." and a digit?
+fn is_version_one(file: &[u8], a: usize, m: usize) -> bool
+    requires { ⌜ a + m ≤ length (now file) ⌝ }
+    ensures { λ r. ⌜ r ≡ isVersionOne (take m (drop a (now (file .entry)))) ⌝ }
+{
+    if m < 3 {
+        return false;
+    }
+    if file[a] != b'1' {
+        return false;
+    }
+    if file[a + 1] != b'.' {
+        return false;
+    }
+    let digit = file[a + 2];
+    if digit < b'0' {
+        return false;
+    }
+    digit <= b'9'
+}
+
+// No places.
+fn no_places() -> [usize; 39]
+    ensures long { λ r. ⌜ length r ≡ fieldCount ⌝ }
+    ensures empty { λ r. ⌜ ((i : ℕ) → getD r i 0 ≡ 0) ⌝ }
+{
+    [0usize; 39]
+}
+
+// Puts a place at a field's number, if it is one.
+fn put_place(places: &mut [usize; 39], row: usize, place: usize)
+    requires { ⌜ length (now places) ≡ fieldCount ⌝ }
+    ensures { λ _. ⌜ now (places .exit) ≡ putAt (now (places .entry)) row place ⌝ }
+{
+    if row < FIELD_COUNT {
+        places[row] = place;
+    }
+}
+
+// Are both true?
+fn both(a: bool, b: bool) -> bool
+    ensures { λ r. ⌜ r ≡ (a && b) ⌝ }
+{
+    if a { b } else { false }
+}
+
+// A set of n with i in it, if i is below n.
+fn mark(n: usize, seen: u64, i: usize) -> u64
+    requires { ⌜ n < 64 ⌝ }
+    ensures { λ r. ⌜ r ≡ marked n seen i ⌝ }
+{
+    if i < n { seen | (1u64 << i) } else { seen }
+}
+
+// The value at a place as that of a field, or of no field.
+fn judge(leads: &[u8; 256], file: &[u8], types: &[u8; 1261], at: usize, row: usize) -> Judged
+    requires { ⌜ now types ≡ typeTable ⌝ }
+    ensures { λ r. ⌜ RowSays (now (leads .entry)) (now (file .entry)) row at (r .end) (r .typed) ⌝ }
+{
+    match row_typed(leads, file, types, at, FIRST_FIELD, FIELD_COUNT, row, TYPE_DEPTH) {
+        Typed::Ends(e) => Judged { end: e, typed: true },
+        Typed::Wrong => Judged {
+            end: values::skip(leads, file, at),
+            typed: false,
+        },
+    }
+}
+
+// The value at a place as that of one of the n rows from first on, or of none.
+fn row_typed(
+    leads: &[u8; 256],
+    file: &[u8],
+    types: &[u8; 1261],
+    at: usize,
+    first: usize,
+    n: usize,
+    row: usize,
+    depth: usize,
+) -> Typed
+    requires { ⌜ (now types ≡ typeTable) × ((first < 256) × (n < 64)) ⌝ }
+    ensures { λ r. ⌜ ValueSays (now (leads .entry)) (now (file .entry)) (rowTest row (rowsFrom (typeOf depth) n first)) at r ⌝ }
+{
+    if row < n {
+        let code = cell(types, (first + row) * ROW_SIZE + ROWS_AT + 2);
+        return typed_at(leads, file, types, at, code, depth);
+    }
+    Typed::Ends(values::skip(leads, file, at))
+}
+
+// The value at a place by a type of at most so many levels.
+fn typed_at(
+    leads: &[u8; 256],
+    file: &[u8],
+    types: &[u8; 1261],
+    at: usize,
+    code: usize,
+    depth: usize,
+) -> Typed
+    requires { ⌜ now types ≡ typeTable ⌝ }
+    ensures { λ r. ⌜ ValueSays (now (leads .entry)) (now (file .entry)) (typed (typeOf depth code)) at r ⌝ }
+{
+    if depth == 0 {
+        return Typed::Wrong;
+    }
+    if TYPE_COUNT <= code {
+        return Typed::Wrong;
+    }
+    let tag = cell(types, code * 3);
+    let many = cell(types, code * 3 + 1) % 64;
+    let inside = cell(types, code * 3 + 2);
+    if tag < 3 {
+        return simple_at(leads, file, at, tag, many, inside);
+    }
+    let Head::At(n, p) = heads::head_at(leads, file, at) else {
+        return Typed::Wrong;
+    };
+    let kind = kind_number(heads::kind_at(leads, file, at));
+    if tag == 3 {
+        if kind != 5 {
+            return Typed::Wrong;
+        }
+        return items_typed(leads, file, types, n, p, inside, depth - 1);
+    }
+    if kind != 6 {
+        return Typed::Wrong;
+    }
+    entries_typed(leads, file, types, n, p, inside, many, depth - 1)
+}
+
+// The count values of an array from a place on, each by a type.
+fn items_typed(
+    leads: &[u8; 256],
+    file: &[u8],
+    types: &[u8; 1261],
+    count: usize,
+    at: usize,
+    code: usize,
+    depth: usize,
+) -> Typed
+    requires { ⌜ now types ≡ typeTable ⌝ }
+    ensures { λ r. ⌜ ItemsSay (now (leads .entry)) (now (file .entry)) (typed (typeOf depth code)) count at r ⌝ }
+{
+    let mut left = count;
+    let mut p = at;
+    while 0 < left {
+        let Typed::Ends(e) = typed_at(leads, file, types, p, code, depth) else {
+            return Typed::Wrong;
+        };
+        p = e;
+        left -= 1;
+    }
+    Typed::Ends(p)
+}
+
+// The count entries of a map from a place on by the n rows from first on.
+fn entries_typed(
+    leads: &[u8; 256],
+    file: &[u8],
+    types: &[u8; 1261],
+    count: usize,
+    at: usize,
+    first: usize,
+    n: usize,
+    depth: usize,
+) -> Typed
+    requires { ⌜ (now types ≡ typeTable) × ((first < 256) × ((n < 64) × (distinctNames (rowsFrom (typeOf depth) n first) ≡ true))) ⌝ }
+    ensures { λ r. ⌜ EntriesSay (now (leads .entry)) (now (file .entry)) (rowsFrom (typeOf depth) n first) 0 count at r ⌝ }
+{
+    let mut seen: u64 = 0;
+    let mut left = count;
+    let mut p = at;
+    while 0 < left {
+        let key = values::text_at(leads, file, p);
+        let a = key.at;
+        let m = key.count;
+        let row = row_of(types, file, a, m, first, n);
+        let Typed::Ends(e) = row_typed(leads, file, types, a + m, first, n, row, depth) else {
+            return Typed::Wrong;
+        };
+        seen = mark(n, seen, row);
+        p = e;
+        left -= 1;
+    }
+    if all_seen(types, seen, first, n) {
+        return Typed::Ends(p);
+    }
+    Typed::Wrong
+}
+
+// The value at a place by a type with no types inside: a value of a kind, or an array of those, or of exactly so many.
+fn simple_at(leads: &[u8; 256], file: &[u8], at: usize, tag: usize, many: usize, wanted: usize) -> Typed
+    requires { ⌜ (tag < 3) × (wanted ≤ 4) ⌝ }
+    ensures { λ r. ⌜ ((f : ℕ → FieldType) → ValueSays (now (leads .entry)) (now (file .entry)) (typed (build f tag many wanted)) at r) ⌝ }
+{
+    if tag == 0 {
+        return plain_at(leads, file, at, wanted);
+    }
+    let Head::At(n, p) = heads::head_at(leads, file, at) else {
+        return Typed::Wrong;
+    };
+    let kind = kind_number(heads::kind_at(leads, file, at));
+    if kind != 5 {
+        return Typed::Wrong;
+    }
+    if tag == 1 {
+        return plain_items(leads, file, n, p, wanted);
+    }
+    if n != many {
+        return Typed::Wrong;
+    }
+    plain_items(leads, file, n, p, wanted)
+}
+
+// The count values of an array from a place on, each of a kind.
+fn plain_items(leads: &[u8; 256], file: &[u8], count: usize, at: usize, wanted: usize) -> Typed
+    requires { ⌜ wanted ≤ 4 ⌝ }
+    ensures { λ r. ⌜ ItemsSay (now (leads .entry)) (now (file .entry)) (typed (plain wanted)) count at r ⌝ }
+{
+    let mut left = count;
+    let mut p = at;
+    while 0 < left {
+        let Typed::Ends(e) = plain_at(leads, file, p, wanted) else {
+            return Typed::Wrong;
+        };
+        p = e;
+        left -= 1;
+    }
+    Typed::Ends(p)
+}
+
+// The value at a place, if it is of a kind.
+fn plain_at(leads: &[u8; 256], file: &[u8], at: usize, wanted: usize) -> Typed
+    requires { ⌜ wanted ≤ 4 ⌝ }
+    ensures { λ r. ⌜ ValueSays (now (leads .entry)) (now (file .entry)) (typed (plain wanted)) at r ⌝ }
+{
+    let Head::At(n, p) = heads::head_at(leads, file, at) else {
+        return Typed::Wrong;
+    };
+    let kind = kind_number(heads::kind_at(leads, file, at));
+    plain_end(file, kind, wanted, n, p)
+}
+
+// Where a value of a kind that holds no others ends, if that kind is wanted: its head holds n and ends at p.
+fn plain_end(file: &[u8], kind: usize, wanted: usize, n: usize, p: usize) -> Typed
+    ensures { λ r. ⌜ r ≡ plainEnd (length (now (file .entry))) kind wanted n p ⌝ }
+{
+    if kind != wanted {
+        return Typed::Wrong;
+    }
+    if kind < 3 {
+        return Typed::Ends(p);
+    }
+    if file.len() < p {
+        return Typed::Wrong;
+    }
+    if file.len() - p < n {
+        return Typed::Wrong;
+    }
+    Typed::Ends(p + n)
+}
+
+// The number of a kind.
+fn kind_number(kind: Kind) -> usize
+    ensures { λ r. ⌜ r ≡ numberOf kind ⌝ }
+{
+    match kind {
+        Kind::Unsigned => 1,
+        Kind::Signed => 1,
+        Kind::Float => 2,
+        Kind::Str => 3,
+        Kind::Bin => 4,
+        Kind::Array => 5,
+        Kind::Map => 6,
+        Kind::Outside => 0,
+        Kind::Missing => 0,
+    }
+}
+
+// The first of the n rows from first on whose name the m bytes from a on are; n if there is none.
+fn row_of(types: &[u8; 1261], file: &[u8], a: usize, m: usize, first: usize, n: usize) -> usize
+    requires { ⌜ (now types ≡ typeTable) × ((a + m ≤ length (now file)) × ((first < 256) × (n < 64))) ⌝ }
+    ensures { λ r. ⌜ ((f : ℕ → FieldType) → r ≡ findRow (take m (drop a (now (file .entry)))) (rowsFrom f n first)) ⌝ }
+{
+    let mut i: usize = 0;
+    while i < n {
+        if is_name(types, file, a, m, first + i) {
+            return i;
+        }
+        i += 1;
+    }
+    n
+}
+
+// Are the m bytes from a on the name of a row?
+fn is_name(types: &[u8; 1261], file: &[u8], a: usize, m: usize, row: usize) -> bool
+    requires { ⌜ (now types ≡ typeTable) × ((a + m ≤ length (now file)) × (row < 512)) ⌝ }
+    ensures { λ r. ⌜ r ≡ equal (take m (drop a (now (file .entry)))) (nameOf row) ⌝ }
+{
+    let start = row * ROW_SIZE + ROWS_AT;
+    if m != cell(types, start) {
+        return false;
+    }
+    let mut i: usize = 0;
+    while i < m {
+        if wide(file[a + i]) != cell(types, start + 3 + i) {
+            return false;
+        }
+        i += 1;
+    }
+    true
+}
+
+// Are the required ones of the n rows from first on all in a set?
+fn all_seen(types: &[u8; 1261], seen: u64, first: usize, n: usize) -> bool
+    requires { ⌜ (now types ≡ typeTable) × ((first < 256) × (n < 64)) ⌝ }
+    ensures { λ r. ⌜ ((f : ℕ → FieldType) → r ≡ covered (rowsFrom f n first) seen) ⌝ }
+{
+    let mut rest = seen;
+    let mut i: usize = 0;
+    while i < n {
+        if lacks(cell(types, (first + i) * ROW_SIZE + ROWS_AT + 1), rest) {
+            return false;
+        }
+        rest = rest / 2;
+        i += 1;
+    }
+    true
+}
+
+// Is a row required, and its bit, the lowest of a set, not there?
+fn lacks(need: usize, seen: u64) -> bool
+    ensures { λ r. ⌜ r ≡ lacking need seen ⌝ }
+{
+    if need == 1 {
+        return seen % 2 != 1;
+    }
+    false
+}
+
+// A byte of the table; 0 past its end.
+fn cell(types: &[u8; 1261], i: usize) -> usize
+    requires { ⌜ now types ≡ typeTable ⌝ }
+    ensures is { λ r. ⌜ r ≡ cellOf i ⌝ }
+    ensures byte { λ r. ⌜ r < 256 ⌝ }
+{
+    if i < 1261 { wide(types[i]) } else { 0 }
+}
+
+// A byte as a larger number.
+fn wide(x: u8) -> usize
+    ensures { λ r. ⌜ r ≡ x ⌝ }
+{
+    x as usize
+}
+
+// The table of types.
+fn types() -> [u8; 1261]
+    ensures { λ r. ⌜ r ≡ typeTable ⌝ }
+{
+    TYPES
+}
+
+// The row of the first named field, how many types have a number, and the levels of the deepest.
+const FIRST_FIELD: usize = 16;
+const TYPE_COUNT: usize = 17;
+const TYPE_DEPTH: usize = 5;
+
+// Where the first row starts in the table, and the bytes of a row.
+const ROWS_AT: usize = 51;
+const ROW_SIZE: usize = 22;
+
+// Three bytes for each type: 0 a value of a kind, 1 an array of values of a kind, 2 an array of exactly so many, 3 an array of values of a type,
+// 4 a map; then how many values or rows; then the kind, the type or the first row. After these 22 bytes for each row: the length of its name,
+// 1 if it is required, its type, and its name. The named fields are the last rows.
+const TYPES: [u8; 1261] = *b"\x00\x00\x01\x00\x00\x02\x00\x00\x03\x00\x00\x04\
+    \x01\x00\x01\x01\x00\x03\x02\x06\x02\x02\x10\x02\x03\x00\x07\
+    \x04\x08\x00\x03\x00\x09\x04\x02\x08\x03\x00\x0b\
+    \x04\x02\x0a\x03\x00\x0d\x04\x04\x0c\x03\x00\x0f\
+    \x09\x01\x02groupName..........\
+    \x10\x01\x02singleLetterCode...\
+    \x0c\x01\x02chemCompType.......\
+    \x10\x01\x04formalChargeList...\
+    \x0c\x01\x05atomNameList.......\
+    \x0b\x01\x05elementList........\
+    \x0c\x00\x04bondAtomList.......\
+    \x0d\x00\x04bondOrderList......\
+    \x0e\x01\x04chainIndexList.....\
+    \x06\x01\x07matrix.............\
+    \x04\x01\x02name...............\
+    \x0d\x01\x0ctransformList......\
+    \x0e\x01\x04chainIndexList.....\
+    \x0b\x01\x02description........\
+    \x04\x01\x02type...............\
+    \x08\x01\x02sequence...........\
+    \x0b\x01\x02mmtfVersion........\
+    \x0c\x01\x02mmtfProducer.......\
+    \x08\x01\x00numBonds...........\
+    \x08\x01\x00numAtoms...........\
+    \x09\x01\x00numGroups..........\
+    \x09\x01\x00numChains..........\
+    \x09\x01\x00numModels..........\
+    \x09\x01\x0agroupList..........\
+    \x0a\x01\x03xCoordList.........\
+    \x0a\x01\x03yCoordList.........\
+    \x0a\x01\x03zCoordList.........\
+    \x0b\x01\x03groupIdList........\
+    \x0d\x01\x03groupTypeList......\
+    \x0b\x01\x03chainIdList........\
+    \x0e\x01\x04groupsPerChain.....\
+    \x0e\x01\x04chainsPerModel.....\
+    \x0c\x00\x03bondAtomList.......\
+    \x0d\x00\x03bondOrderList......\
+    \x0b\x00\x03bFactorList........\
+    \x0a\x00\x03atomIdList.........\
+    \x0a\x00\x03altLocList.........\
+    \x0d\x00\x03occupancyList......\
+    \x0d\x00\x03secStructList......\
+    \x0b\x00\x03insCodeList........\
+    \x0e\x00\x03sequenceIdList.....\
+    \x0d\x00\x03chainNameList......\
+    \x05\x00\x02title..............\
+    \x0b\x00\x02structureId........\
+    \x0a\x00\x02spaceGroup.........\
+    \x0e\x00\x02depositionDate.....\
+    \x0b\x00\x02releaseDate........\
+    \x0a\x00\x01resolution.........\
+    \x05\x00\x01rFree..............\
+    \x05\x00\x01rWork..............\
+    \x08\x00\x06unitCell...........\
+    \x13\x00\x05experimentalMethods\
+    \x0f\x00\x08ncsOperatorList....\
+    \x0f\x00\x0ebioAssemblyList....\
+    \x0a\x00\x10entityList.........";

@@ -1,0 +1,79 @@
+-- What the functions inside say of whatever stands at a place. For the code inside. No lemma stands here. Assumes nothing.
+use mathlib.Core.Path.{_≡_}
+use mathlib.Core.Bool.{Bool, true, false, cond, _&&_}
+use mathlib.Core.List.{List, []}
+use mathlib.Core.Option.{Option, some, none as nothing}
+use Prim.Native.Nat.{ℕ, _+_, _<_}
+use lib.Bits.{bitOr}
+use lib.Dec.{eqb, leb, ltb}
+use lib.ListN.{length, getD, set}
+use Rattle.heads.specs.Table.{leadTable}
+use Rattle.heads.specs.declared.Kind.{Kind}
+use Rattle.messagepack.specs.Document.{Document, Documents, Entries, count, size}
+use Rattle.values.specs.Places.{At, AtAll, AtEntries}
+use Rattle.fields.specs.Types.{FieldType, Rows}
+use Rattle.fields.specs.Table.{named, fieldCount}
+use Rattle.fields.specs.Tests.{all, fitting}
+use Rattle.fields.specs.Fields.{setOf, present, fieldAt}
+use Rattle.fields.specs.Numbers.{covered, rowTest}
+use Rattle.fields.specs.declared.Typed.{Typed}
+use Rattle.fields.specs.declared.Fields.{Fields}
+
+-- where a value ends, if it passes
+abbrev pub endsIf : Bool → ℕ → Typed
+endsIf true e = Typed.Ends e
+endsIf false e = Typed.Wrong
+
+-- the number of a kind, as `Types.kindNumber` has it of a document; 0 of no kind
+abbrev pub numberOf : Kind → ℕ
+numberOf Kind.Unsigned = 1
+numberOf Kind.Signed = 1
+numberOf Kind.Float = 2
+numberOf Kind.Str = 3
+numberOf Kind.Bin = 4
+numberOf Kind.Array = 5
+numberOf Kind.Map = 6
+numberOf Kind.Outside = 0
+numberOf Kind.Missing = 0
+
+-- where a value of a kind that holds no others ends, if it is of the kind that is wanted: its head holds n and ends at p, in a file of some length
+abbrev pub plainEnd : ℕ → ℕ → ℕ → ℕ → ℕ → Typed
+plainEnd length kind wanted n p =
+    cond (eqb kind wanted) (cond (ltb kind 3) (Typed.Ends p) (cond (leb (p + n) length) (Typed.Ends (p + n)) Typed.Wrong)) Typed.Wrong
+
+-- of the document at a place: where it ends, if it passes a test
+pub record ValueSays (leads s : List ℕ) (f : Document → Bool) (at : ℕ) (r : Typed) : Type 0 where
+  pub says : leads ≡ leadTable → (x : Document) (e : ℕ) → At s at x e → r ≡ endsIf (f x) e
+
+-- of the n values of an array from a place on: where they end, if all pass
+pub record ItemsSay (leads s : List ℕ) (f : Document → Bool) (n at : ℕ) (r : Typed) : Type 0 where
+  pub says : leads ≡ leadTable → (ds : Documents) (e : ℕ) → AtAll s at ds e → count ds ≡ n → r ≡ endsIf (all f ds) e
+
+-- of the n entries of a map from a place on, when a set of rows has been seen before: where they end, if each named key has its type and all
+-- required ones have been seen
+pub record EntriesSay (leads s : List ℕ) (rows : Rows) (seen n at : ℕ) (r : Typed) : Type 0 where
+  pub says : leads ≡ leadTable → (es : Entries) (e : ℕ) → AtEntries s at es e → size es ≡ n → r ≡ endsIf (fitting rows es && covered rows (bitOr seen (setOf (present rows es)))) e
+
+-- of the document at a place: where it ends, and whether it has the type of row i of the named fields
+pub record RowSays (leads s : List ℕ) (i at : ℕ) (e : ℕ) (b : Bool) : Type 0 where
+  pub says : leads ≡ leadTable → (x : Document) (f : ℕ) → At s at x f → (e ≡ f) × (b ≡ rowTest i named x)
+
+-- a place after the rest of the entries: that of the value they have, or the one from before
+pub data PlaceFrom (s : List ℕ) (p : ℕ) : Option Document → ℕ → Type 0 where
+  same : PlaceFrom s p nothing p
+  found : {q e : ℕ} {x : Document} → 0 < q → At s q x e → PlaceFrom s p (some x) q
+
+-- what is noted in the end, when some has been noted before
+pub record NotedFrom (s : List ℕ) (places : List ℕ) (presence : ℕ) (typed : Bool) (es : Entries) (r : Fields) : Type 0 where
+  pub long : length (r .places) ≡ fieldCount
+  pub place : (i : ℕ) → i < fieldCount → PlaceFrom s (getD places i 0) (fieldAt i es) (getD (r .places) i 0)
+  pub present : r .presence ≡ bitOr presence (setOf (present named es))
+  pub fit : r .typed ≡ (typed && fitting named es)
+
+-- the same of the n entries from a place on
+pub record NoteSays (leads s : List ℕ) (places : List ℕ) (presence : ℕ) (typed : Bool) (n at : ℕ) (r : Fields) : Type 0 where
+  pub says : leads ≡ leadTable → (es : Entries) (e : ℕ) → AtEntries s at es e → size es ≡ n → NotedFrom s places presence typed es r
+
+-- the places with one of them put at i, if there is an i
+abbrev pub putAt : List ℕ → ℕ → ℕ → List ℕ
+putAt places i p = set places i p
