@@ -1,3 +1,5 @@
 pub mod Types
 pub mod Fields
+pub mod Sets
+pub mod Rows
 pub mod Numbers

@@ -1,0 +1,134 @@
+-- Rows whose names are different, and one entry more, whose key is new.
+-- Assumes nothing.
+use mathlib.Core.Path.{_≡_, refl, sym, ap, ap₂, _∙_}
+use mathlib.Core.Bool.{Bool, true, false, cond, not, _&&_, _||_}
+use mathlib.Core.List.{List, [], _∷_}
+use mathlib.Core.Option.{Option, some, none as nothing}
+use Prim.Native.Nat.{ℕ, zero, suc, _+_, _<_, _≤_}
+use native.Mathlib.Omega.{arith}
+use lib.Dec.{eqb, eqb·zero-suc, eqb·suc-zero, eqb·suc-suc}
+use lib.ListN.{length, set}
+use Rattle.messagepack.specs.Document.{Document, Entries, empty, entry}
+use Rattle.messagepack.specs.Rules.{NoKey}
+use Rattle.messagepack.specs.Walk.{equal}
+use Rattle.messagepack.specs.Laws.Keys.{equal-true, equal-refl, equal-false}
+use Rattle.fields.specs.Types.{Rows, last, row, look}
+use Rattle.fields.specs.Tests.{isThere, onValue, typed, fitting}
+use Rattle.fields.specs.Fields.{valueOf, setOf, present}
+use Rattle.fields.specs.Numbers.{findRow, rowTest, newName, distinctNames, marked}
+use Rattle.fields.specs.Laws.Types.{clash, and-left, and-right}
+use Rattle.fields.specs.Laws.Sets.{set-marked}
+
+-- how many rows there are
+unfoldable pub rowCount : Rows → ℕ
+rowCount last = 0
+rowCount (row k q t rows) = suc (rowCount rows)
+
+pub present-length : (rows : Rows) (es : Entries) → length (present rows es) ≡ rowCount rows
+unfolding present rowCount
+present-length last es = refl
+present-length (row k q t rows) es = ap suc (present-length rows es)
+
+-- a key that is not there has no value
+pub look-none : (k : List ℕ) (es : Entries) → NoKey k es → look k es ≡ nothing
+unfolding look NoKey
+look-none k empty h = refl
+look-none k (entry l x es) h = rw (equal-false l k (λ e. h .0 (sym e))) (look-none k es (h .1))
+
+-- no entry asks nothing of the rows
+pub fitting-none : (rows : Rows) → fitting rows empty ≡ true
+unfolding fitting look
+fitting-none last = refl
+fitting-none (row k q t rows) = fitting-none rows
+
+pub valueOf-none : (i : ℕ) (rows : Rows) → valueOf i rows empty ≡ nothing
+unfolding valueOf look
+valueOf-none i last = refl
+valueOf-none zero (row k q t rows) = refl
+valueOf-none (suc i) (row k q t rows) = valueOf-none i rows
+
+-- an entry with a key that is none of the names
+
+not-false : (b : Bool) → not b ≡ true → b ≡ false
+not-false true e = clash e
+not-false false e = refl
+
+module _ (k : List ℕ) (x : Document) (es : Entries) where
+  fitting-other : (rows : Rows) → newName k rows ≡ true → fitting rows (entry k x es) ≡ fitting rows es
+  unfolding fitting newName look
+  fitting-other last h = refl
+  fitting-other (row l q t rows) h = rw (not-false (equal k l) (and-left (not (equal k l)) (newName k rows) h), fitting-other rows (and-right (not (equal k l)) (newName k rows) h))
+
+  present-other : (rows : Rows) → newName k rows ≡ true → present rows (entry k x es) ≡ present rows es
+  unfolding present newName look
+  present-other last h = refl
+  present-other (row l q t rows) h = rw (not-false (equal k l) (and-left (not (equal k l)) (newName k rows) h), present-other rows (and-right (not (equal k l)) (newName k rows) h))
+
+  valueOf-other : (i : ℕ) (rows : Rows) → newName k rows ≡ true → valueOf i rows (entry k x es) ≡ valueOf i rows es
+  unfolding valueOf newName look
+  valueOf-other i last h = refl
+  valueOf-other zero (row l q t rows) h = rw (not-false (equal k l) (and-left (not (equal k l)) (newName k rows) h))
+  valueOf-other (suc i) (row l q t rows) h = valueOf-other i rows (and-right (not (equal k l)) (newName k rows) h)
+
+swap : (a b c : Bool) → a && (b && c) ≡ b && (a && c)
+swap true b c = refl
+swap false true c = refl
+swap false false c = refl
+
+module _ (k : List ℕ) (x : Document) (es : Entries) where
+  -- each named key has its type: the first one has, and the rest
+  pub fitting-entry : (rows : Rows) → distinctNames rows ≡ true → NoKey k es → fitting rows (entry k x es) ≡ (rowTest (findRow k rows) rows x && fitting rows es)
+  unfolding fitting distinctNames look findRow rowTest
+  fitting-entry last d f = refl
+  fitting-entry (row l q t rows) d f = go (equal k l) refl (fitting-entry rows (and-right (newName l rows) (distinctNames rows) d) f)
+    where
+      go : (b : Bool) → equal k l ≡ b → fitting rows (entry k x es) ≡ (rowTest (findRow k rows) rows x && fitting rows es) → (onValue (cond b (some x) (look l es)) (λ y. typed t y) && fitting rows (entry k x es)) ≡ (rowTest (cond b 0 (suc (findRow k rows))) (row l q t rows) x && (onValue (look l es) (λ y. typed t y) && fitting rows es))
+      go true e rest =
+          let p : k ≡ l = equal-true k l e in
+          let n : look l es ≡ nothing = look-none l es (rw p at f) in
+          let o : newName k rows ≡ true = rw p (and-left (newName l rows) (distinctNames rows) d) in
+          rw (n, fitting-other k x es rows o)
+      go false e rest = rw rest (swap (onValue (look l es) (λ y. typed t y)) (rowTest (findRow k rows) rows x) (fitting rows es))
+
+  -- the keys that are there: the first one besides
+  pub present-entry : (rows : Rows) → distinctNames rows ≡ true → present rows (entry k x es) ≡ set (present rows es) (findRow k rows) true
+  unfolding present distinctNames look findRow
+  present-entry last d = refl
+  present-entry (row l q t rows) d = go (equal k l) refl (present-entry rows (and-right (newName l rows) (distinctNames rows) d))
+    where
+      go : (b : Bool) → equal k l ≡ b → present rows (entry k x es) ≡ set (present rows es) (findRow k rows) true → _≡_ {A = List Bool} (isThere (cond b (some x) (look l es)) ∷ present rows (entry k x es)) (set (isThere (look l es) ∷ present rows es) (cond b 0 (suc (findRow k rows))) true)
+      go true e rest =
+          let p : k ≡ l = equal-true k l e in
+          let o : newName k rows ≡ true = rw p (and-left (newName l rows) (distinctNames rows) d) in
+          rw (present-other k x es rows o)
+      go false e rest = rw rest
+
+  pub present-marked : (rows : Rows) → distinctNames rows ≡ true → setOf (present rows (entry k x es)) ≡ marked (rowCount rows) (setOf (present rows es)) (findRow k rows)
+  present-marked rows d = ap setOf (present-entry rows d) ∙ set-marked (present rows es) (findRow k rows) (rowCount rows) (present-length rows es)
+
+  -- the values of the rows: one is the first entry's, and its row has none in the rest
+  pub valueOf-entry : (i : ℕ) (rows : Rows) → distinctNames rows ≡ true → i < rowCount rows → valueOf i rows (entry k x es) ≡ cond (eqb i (findRow k rows)) (some x) (valueOf i rows es)
+  unfolding valueOf distinctNames look findRow rowCount
+  valueOf-entry i last d lt = absurd (omega arith)
+  valueOf-entry zero (row l q t rows) d lt = go (equal k l) refl
+    where
+      go : (b : Bool) → equal k l ≡ b → cond b (some x) (look l es) ≡ cond (eqb 0 (cond b 0 (suc (findRow k rows)))) (some x) (look l es)
+      go true e = refl
+      go false e = rw eqb·zero-suc
+  valueOf-entry (suc i) (row l q t rows) d lt = go (equal k l) refl (valueOf-entry i rows (and-right (newName l rows) (distinctNames rows) d) (omega arith))
+    where
+      go : (b : Bool) → equal k l ≡ b → valueOf i rows (entry k x es) ≡ cond (eqb i (findRow k rows)) (some x) (valueOf i rows es) → valueOf i rows (entry k x es) ≡ cond (eqb (suc i) (cond b 0 (suc (findRow k rows)))) (some x) (valueOf i rows es)
+      go true e rest =
+          let p : k ≡ l = equal-true k l e in
+          let o : newName k rows ≡ true = rw p (and-left (newName l rows) (distinctNames rows) d) in
+          rw eqb·suc-zero (valueOf-other k x es i rows o)
+      go false e rest = rw eqb·suc-suc rest
+
+  pub valueOf-fresh : (rows : Rows) → NoKey k es → valueOf (findRow k rows) rows es ≡ nothing
+  unfolding valueOf findRow
+  valueOf-fresh last f = refl
+  valueOf-fresh (row l q t rows) f = go (equal k l) refl (valueOf-fresh rows f)
+    where
+      go : (b : Bool) → equal k l ≡ b → valueOf (findRow k rows) rows es ≡ nothing → valueOf (cond b 0 (suc (findRow k rows))) (row l q t rows) es ≡ nothing
+      go true e rest = look-none l es (rw (equal-true k l e) at f)
+      go false e rest = rest
