@@ -6,7 +6,7 @@ use mathlib.Core.Option.{Option, some, none as nothing}
 use Prim.Native.Nat.{ℕ, _+_, _<_}
 use lib.Bits.{bitOr}
 use lib.Dec.{eqb, leb, ltb}
-use lib.ListN.{length, getD, set}
+use lib.ListN.{length, getD, set, replicate}
 use Rattle.heads.specs.Table.{leadTable}
 use Rattle.heads.specs.declared.Kind.{Kind}
 use Rattle.messagepack.specs.Document.{Document, Documents, Entries, count, size}
@@ -73,6 +73,10 @@ pub record NotedFrom (s : List ℕ) (places : List ℕ) (presence : ℕ) (typed 
 -- the same of the n entries from a place on
 pub record NoteSays (leads s : List ℕ) (places : List ℕ) (presence : ℕ) (typed : Bool) (n at : ℕ) (r : Fields) : Type 0 where
   pub says : leads ≡ leadTable → (es : Entries) (e : ℕ) → AtEntries s at es e → size es ≡ n → NotedFrom s places presence typed es r
+
+-- no places
+abbrev pub noPlaces : List ℕ
+noPlaces = replicate fieldCount 0
 
 -- the places with one of them put at i, if there is an i
 abbrev pub putAt : List ℕ → ℕ → ℕ → List ℕ

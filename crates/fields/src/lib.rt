@@ -4,7 +4,7 @@
 ghost use mathlib.Core.Path.{_≡_};
 ghost use mathlib.Core.Bool.{Bool, true, false, _&&_};
 ghost use Prim.Native.Nat.{ℕ, _+_, _*_, _≤_, _<_};
-ghost use lib.ListN.{length, getD, take, drop};
+ghost use lib.ListN.{length, take, drop};
 ghost use Rattle.heads.specs.Table.{leadTable};
 ghost use Rattle.messagepack.specs.Document.{Document, Entries, size};
 ghost use Rattle.messagepack.specs.Walk.{equal};
@@ -15,7 +15,7 @@ ghost use Rattle.fields.specs.Tests.{typed};
 ghost use Rattle.fields.specs.Fields.{isVersionOne, fieldsNumber};
 ghost use Rattle.fields.specs.Noted.{Noted};
 ghost use Rattle.fields.specs.Numbers.{typeTable, cellOf, nameOf, needOf, rowsFrom, typeOf, findRow, rowTest, build, covered, marked, lacking, distinctNames};
-ghost use Rattle.fields.specs.Steps.{numberOf, plainEnd, ValueSays, ItemsSay, EntriesSay, RowSays, putAt};
+ghost use Rattle.fields.specs.Steps.{numberOf, plainEnd, ValueSays, ItemsSay, EntriesSay, RowSays, noPlaces, putAt};
 use heads::Head;
 use heads::Kind;
 
@@ -115,8 +115,7 @@ fn is_version_one(file: &[u8], a: usize, m: usize) -> bool
 
 // No places.
 fn no_places() -> [usize; 39]
-    ensures long { λ r. ⌜ length r ≡ fieldCount ⌝ }
-    ensures empty { λ r. ⌜ ((i : ℕ) → getD r i 0 ≡ 0) ⌝ }
+    ensures { λ r. ⌜ r ≡ noPlaces ⌝ }
 {
     [0usize; 39]
 }
@@ -442,7 +441,8 @@ fn cell(types: &[u8; 1261], i: usize) -> usize
 
 // A byte as a larger number.
 fn wide(x: u8) -> usize
-    ensures { λ r. ⌜ r ≡ x ⌝ }
+    ensures is { λ r. ⌜ r ≡ x ⌝ }
+    ensures byte { λ r. ⌜ r < 256 ⌝ }
 {
     x as usize
 }

@@ -1,63 +1,41 @@
-use Rattle.fields.proofs.all_seen.Statement.{statement}
+-- The required rows before i are in the set, so what is left from i on decides.
+use mathlib.Core.Path.{_≡_, sym, ap, _∙_}
+use mathlib.Core.Bool.{Bool, true, false}
+use Prim.Native.Nat.{ℕ, _-_, _≤_}
+use native.Mathlib.Omega.{arith}
+use borrow.Author.Needs.{needs}
+use Rattle.fields.specs.Types.{FieldType, Rows}
+use Rattle.fields.specs.Numbers.{rowsFrom, covered, lacking, cellOf, rowAt}
+use Rattle.fields.specs.Laws.Numbers.{rowsLeft, left-all, covered-next, covered-not, covered-none}
 use Rattle.fields.proofs.all_seen.Tie as tie
-use Rattle.fields.proofs.all_seen.Reads as reads
-use Rattle.fields.proofs.all_seen.Lts as lts
-use Rattle.fields.proofs.cell.Reads as cell-reads
-use Rattle.fields.proofs.lacks.Reads as lacks-reads
+use Rattle.fields.proofs.all_seen.Statement.{statement}
 
 abbrev Inv-loop : tie.InvT-loop
-Inv-loop types seen first n rest₀ i₀ rest i = ?
+Inv-loop types seen first n rest₀ i₀ rest i = (i ≤ n) × ((f : ℕ → FieldType) → covered (rowsFrom f n first) seen ≡ covered (rowsLeft f n first i) rest)
 
 abbrev μ-loop : tie.MeasureT-loop
-μ-loop types seen first n rest₀ i₀ rest i = ?
+μ-loop types seen first n rest₀ i₀ rest i = n - i
 
--- src/lib.rt:414:5
 loop-holds : tie.Need-loop-holds Inv-loop μ-loop
-loop-holds c = ?
+loop-holds c = (omega arith, λ f. ap (λ (x : Rows). covered x (c .args .seen)) (left-all f (c .args .n) (c .args .first)))
 
--- src/lib.rt:415:31
-add-cell : tie.Need-add-cell Inv-loop μ-loop
-add-cell c = ?
-
--- src/lib.rt:415:30
-mul-cell : tie.Need-mul-cell Inv-loop μ-loop
-mul-cell c = ?
-
--- src/lib.rt:415:30
-add-cell-2 : tie.Need-add-cell-2 Inv-loop μ-loop
-add-cell-2 c = ?
-
--- src/lib.rt:415:30
-add-cell-3 : tie.Need-add-cell-3 Inv-loop μ-loop
-add-cell-3 c = ?
-
--- src/lib.rt:415:18
-cell-requires : tie.Need-cell-requires Inv-loop μ-loop
-cell-requires c κs = ?
-
--- src/lib.rt:415:12
-lacks-requires : tie.Need-lacks-requires Inv-loop μ-loop
-lacks-requires c κs = ?
-
--- src/lib.rt:416:13
 returns : tie.Need-returns Inv-loop μ-loop
-returns c = ?
+returns c =
+    let a = c .before .before .before .before .before .args in
+    let l = c .before .before .before .before .loop in
+    λ f. sym (l .inv .1 f ∙ covered-not f (a .n) (a .first) (l .i) (l .rest) (c .before .before .before .loop-test .taken) (ap (λ (x : ℕ). lacking x (l .rest)) (sym (c .before .before .cell .ensures .0)) ∙ sym (c .before .lacks .ensures) ∙ c .if1 .taken))
 
--- src/lib.rt:419:9
-add-i : tie.Need-add-i Inv-loop μ-loop
-add-i c = ?
-
--- src/lib.rt:414:5
-loop-less : tie.Need-loop-less Inv-loop μ-loop
-loop-less c = ?
-
--- src/lib.rt:414:5
 loop-again : tie.Need-loop-again Inv-loop μ-loop
-loop-again c = ?
+loop-again c =
+    let a = c .before .before .before .before .before .args in
+    let l = c .before .before .before .before .loop in
+    (omega arith, λ f. l .inv .1 f ∙ covered-next f (a .n) (a .first) (l .i) (l .rest) (c .before .before .before .loop-test .taken) (ap (λ (x : ℕ). lacking x (l .rest)) (sym (c .before .before .cell .ensures .0)) ∙ sym (c .before .lacks .ensures) ∙ c .if1 .left))
 
--- src/lib.rt:408:1
 returns-2 : tie.Need-returns-2 Inv-loop μ-loop
-returns-2 c = ?
+returns-2 c =
+    let a = c .before .before .args in
+    let l = c .before .loop in
+    λ f. sym (l .inv .1 f ∙ covered-none f (a .n) (a .first) (l .i) (l .rest) (c .loop-test .left))
 
 pub all-seen-spec : {M : Type 1} → statement M
 all-seen-spec =
@@ -66,14 +44,14 @@ all-seen-spec =
     Inv-loop
     μ-loop
     loop-holds
-    add-cell
-    mul-cell
-    add-cell-2
-    add-cell-3
-    cell-requires
-    lacks-requires
+    (λ c. search needs)
+    (λ c. search needs)
+    (λ c. search needs)
+    (λ c. search needs)
+    (λ c κs. search needs)
+    (λ c κs. search needs)
     returns
-    add-i
-    loop-less
+    (λ c. search needs)
+    (λ c. search needs)
     loop-again
     returns-2)

@@ -1,25 +1,27 @@
+-- A byte inside the table is read; past its end there is none.
+use mathlib.Core.List.{List}
+use mathlib.Core.Path.{_≡_, sym, ap, _∙_}
+use Prim.Native.Nat.{ℕ, _≤_}
+use native.Mathlib.Omega.{arith}
+use lib.ListN.{length, getD, List·getD-eq-default}
+use lib.Dec.{lit<}
 use borrow.Author.Needs.{needs}
+use Rattle.fields.specs.Numbers.{typeTable, cellOf}
+use Rattle.fields.specs.Laws.Numbers.{table-length}
 use Rattle.fields.proofs.cell.Statement.{statement}
 use Rattle.fields.proofs.cell.Tie as tie
-use Rattle.fields.proofs.cell.Reads as reads
-use Rattle.fields.proofs.cell.Lts as lts
-use Rattle.fields.proofs.wide.Reads as wide-reads
 
--- src/lib.rt:440:24
-element-copy-out-wide : tie.Need-element-copy-out-wide
-element-copy-out-wide c = search needs
-
--- src/lib.rt:440:19
-wide-requires : tie.Need-wide-requires
-wide-requires c κs = search needs
-
--- src/lib.rt:435:1
 returns : tie.Need-returns
-returns c = ?
+unfolding cellOf
+returns c =
+    let i = c .before .before .before .args .i in
+    (c .wide .ensures .0 ∙ ap (λ (l : List ℕ). getD l i 0) (c .before .before .before .pre), c .wide .ensures .1)
 
--- src/lib.rt:435:1
 returns-2 : tie.Need-returns-2
-returns-2 c = ?
+unfolding cellOf
+returns-2 c =
+    let l : length typeTable ≤ c .before .args .i = omega (arith, table-length) in
+    (sym (List·getD-eq-default typeTable 0 l), lit< tt)
 
 pub cell-spec : {M : Type 1} → statement M
-cell-spec = tie.close (tie.spec element-copy-out-wide wide-requires returns returns-2)
+cell-spec = tie.close (tie.spec (λ c. search needs) (λ c κs. search needs) returns returns-2)

@@ -1,79 +1,49 @@
-use Rattle.fields.proofs.is_name.Statement.{statement}
+-- The lengths are compared first; then what is left to compare decides.
+use mathlib.Core.Path.{_≡_, sym, refl, _∙_}
+use mathlib.Core.List.{List}
+use Prim.Native.Nat.{ℕ, _+_, _-_, _≤_}
+use native.Mathlib.Omega.{arith}
+use lib.ListN.{take, drop}
+use borrow.Author.Needs.{needs}
+use Rattle.messagepack.specs.Walk.{equal}
+use Rattle.fields.specs.Numbers.{cellOf, rowAt, nameOf}
+use Rattle.fields.specs.Laws.Numbers.{name-long, name-next, name-not, name-end}
 use Rattle.fields.proofs.is_name.Tie as tie
-use Rattle.fields.proofs.is_name.Reads as reads
-use Rattle.fields.proofs.is_name.Lts as lts
-use Rattle.fields.proofs.cell.Reads as cell-reads
-use Rattle.fields.proofs.wide.Reads as wide-reads
+use Rattle.fields.proofs.is_name.Statement.{statement}
 
 abbrev Inv-loop : tie.InvT-loop
-Inv-loop types file a m row start i₀ i = ?
+Inv-loop types file a m row start i₀ i = (i ≤ m) × (equal (take m (drop a file)) (nameOf row) ≡ equal (drop i (take m (drop a file))) (drop i (nameOf row)))
 
 abbrev μ-loop : tie.MeasureT-loop
-μ-loop types file a m row start i₀ i = ?
+μ-loop types file a m row start i₀ i = m - i
 
--- src/lib.rt:393:17
-mul-start : tie.Need-mul-start Inv-loop μ-loop
-mul-start c = ?
-
--- src/lib.rt:393:17
-add-start : tie.Need-add-start Inv-loop μ-loop
-add-start c = ?
-
--- src/lib.rt:394:13
-cell-requires : tie.Need-cell-requires Inv-loop μ-loop
-cell-requires c κs = ?
-
--- src/lib.rt:395:9
 returns : tie.Need-returns Inv-loop μ-loop
-returns c = ?
+returns c =
+    let a = c .before .before .before .args in
+    sym (name-long (a .file .now) (a .a) (a .m) (a .row) (c .before .before .before .pre .1 .0) (λ e. c .if1 .taken (e ∙ sym (c .before .cell .ensures .0))))
 
--- src/lib.rt:398:5
 loop-holds : tie.Need-loop-holds Inv-loop μ-loop
-loop-holds c = ?
+loop-holds c = (omega arith, refl)
 
--- src/lib.rt:399:22
-add-wide : tie.Need-add-wide Inv-loop μ-loop
-add-wide c = ?
-
--- src/lib.rt:399:17
-shared-slice-read-wide : tie.Need-shared-slice-read-wide Inv-loop μ-loop
-shared-slice-read-wide c = ?
-
--- src/lib.rt:399:12
-wide-requires : tie.Need-wide-requires Inv-loop μ-loop
-wide-requires c κs = ?
-
--- src/lib.rt:399:45
-add-cell : tie.Need-add-cell Inv-loop μ-loop
-add-cell c = ?
-
--- src/lib.rt:399:45
-add-cell-2 : tie.Need-add-cell-2 Inv-loop μ-loop
-add-cell-2 c = ?
-
--- src/lib.rt:399:33
-cell-requires-2 : tie.Need-cell-requires-2 Inv-loop μ-loop
-cell-requires-2 c κs = ?
-
--- src/lib.rt:400:13
 returns-2 : tie.Need-returns-2 Inv-loop μ-loop
-returns-2 c = ?
+returns-2 c =
+    let a = c .before .before .before .before .before .before .before .before .before .args in
+    let i = c .before .before .before .before .before .loop .i in
+    let same : a .m ≡ cellOf (rowAt (a .row)) = c .before .before .before .before .before .before .if1 .left ∙ c .before .before .before .before .before .before .before .cell .ensures .0 in
+    sym (c .before .before .before .before .before .loop .inv .1 ∙ name-not (a .file .now) (a .a) (a .m) (a .row) (c .before .before .before .before .before .before .before .before .before .pre .1 .0) same i (c .before .before .before .before .loop-test .taken) (λ e. c .if2 .taken (c .before .before .wide .ensures .0 ∙ e ∙ sym (c .before .cell2 .ensures .0))))
 
--- src/lib.rt:402:9
-add-i : tie.Need-add-i Inv-loop μ-loop
-add-i c = ?
-
--- src/lib.rt:398:5
-loop-less : tie.Need-loop-less Inv-loop μ-loop
-loop-less c = ?
-
--- src/lib.rt:398:5
 loop-again : tie.Need-loop-again Inv-loop μ-loop
-loop-again c = ?
+loop-again c =
+    let a = c .before .before .before .before .before .before .before .before .before .args in
+    let i = c .before .before .before .before .before .loop .i in
+    let same : a .m ≡ cellOf (rowAt (a .row)) = c .before .before .before .before .before .before .if1 .left ∙ c .before .before .before .before .before .before .before .cell .ensures .0 in
+    (omega arith, c .before .before .before .before .before .loop .inv .1 ∙ name-next (a .file .now) (a .a) (a .m) (a .row) (c .before .before .before .before .before .before .before .before .before .pre .1 .0) same i (c .before .before .before .before .loop-test .taken) (sym (c .before .before .wide .ensures .0) ∙ c .if2 .left ∙ c .before .cell2 .ensures .0))
 
--- src/lib.rt:389:1
 returns-3 : tie.Need-returns-3 Inv-loop μ-loop
-returns-3 c = ?
+returns-3 c =
+    let a = c .before .before .before .before .before .args in
+    let same : a .m ≡ cellOf (rowAt (a .row)) = c .before .before .if1 .left ∙ c .before .before .before .cell .ensures .0 in
+    sym (c .before .loop .inv .1 ∙ name-end (a .file .now) (a .a) (a .m) (a .row) (c .before .before .before .before .before .pre .1 .0) same (c .before .loop .i) (c .loop-test .left))
 
 pub is-name-spec : {M : Type 1} → statement M
 is-name-spec =
@@ -81,19 +51,19 @@ is-name-spec =
     (tie.spec
     Inv-loop
     μ-loop
-    mul-start
-    add-start
-    cell-requires
+    (λ c. search needs)
+    (λ c. search needs)
+    (λ c κs. search needs)
     returns
     loop-holds
-    add-wide
-    shared-slice-read-wide
-    wide-requires
-    add-cell
-    add-cell-2
-    cell-requires-2
+    (λ c. search needs)
+    (λ c. search needs)
+    (λ c κs. search needs)
+    (λ c. search needs)
+    (λ c. search needs)
+    (λ c κs. search needs)
     returns-2
-    add-i
-    loop-less
+    (λ c. search needs)
+    (λ c. search needs)
     loop-again
     returns-3)

@@ -1,60 +1,39 @@
+-- The three bytes are tested one after another.
+use mathlib.Core.Path.{sym}
 use borrow.Author.Needs.{needs}
-use Rattle.fields.proofs.is_version_one.Statement.{statement}
+use borrow.Author.Tests.{eq-eqb, ne-eqb, le-leb, lt-leb}
+use Rattle.fields.specs.Laws.Fields.{version-short, version-bytes}
 use Rattle.fields.proofs.is_version_one.Tie as tie
-use Rattle.fields.proofs.is_version_one.Reads as reads
-use Rattle.fields.proofs.is_version_one.Lts as lts
+use Rattle.fields.proofs.is_version_one.Statement.{statement}
 
--- src/lib.rt:101:9
 returns : tie.Need-returns
-returns c = ?
+returns c =
+    let a = c .before .args in
+    sym (version-short (a .file .now) (a .a) (a .m) (c .if1 .taken))
 
--- src/lib.rt:103:8
-shared-slice-read-if2 : tie.Need-shared-slice-read-if2
-shared-slice-read-if2 c = search needs
-
--- src/lib.rt:104:9
 returns-2 : tie.Need-returns-2
-returns-2 c = ?
+returns-2 c = rw (version-bytes _ _ _ (c .before .before .if1 .left), ne-eqb _ _ (c .if2 .taken))
 
--- src/lib.rt:106:13
-add-if3 : tie.Need-add-if3
-add-if3 c = search needs
-
--- src/lib.rt:106:8
-shared-slice-read-if3 : tie.Need-shared-slice-read-if3
-shared-slice-read-if3 c = search needs
-
--- src/lib.rt:107:9
 returns-3 : tie.Need-returns-3
-returns-3 c = ?
+returns-3 c = rw (version-bytes _ _ _ (c .before .before .before .before .if1 .left), eq-eqb _ _ (c .before .before .if2 .left), ne-eqb _ _ (c .if3 .taken))
 
--- src/lib.rt:109:22
-add-digit : tie.Need-add-digit
-add-digit c = search needs
-
--- src/lib.rt:109:17
-shared-slice-read-digit : tie.Need-shared-slice-read-digit
-shared-slice-read-digit c = search needs
-
--- src/lib.rt:111:9
 returns-4 : tie.Need-returns-4
-returns-4 c = ?
+returns-4 c = rw (version-bytes _ _ _ (c .before .before .before .before .before .before .if1 .left), eq-eqb _ _ (c .before .before .before .before .if2 .left), eq-eqb _ _ (c .before .before .if3 .left), lt-leb _ _ (c .if4 .taken))
 
--- src/lib.rt:96:1
 returns-5 : tie.Need-returns-5
-returns-5 c = ?
+returns-5 c = rw (version-bytes _ _ _ (c .before .before .before .before .before .before .if1 .left), eq-eqb _ _ (c .before .before .before .before .if2 .left), eq-eqb _ _ (c .before .before .if3 .left), le-leb _ _ (c .if4 .left))
 
 pub is-version-one-spec : {M : Type 1} → statement M
 is-version-one-spec =
     tie.close
     (tie.spec
     returns
-    shared-slice-read-if2
+    (λ c. search needs)
     returns-2
-    add-if3
-    shared-slice-read-if3
+    (λ c. search needs)
+    (λ c. search needs)
     returns-3
-    add-digit
-    shared-slice-read-digit
+    (λ c. search needs)
+    (λ c. search needs)
     returns-4
     returns-5)

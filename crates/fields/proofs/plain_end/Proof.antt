@@ -1,37 +1,36 @@
+-- By the tests, one after another.
+use Prim.Native.Nat.{_+_, _<_, _≤_}
+use native.Mathlib.Omega.{arith}
+use lib.ListN.{length}
 use borrow.Author.Needs.{needs}
+use borrow.Author.Tests.{eq-eqb, ne-eqb, lt-ltb, le-ltb, le-leb, lt-leb}
 use Rattle.fields.proofs.plain_end.Statement.{statement}
 use Rattle.fields.proofs.plain_end.Tie as tie
-use Rattle.fields.proofs.plain_end.Reads as reads
-use Rattle.fields.proofs.plain_end.Lts as lts
 
--- src/lib.rt:342:9
 returns : tie.Need-returns
-returns c = ?
+returns c = rw (ne-eqb _ _ (c .if1 .taken))
 
--- src/lib.rt:345:9
 returns-2 : tie.Need-returns-2
-returns-2 c = ?
+returns-2 c = rw (eq-eqb _ _ (c .before .if1 .left), lt-ltb _ _ (c .if2 .taken))
 
--- src/lib.rt:348:9
 returns-3 : tie.Need-returns-3
-returns-3 c = ?
+returns-3 c =
+    let a = c .before .before .before .args in
+    let h : length (a .file .now) < a .p + a .n = omega arith in
+    rw (eq-eqb _ _ (c .before .before .if1 .left), le-ltb _ _ (c .before .if2 .left), lt-leb _ _ h)
 
--- src/lib.rt:350:8
-sub-if4 : tie.Need-sub-if4
-sub-if4 c = search needs
-
--- src/lib.rt:351:9
 returns-4 : tie.Need-returns-4
-returns-4 c = ?
+returns-4 c =
+    let a = c .before .before .before .before .args in
+    let h : length (a .file .now) < a .p + a .n = omega arith in
+    rw (eq-eqb _ _ (c .before .before .before .if1 .left), le-ltb _ _ (c .before .before .if2 .left), lt-leb _ _ h)
 
--- src/lib.rt:353:17
-add-t7 : tie.Need-add-t7
-add-t7 c = search needs
-
--- src/lib.rt:338:1
 returns-5 : tie.Need-returns-5
-returns-5 c = ?
+returns-5 c =
+    let a = c .before .before .before .before .args in
+    let h : a .p + a .n ≤ length (a .file .now) = omega arith in
+    rw (eq-eqb _ _ (c .before .before .before .if1 .left), le-ltb _ _ (c .before .before .if2 .left), le-leb _ _ h)
 
 pub plain-end-spec : {M : Type 1} → statement M
 plain-end-spec =
-    tie.close (tie.spec returns returns-2 returns-3 sub-if4 returns-4 add-t7 returns-5)
+    tie.close (tie.spec returns returns-2 returns-3 (λ c. search needs) returns-4 (λ c. search needs) returns-5)

@@ -1,24 +1,17 @@
+-- A place is put at a field's number, and nowhere past the last.
+use Prim.Native.Nat.{_≤_}
+use native.Mathlib.Omega.{arith}
+use lib.Seq.{set-out}
+use lib.ListN.{length}
 use borrow.Author.Needs.{needs}
 use Rattle.fields.proofs.put_place.Statement.{statement}
 use Rattle.fields.proofs.put_place.Tie as tie
-use Rattle.fields.proofs.put_place.Reads as reads
-use Rattle.fields.proofs.put_place.Lts as lts
 
--- src/lib.rt:130:9
-mul-places : tie.Need-mul-places
-mul-places c = search needs
-
--- src/lib.rt:130:9
-element-write-places : tie.Need-element-write-places
-element-write-places c = search needs
-
--- src/lib.rt:125:1
-returns : tie.Need-returns
-returns c = search needs
-
--- src/lib.rt:125:1
 returns-2 : tie.Need-returns-2
-returns-2 c = ?
+returns-2 c =
+    let a = c .before .args in
+    let h : length (a .places .now) ≤ a .row = omega arith in
+    rw (set-out (a .places .now) (a .row) (a .place) h)
 
 pub put-place-spec : {M : Type 1} → statement M
-put-place-spec = tie.close (tie.spec mul-places element-write-places returns returns-2)
+put-place-spec = tie.close (tie.spec (λ c. search needs) (λ c. search needs) (λ c. search needs) returns-2)

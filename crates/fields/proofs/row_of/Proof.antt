@@ -1,46 +1,42 @@
-use Rattle.fields.proofs.row_of.Statement.{statement}
+-- No row before i has the name, so what is left from i on decides.
+use mathlib.Core.Path.{_≡_, sym, ap, _∙_}
+use Prim.Native.Nat.{ℕ, _+_, _-_, _≤_}
+use native.Mathlib.Omega.{arith}
+use native.Mathlib.Nat.{zero-add}
+use lib.ListN.{take, drop}
+use borrow.Author.Needs.{needs}
+use Rattle.fields.specs.Types.{FieldType}
+use Rattle.fields.specs.Numbers.{findRow, rowsFrom}
+use Rattle.fields.specs.Laws.Numbers.{rowsLeft, left-all, found-here, found-later, found-none}
 use Rattle.fields.proofs.row_of.Tie as tie
-use Rattle.fields.proofs.row_of.Reads as reads
-use Rattle.fields.proofs.row_of.Lts as lts
-use Rattle.fields.proofs.is_name.Reads as is-name-reads
+use Rattle.fields.proofs.row_of.Statement.{statement}
 
 abbrev Inv-loop : tie.InvT-loop
-Inv-loop types file a m first n i₀ i = ?
+Inv-loop types file a m first n i₀ i = (i ≤ n) × ((f : ℕ → FieldType) → findRow (take m (drop a file)) (rowsFrom f n first) ≡ i + findRow (take m (drop a file)) (rowsLeft f n first i))
 
 abbrev μ-loop : tie.MeasureT-loop
-μ-loop types file a m first n i₀ i = ?
+μ-loop types file a m first n i₀ i = n - i
 
--- src/lib.rt:379:5
 loop-holds : tie.Need-loop-holds Inv-loop μ-loop
-loop-holds c = ?
+loop-holds c =
+    let a = c .before .args in
+    (omega arith, λ f. ap (findRow (take (a .m) (drop (a .a) (a .file .now)))) (left-all f (a .n) (a .first)) ∙ sym (zero-add _))
 
--- src/lib.rt:380:39
-add-is-name : tie.Need-add-is-name Inv-loop μ-loop
-add-is-name c = ?
-
--- src/lib.rt:380:12
-is-name-requires : tie.Need-is-name-requires Inv-loop μ-loop
-is-name-requires c κs = ?
-
--- src/lib.rt:381:13
 returns : tie.Need-returns Inv-loop μ-loop
-returns c = ?
+returns c =
+    let a = c .before .before .before .before .before .args in
+    λ f. found-here f (a .n) (a .first) (c .before .before .before .loop .i) _ (c .before .before .loop-test .taken) (sym (c .before .is-name .ensures) ∙ c .if1 .taken) ∙ sym (c .before .before .before .loop .inv .1 f)
 
--- src/lib.rt:383:9
-add-i : tie.Need-add-i Inv-loop μ-loop
-add-i c = ?
-
--- src/lib.rt:379:5
-loop-less : tie.Need-loop-less Inv-loop μ-loop
-loop-less c = ?
-
--- src/lib.rt:379:5
 loop-again : tie.Need-loop-again Inv-loop μ-loop
-loop-again c = ?
+loop-again c =
+    let a = c .before .before .before .before .before .args in
+    (omega arith, λ f. c .before .before .before .loop .inv .1 f ∙ found-later f (a .n) (a .first) (c .before .before .before .loop .i) _ (c .before .before .loop-test .taken) (sym (c .before .is-name .ensures) ∙ c .if1 .left))
 
--- src/lib.rt:374:1
 returns-2 : tie.Need-returns-2 Inv-loop μ-loop
-returns-2 c = ?
+returns-2 c =
+    let a = c .before .before .before .args in
+    let e : a .n ≡ c .before .loop .i = omega arith in
+    λ f. e ∙ sym (c .before .loop .inv .1 f ∙ found-none f (a .n) (a .first) (c .before .loop .i) _ (c .loop-test .left))
 
 pub row-of-spec : {M : Type 1} → statement M
 row-of-spec =
@@ -49,10 +45,10 @@ row-of-spec =
     Inv-loop
     μ-loop
     loop-holds
-    add-is-name
-    is-name-requires
+    (λ c. search needs)
+    (λ c κs. search needs)
     returns
-    add-i
-    loop-less
+    (λ c. search needs)
+    (λ c. search needs)
     loop-again
     returns-2)

@@ -1,11 +1,13 @@
+-- The table is made of the rows of Table.antt, which is computed once over all of it.
+use mathlib.Core.Path.{refl}
+use Rattle.fields.specs.Numbers.{rowCells, typeTable}
+use Rattle.fields.specs.Table.{groupRows, transformRows, assemblyRows, entityRows, named}
 use Rattle.fields.proofs.types.Statement.{statement}
 use Rattle.fields.proofs.types.Tie as tie
-use Rattle.fields.proofs.types.Reads as reads
-use Rattle.fields.proofs.types.Lts as lts
 
--- src/lib.rt:451:1
 returns : tie.Need-returns
-returns c = ?
+unfolding rowCells typeTable named groupRows transformRows assemblyRows entityRows
+returns c = refl
 
 pub types-spec : {M : Type 1} → statement M
 types-spec = tie.close (tie.spec returns)

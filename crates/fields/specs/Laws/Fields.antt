@@ -4,10 +4,12 @@ use mathlib.Core.Path.{_≡_, refl, sym, ap, _∙_}
 use mathlib.Core.Bool.{Bool, true, false, cond, _&&_}
 use mathlib.Core.List.{List, [], _∷_}
 use mathlib.Core.Logic.{_↔_}
-use Prim.Native.Nat.{ℕ, zero, suc}
+use Prim.Native.Nat.{ℕ, zero, suc, _+_, _<_, _≤_}
 use native.Mathlib.Omega.{arith}
+use native.Mathlib.Nat.{add-zero}
 use lib.Dec.{eqb, leb}
-use lib.ListN.{getD}
+use lib.ListN.{getD, take, drop, length-take, List·getD-eq-default}
+use lib.Seq.{getD-take, getD-drop}
 use borrow.Author.Tests.{eqb-true, leb-true, le-leb}
 use Rattle.refusal.specs.Table.{accepted, fieldMissing, fieldType, versionNot1}
 use Rattle.messagepack.specs.Document.{Entries}
@@ -36,6 +38,30 @@ version-test t v = rw (v .is, le-leb 0x30 (v .digit) (v .low), le-leb (v .digit)
 
 pub version-exactly : (t : List ℕ) → (isVersionOne t ≡ true) ↔ VersionOne t
 version-exactly t = (test-version t, version-test t)
+
+-- the test on a part of a file, byte by byte
+
+and-none : (a b c d : Bool) → c ≡ false → a && (b && (c && d)) ≡ false
+and-none true true c d e = rw e
+and-none true false c d e = refl
+and-none false b c d e = refl
+
+module _ (s : List ℕ) (a m : ℕ) where
+  pub version-short : m < 3 → isVersionOne (take m (drop a s)) ≡ false
+  unfolding isVersionOne
+  version-short lt =
+      let l = length-take m (drop a s) in
+      let z : getD (take m (drop a s)) 2 0 ≡ 0 = List·getD-eq-default (take m (drop a s)) 0 (omega arith) in
+      and-none (eqb (getD (take m (drop a s)) 0 0) 0x31) (eqb (getD (take m (drop a s)) 1 0) 0x2e) (leb 0x30 (getD (take m (drop a s)) 2 0)) (leb (getD (take m (drop a s)) 2 0) 0x39) (rw z)
+
+  byte : (i : ℕ) → i < m → getD (take m (drop a s)) i 0 ≡ getD s (a + i) 0
+  byte i lt = getD-take m (drop a s) i 0 lt ∙ getD-drop a s i 0
+
+  pub version-bytes : 3 ≤ m → isVersionOne (take m (drop a s)) ≡ (eqb (getD s a 0) 0x31 && (eqb (getD s (a + 1) 0) 0x2e && (leb 0x30 (getD s (a + 2) 0) && leb (getD s (a + 2) 0) 0x39)))
+  unfolding isVersionOne
+  version-bytes le =
+      let z : getD (take m (drop a s)) 0 0 ≡ getD s a 0 = byte 0 (omega arith) ∙ ap (λ (i : ℕ). getD s i 0) (add-zero a) in
+      rw (z, byte 1 (omega arith), byte 2 (omega arith))
 
 -- no number exactly if all is right
 
