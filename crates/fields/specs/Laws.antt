@@ -3,3 +3,4 @@ pub mod Fields
 pub mod Sets
 pub mod Rows
 pub mod Numbers
+pub mod Steps

@@ -1,0 +1,355 @@
+-- What stands at a place has a type, by its head and by what stands inside: a law for each way on.
+-- Assumes nothing.
+use mathlib.Core.Path.{_≡_, refl, sym, ap, ap₂, subst, _∙_}
+use mathlib.Core.Bool.{Bool, true, false, cond, _&&_, and-comm}
+use mathlib.Core.List.{List, [], _∷_}
+use mathlib.Core.Option.{Option, some, none as nothing}
+use Prim.Native.Nat.{ℕ, zero, suc, _+_, _-_, _^_, _<_, _≤_}
+use native.Mathlib.Omega.{arith}
+use native.Mathlib.Nat.{add-zero}
+use lib.Bits.{bitOr, or-zero-r}
+use lib.Dec.{eqb, leb, ltb}
+use lib.ListN.{length, getD, take, drop}
+use borrow.Author.Tests.{eq-eqb, ne-eqb, le-leb}
+use Rattle.heads.specs.Head.{kindAt, headAt}
+use Rattle.heads.specs.Table.{leadTable}
+use Rattle.heads.specs.Laws.Head.{Told}
+use Rattle.heads.specs.declared.Head.{Head}
+use Rattle.heads.specs.declared.Kind.{Kind}
+use Rattle.messagepack.specs.Document.{Document, Documents, Entries, integer, float, string, binary, array, map, none, item, empty, entry, count, size, WritesAll, WritesEntries}
+use Rattle.messagepack.specs.Rules.{NoKey}
+use Rattle.values.specs.Places.{At, AtAll, AtEntries, TextAt}
+use Rattle.values.specs.Standing.{Standing}
+use Rattle.values.specs.Laws.Places.{at-inside, at-standing, OpenArray, open-array, OpenMap, open-map, OpenText, open-string, open-binary, open-float, OpenInteger, unsigned, signed, open-integer, OpenItem, open-item, OpenEntry, open-entry}
+use Rattle.values.specs.declared.Part.{Part}
+use Rattle.fields.specs.Types.{FieldType, Rows, plain, arrayOf, exactly, mapWith, last, row, kindNumber}
+use Rattle.fields.specs.Tests.{onArray, onMap, all, have, typed, fitting}
+use Rattle.fields.specs.Fields.{setOf, present}
+use Rattle.fields.specs.Numbers.{findRow, rowTest, covered, marked, distinctNames}
+use Rattle.fields.specs.Steps.{endsIf, numberOf, plainEnd, ValueSays, ItemsSay, EntriesSay}
+use Rattle.fields.specs.declared.Typed.{Typed}
+use Rattle.fields.specs.Laws.Sets.{or-later, present-none, covered-have}
+use Rattle.fields.specs.Laws.Rows.{rowCount, fitting-none, fitting-entry, present-marked}
+
+-- a document's head, and its kind by it
+
+pub record Headed (s : List ℕ) (at : ℕ) : Type 0 where
+  pub n : ℕ
+  pub p : ℕ
+  pub is : headAt s at ≡ Head.At n p
+
+abbrev told-head : {s : List ℕ} {at : ℕ} {k : Kind} {n p : ℕ} → Told s at k n p → Headed s at
+told-head {n = n} {p = p} t = record { n = n; p = p; is = t .head }
+
+head-integer : {s : List ℕ} {at : ℕ} {v : _} {e : ℕ} → OpenInteger s at v e → Headed s at
+head-integer (unsigned n t q) = told-head t
+head-integer (signed k n t q l m i) = told-head t
+
+pub head-there : {s : List ℕ} {at : ℕ} (x : Document) {e : ℕ} → At s at x e → Headed s at
+head-there (integer v) a = head-integer (open-integer a)
+head-there (float bits) a = told-head (open-float a)
+head-there (string t) a = told-head (open-string a .told)
+head-there (binary t) a = told-head (open-binary a .told)
+head-there (array ds) a = told-head (open-array a .told)
+head-there (map es) a = told-head (open-map a .told)
+
+kind-integer : {s : List ℕ} {at : ℕ} {v : _} {e : ℕ} → OpenInteger s at v e → numberOf (kindAt s at) ≡ 1
+kind-integer (unsigned n t q) = ap numberOf (t .kind)
+kind-integer (signed k n t q l m i) = ap numberOf (t .kind)
+
+pub kind-there : {s : List ℕ} {at : ℕ} (x : Document) {e : ℕ} → At s at x e → numberOf (kindAt s at) ≡ kindNumber x
+kind-there (integer v) a = kind-integer (open-integer a)
+kind-there (float bits) a = ap numberOf (open-float a .kind)
+kind-there (string t) a = ap numberOf (open-string a .told .kind)
+kind-there (binary t) a = ap numberOf (open-binary a .told .kind)
+kind-there (array ds) a = ap numberOf (open-array a .told .kind)
+kind-there (map es) a = ap numberOf (open-map a .told .kind)
+
+-- a value that holds no others ends with its head, or with its body
+
+with-head : (b : Bool) {p e : ℕ} → p ≡ e → cond b (Typed.Ends p) Typed.Wrong ≡ endsIf b e
+with-head true q = ap Typed.Ends q
+with-head false q = refl
+
+module _ (s : List ℕ) (at n p : ℕ) (h : headAt s at ≡ Head.At n p) where
+  integer-end : {v : _} {e : ℕ} → OpenInteger s at v e → p ≡ e
+  integer-end (unsigned m t q) = let k = t .head in cc
+  integer-end (signed k m t q l z i) = let g = t .head in cc
+
+  with-body : {k : Kind} {t : List ℕ} {e : ℕ} (b : Bool) → OpenText s at k t e → cond b (cond (leb (p + n) (length s)) (Typed.Ends (p + n)) Typed.Wrong) Typed.Wrong ≡ endsIf b e
+  with-body {t = t} {e = e} true o =
+      let g = o .told .head in
+      let i : n ≡ length t = cc in
+      let j : p ≡ o .q = cc in
+      let l : p + n ≤ length s = omega (arith, o .inside) in
+      let f : p + n ≡ e = omega (arith, o .ends) in
+      rw (le-leb (p + n) (length s) l) (ap Typed.Ends f)
+  with-body false o = refl
+
+  plain-of : (wanted : ℕ) → wanted ≤ 4 → (x : Document) {e : ℕ} → At s at x e → plainEnd (length s) (kindNumber x) wanted n p ≡ endsIf (eqb (kindNumber x) wanted) e
+  plain-of w le (integer v) a = with-head (eqb 1 w) (integer-end (open-integer a))
+  plain-of w le (float bits) a = with-head (eqb 2 w) (let g = open-float a .head in cc)
+  plain-of w le (string t) a = with-body (eqb 3 w) (open-string a)
+  plain-of w le (binary t) a = with-body (eqb 4 w) (open-binary a)
+  plain-of w le (array ds) a = rw (ne-eqb 5 w (λ e. omega arith))
+  plain-of w le (map es) a = rw (ne-eqb 6 w (λ e. omega arith))
+
+-- the head at a place holds n and ends at p, and k is the number of its kind, by a table of lead bytes that is lent
+pub record HeadRead (leads s : List ℕ) (at n p k : ℕ) : Type 0 where
+  pub head : leads ≡ leadTable → headAt s at ≡ Head.At n p
+  pub kind : leads ≡ leadTable → numberOf (kindAt s at) ≡ k
+
+pub head-read : (leads s : List ℕ) (at : ℕ) {n p k : ℕ} {h : Head} {kind : Kind} → (leads ≡ leadTable → h ≡ headAt s at) → h ≡ Head.At n p → (leads ≡ leadTable → kind ≡ kindAt s at) → k ≡ numberOf kind → HeadRead leads s at n p k
+head-read leads s at r g rk gk = record { head = λ le. sym (r le) ∙ g; kind = λ le. ap numberOf (sym (rk le)) ∙ sym gk }
+
+-- no document has a head that is cut
+pub value-cut : (leads s : List ℕ) (at : ℕ) (f : Document → Bool) {h : Head} → (leads ≡ leadTable → h ≡ headAt s at) → h ≡ Head.Cut → ValueSays leads s f at Typed.Wrong
+value-cut leads s at f r c = record { says = λ le x e a. let d = head-there x a in let i = r le in let j = d .is in cc }
+
+-- no document has the type 0
+pub nothing-says : (leads s : List ℕ) (at : ℕ) (t : FieldType) → t ≡ plain 0 → ValueSays leads s (typed t) at Typed.Wrong
+unfolding typed
+nothing-says leads s at t q = record { says = λ le x e a. rw (q, ne-eqb (kindNumber x) 0 (some-kind x)) }
+  where
+    some-kind : (x : Document) → kindNumber x ≡ 0 → ⊥
+    some-kind (integer v) h = omega (arith, h)
+    some-kind (float v) h = omega (arith, h)
+    some-kind (string v) h = omega (arith, h)
+    some-kind (binary v) h = omega (arith, h)
+    some-kind (array v) h = omega (arith, h)
+    some-kind (map v) h = omega (arith, h)
+
+array-not : (f : Documents → Bool) (x : Document) → (kindNumber x ≡ 5 → ⊥) → onArray x f ≡ false
+array-not f (integer v) d = refl
+array-not f (float bits) d = refl
+array-not f (string t) d = refl
+array-not f (binary t) d = refl
+array-not f (array ds) d = absurd (d refl)
+array-not f (map es) d = refl
+
+map-not : (f : Entries → Bool) (x : Document) → (kindNumber x ≡ 6 → ⊥) → onMap x f ≡ false
+map-not f (integer v) d = refl
+map-not f (float bits) d = refl
+map-not f (string t) d = refl
+map-not f (binary t) d = refl
+map-not f (array ds) d = refl
+map-not f (map es) d = absurd (d refl)
+
+-- the values of an array that is there, and the entries of a map
+
+pub record Items (s : List ℕ) (x : Document) (n p e : ℕ) : Type 0 where
+  pub ds : Documents
+  pub is : x ≡ array ds
+  pub counts : count ds ≡ n
+  pub all : AtAll s p ds e
+
+items-of : (s : List ℕ) (at n p e : ℕ) → headAt s at ≡ Head.At n p → (x : Document) → kindNumber x ≡ 5 → At s at x e → Items s x n p e
+items-of s at n p e h (integer v) q a = absurd (omega (arith, q))
+items-of s at n p e h (float bits) q a = absurd (omega (arith, q))
+items-of s at n p e h (string t) q a = absurd (omega (arith, q))
+items-of s at n p e h (binary t) q a = absurd (omega (arith, q))
+items-of s at n p e h (map es) q a = absurd (omega (arith, q))
+items-of s at n p e h (array ds) q a =
+    let o = open-array a in
+    let i = o .told .head in
+    let c : count ds ≡ n = cc in
+    let d : o .q ≡ p = cc in
+    record { ds = ds; is = refl; counts = c; all = subst (λ (z : ℕ). AtAll s z ds e) d (o .all) }
+
+pub record MapEntries (s : List ℕ) (x : Document) (n p e : ℕ) : Type 0 where
+  pub es : Entries
+  pub is : x ≡ map es
+  pub counts : size es ≡ n
+  pub all : AtEntries s p es e
+
+entries-of : (s : List ℕ) (at n p e : ℕ) → headAt s at ≡ Head.At n p → (x : Document) → kindNumber x ≡ 6 → At s at x e → MapEntries s x n p e
+entries-of s at n p e h (integer v) q a = absurd (omega (arith, q))
+entries-of s at n p e h (float bits) q a = absurd (omega (arith, q))
+entries-of s at n p e h (string t) q a = absurd (omega (arith, q))
+entries-of s at n p e h (binary t) q a = absurd (omega (arith, q))
+entries-of s at n p e h (array ds) q a = absurd (omega (arith, q))
+entries-of s at n p e h (map es) q a =
+    let o = open-map a in
+    let i = o .told .head in
+    let c : size es ≡ n = cc in
+    let d : o .q ≡ p = cc in
+    record { es = es; is = refl; counts = c; all = subst (λ (z : ℕ). AtEntries s z es e) d (o .all) }
+
+-- a value by its head, and by what is said of the values inside
+
+module _ {leads s : List ℕ} {at n p k : ℕ} (r : HeadRead leads s at n p k) where
+  kinds : leads ≡ leadTable → (x : Document) {e : ℕ} → At s at x e → k ≡ kindNumber x
+  kinds le x a = sym (r .kind le) ∙ kind-there x a
+
+  pub plain-says : (wanted : ℕ) {v : Typed} → wanted ≤ 4 → v ≡ plainEnd (length s) k wanted n p → ValueSays leads s (typed (plain wanted)) at v
+  unfolding typed
+  plain-says w small q = record { says = λ le x e a. q ∙ ap (λ (i : ℕ). plainEnd (length s) i w n p) (kinds le x a) ∙ plain-of s at n p (r .head le) w small x a }
+
+  array-wrong : (f : Documents → Bool) → (k ≡ 5 → ⊥) → leads ≡ leadTable → (x : Document) (e : ℕ) → At s at x e → Typed.Wrong ≡ endsIf (onArray x f) e
+  array-wrong f d le x e a = rw (array-not f x (λ q. d (kinds le x a ∙ q)))
+
+  pub arrayOf-wrong : (t : FieldType) → (k ≡ 5 → ⊥) → ValueSays leads s (typed (arrayOf t)) at Typed.Wrong
+  unfolding typed
+  arrayOf-wrong t d = record { says = array-wrong (all (typed t)) d }
+
+  pub exactly-wrong : (m : ℕ) (t : FieldType) → (k ≡ 5 → ⊥) → ValueSays leads s (typed (exactly m t)) at Typed.Wrong
+  unfolding typed
+  exactly-wrong m t d = record { says = array-wrong (λ ds. eqb (count ds) m && all (typed t) ds) d }
+
+  items : k ≡ 5 → leads ≡ leadTable → (x : Document) (e : ℕ) → At s at x e → Items s x n p e
+  items q le x e a = items-of s at n p e (r .head le) x (sym (kinds le x a) ∙ q) a
+
+  pub arrayOf-says : (t : FieldType) {v : Typed} → k ≡ 5 → ItemsSay leads s (typed t) n p v → ValueSays leads s (typed (arrayOf t)) at v
+  unfolding typed
+  arrayOf-says t q i = record { says = λ le x e a. let o = items q le x e a in i .says le (o .ds) e (o .all) (o .counts) ∙ ap (λ (z : Document). endsIf (onArray z (all (typed t))) e) (sym (o .is)) }
+
+  pub exactly-says : (m : ℕ) (t : FieldType) {v : Typed} → k ≡ 5 → n ≡ m → ItemsSay leads s (typed t) n p v → ValueSays leads s (typed (exactly m t)) at v
+  unfolding typed
+  exactly-says m t q same i = record { says = λ le x e a. let o = items q le x e a in i .says le (o .ds) e (o .all) (o .counts) ∙ ap (λ (b : Bool). endsIf (b && all (typed t) (o .ds)) e) (sym (eq-eqb (count (o .ds)) m (o .counts ∙ same))) ∙ ap (λ (z : Document). endsIf (onArray z (λ ds. eqb (count ds) m && all (typed t) ds)) e) (sym (o .is)) }
+
+  pub exactly-other : (m : ℕ) (t : FieldType) → k ≡ 5 → (n ≡ m → ⊥) → ValueSays leads s (typed (exactly m t)) at Typed.Wrong
+  unfolding typed
+  exactly-other m t q other = record { says = λ le x e a. let o = items q le x e a in ap (λ (b : Bool). endsIf (b && all (typed t) (o .ds)) e) (sym (ne-eqb (count (o .ds)) m (λ i. other (sym (o .counts) ∙ i)))) ∙ ap (λ (z : Document). endsIf (onArray z (λ ds. eqb (count ds) m && all (typed t) ds)) e) (sym (o .is)) }
+
+  pub mapWith-wrong : (rows : Rows) → (k ≡ 6 → ⊥) → ValueSays leads s (typed (mapWith rows)) at Typed.Wrong
+  unfolding typed
+  mapWith-wrong rows d = record { says = λ le x e a. rw (map-not (λ es. have rows es && fitting rows es) x (λ q. d (kinds le x a ∙ q))) }
+
+  pub mapWith-says : (rows : Rows) {v : Typed} → k ≡ 6 → EntriesSay leads s rows 0 n p v → ValueSays leads s (typed (mapWith rows)) at v
+  unfolding typed
+  mapWith-says rows q i = record { says = λ le x e a.
+    let o = entries-of s at n p e (r .head le) x (sym (kinds le x a) ∙ q) a in
+    i .says le (o .es) e (o .all) (o .counts) ∙ ap (λ (b : Bool). endsIf b e) (ap (λ (b : Bool). fitting rows (o .es) && b) (covered-have rows (o .es)) ∙ and-comm (fitting rows (o .es)) (have rows (o .es))) ∙ ap (λ (z : Document). endsIf (onMap z (λ es. have rows es && fitting rows es)) e) (sym (o .is)) }
+
+-- the values of an array, one after another
+
+-- a step was right: where it ended, and that it passed
+passed : (b : Bool) {q e : ℕ} → Typed.Ends q ≡ endsIf b e → (b ≡ true) × (q ≡ e)
+passed true h = (refl, cc)
+passed false h = let z : _≡_ {A = ℕ} 0 1 = cc in absurd (omega arith)
+
+failed : (b : Bool) (e : ℕ) → Typed.Wrong ≡ endsIf b e → b ≡ false
+failed true e h = let z : _≡_ {A = ℕ} 0 1 = cc in absurd (omega arith)
+failed false e h = refl
+
+module _ (leads s : List ℕ) (f : Document → Bool) where
+  pub items-none : (n p : ℕ) → n ≤ 0 → ItemsSay leads s f n p (Typed.Ends p)
+  unfolding count all WritesAll
+  items-none n p le = record { says = λ l ds e a c. go ds e a (omega arith) }
+    where
+      go : (ds : Documents) (e : ℕ) → AtAll s p ds e → count ds ≡ 0 → Typed.Ends p ≡ endsIf (all f ds) e
+      go none e a c = ap Typed.Ends (sym (add-zero p) ∙ ap (λ (l : List ℕ). p + length l) (sym (a .writes)) ∙ sym (a .span .ends))
+      go (item d ds) e a c = absurd (omega (arith, c))
+
+  pub items-next : (n p q : ℕ) {v r : Typed} → 0 < n → ValueSays leads s f p v → v ≡ Typed.Ends q → ItemsSay leads s f (n - 1) q r → ItemsSay leads s f n p r
+  unfolding count all
+  items-next n p q {r = r} pos here is rest = record { says = λ l ds e a c. go l ds e a (omega (arith, c)) c }
+    where
+      go : leads ≡ leadTable → (ds : Documents) (e : ℕ) → AtAll s p ds e → 0 < count ds → count ds ≡ n → r ≡ endsIf (all f ds) e
+      go l none e a h c = absurd (omega (arith, h))
+      go l (item d ds) e a h c =
+          let o = open-item a in
+          let k = passed (f d) (sym is ∙ here .says l d (o .q) (o .first)) in
+          rest .says l ds e (subst (λ (z : ℕ). AtAll s z ds e) (sym (k .1)) (o .rest)) (omega (arith, c)) ∙ rw (k .0)
+
+  pub items-wrong : (n p : ℕ) {v : Typed} → 0 < n → ValueSays leads s f p v → v ≡ Typed.Wrong → ItemsSay leads s f n p Typed.Wrong
+  unfolding count all
+  items-wrong n p pos here is = record { says = λ l ds e a c. go l ds e a (omega (arith, c)) }
+    where
+      go : leads ≡ leadTable → (ds : Documents) (e : ℕ) → AtAll s p ds e → 0 < count ds → Typed.Wrong ≡ endsIf (all f ds) e
+      go l none e a h = absurd (omega (arith, h))
+      go l (item d ds) e a h =
+          let o = open-item a in
+          rw (failed (f d) (o .q) (sym is ∙ here .says l d (o .q) (o .first)))
+
+-- the entries of a map, one after another
+
+-- the first entry: its key, where its value stands, and the entries after it
+pub record FirstEntry (s : List ℕ) (es : Entries) (e n : ℕ) (key : Part) : Type 0 where
+  pub k : List ℕ
+  pub x : Document
+  pub others : Entries
+  pub is : es ≡ entry k x others
+  pub name : take (key .count) (drop (key .at) s) ≡ k
+  pub end : ℕ
+  pub value : At s (key .at + key .count) x end
+  pub rest : AtEntries s end others e
+  pub fresh : NoKey k others
+  pub counts : size others ≡ n - 1
+  pub positive : 0 < key .at + key .count
+
+-- what `text_at` says of the key at a place
+pub record KeyRead (leads s : List ℕ) (p : ℕ) (key : Part) : Type 0 where
+  pub says : leads ≡ leadTable → (x : Document) (e : ℕ) → At s p x e → TextAt s x e key
+
+pub first-entry : {leads s : List ℕ} {p : ℕ} {key : Part} → KeyRead leads s p key → leads ≡ leadTable → (es : Entries) (e n : ℕ) → AtEntries s p es e → size es ≡ n → 0 < n → FirstEntry s es e n key
+unfolding size
+first-entry t l empty e n a c pos = absurd (omega (arith, c))
+first-entry {s = s} {p = p} {key = key} t l (entry k x es) e n a c pos =
+    let o = open-entry a in
+    let u = t .says l (string k) (o .q) (o .key) in
+    let i = at-inside (o .key) in
+    record {
+      k = k;
+      x = x;
+      others = es;
+      is = refl;
+      name = u .is;
+      end = o .r;
+      value = subst (λ (z : ℕ). At s z x (o .r)) (u .ends) (o .value);
+      rest = o .rest;
+      fresh = o .fresh;
+      counts = omega (arith, c);
+      positive = omega (arith, i .0, u .ends);
+    }
+
+or-marked : (n a b i : ℕ) → bitOr a (marked n b i) ≡ bitOr (marked n a i) b
+or-marked n a b i = go (ltb i n)
+  where
+    go : (t : Bool) → bitOr a (cond t (bitOr b (2 ^ i)) b) ≡ bitOr (cond t (bitOr a (2 ^ i)) a) b
+    go true = or-later a b (2 ^ i)
+    go false = refl
+
+module _ (leads s : List ℕ) (rows : Rows) where
+  -- at the end the required rows must have been seen
+  entries-end : (n p seen : ℕ) → n ≤ 0 → (b : Bool) → b ≡ covered rows seen → EntriesSay leads s rows seen n p (endsIf b p)
+  unfolding size WritesEntries
+  entries-end n p seen le b h = record { says = λ l es e a c. go es e a (omega arith) }
+    where
+      go : (es : Entries) (e : ℕ) → AtEntries s p es e → size es ≡ 0 → endsIf b p ≡ endsIf (fitting rows es && covered rows (bitOr seen (setOf (present rows es)))) e
+      go empty e a c =
+          let q : p ≡ e = sym (add-zero p) ∙ ap (λ (l : List ℕ). p + length l) (sym (a .writes)) ∙ sym (a .span .ends) in
+          rw (fitting-none rows, present-none rows, or-zero-r seen, ← h, q)
+      go (entry k x es) e a c = absurd (omega (arith, c))
+
+  pub entries-done : (n p seen : ℕ) {b : Bool} → n ≤ 0 → b ≡ covered rows seen → b ≡ true → EntriesSay leads s rows seen n p (Typed.Ends p)
+  entries-done n p seen le h t = entries-end n p seen le true (sym t ∙ h)
+
+  pub entries-lack : (n p seen : ℕ) {b : Bool} → n ≤ 0 → b ≡ covered rows seen → b ≡ false → EntriesSay leads s rows seen n p Typed.Wrong
+  entries-lack n p seen le h t = entries-end n p seen le false (sym t ∙ h)
+
+  module _ (distinct : distinctNames rows ≡ true) (n p seen i : ℕ) {key : Part} {v : Typed} (pos : 0 < n) (read : KeyRead leads s p key) (found : i ≡ findRow (take (key .count) (drop (key .at) s)) rows) (here : ValueSays leads s (rowTest i rows) (key .at + key .count) v) where
+    pub entries-next : (q after : ℕ) {r : Typed} → v ≡ Typed.Ends q → after ≡ marked (rowCount rows) seen i → EntriesSay leads s rows after (n - 1) q r → EntriesSay leads s rows seen n p r
+    entries-next q after {r = r} is set rest = record { says = λ l es e a c. go l es e a c }
+      where
+        grown : (k : List ℕ) (x : Document) (es : Entries) (e : ℕ) → NoKey k es → rowTest (findRow k rows) rows x ≡ true → bitOr seen (setOf (present rows (entry k x es))) ≡ bitOr after (setOf (present rows es)) → endsIf (fitting rows es && covered rows (bitOr after (setOf (present rows es)))) e ≡ endsIf (fitting rows (entry k x es) && covered rows (bitOr seen (setOf (present rows (entry k x es))))) e
+        grown k x es e f t u = rw (fitting-entry k x es rows distinct f, t, u)
+
+        go : leads ≡ leadTable → (es : Entries) (e : ℕ) → AtEntries s p es e → size es ≡ n → r ≡ endsIf (fitting rows es && covered rows (bitOr seen (setOf (present rows es)))) e
+        go l es e a c =
+            let o = first-entry read l es e n a c pos in
+            let j : i ≡ findRow (o .k) rows = found ∙ ap (λ (z : List ℕ). findRow z rows) (o .name) in
+            let w = passed (rowTest i rows (o .x)) (sym is ∙ here .says l (o .x) (o .end) (o .value)) in
+            let t : rowTest (findRow (o .k) rows) rows (o .x) ≡ true = ap (λ (z : ℕ). rowTest z rows (o .x)) (sym j) ∙ w .0 in
+            let u : bitOr seen (setOf (present rows (entry (o .k) (o .x) (o .others)))) ≡ bitOr after (setOf (present rows (o .others))) = ap (λ (z : ℕ). bitOr seen z) (present-marked (o .k) (o .x) (o .others) rows distinct) ∙ or-marked (rowCount rows) seen (setOf (present rows (o .others))) (findRow (o .k) rows) ∙ ap (λ (z : ℕ). bitOr z (setOf (present rows (o .others)))) (ap (λ (z : ℕ). marked (rowCount rows) seen z) (sym j) ∙ sym set) in
+            rest .says l (o .others) e (subst (λ (z : ℕ). AtEntries s z (o .others) e) (sym (w .1)) (o .rest)) (o .counts) ∙ grown (o .k) (o .x) (o .others) e (o .fresh) t u ∙ ap (λ (z : Entries). endsIf (fitting rows z && covered rows (bitOr seen (setOf (present rows z)))) e) (sym (o .is))
+
+    pub entries-wrong : v ≡ Typed.Wrong → EntriesSay leads s rows seen n p Typed.Wrong
+    entries-wrong is = record { says = λ l es e a c. go l es e a c }
+      where
+        go : leads ≡ leadTable → (es : Entries) (e : ℕ) → AtEntries s p es e → size es ≡ n → Typed.Wrong ≡ endsIf (fitting rows es && covered rows (bitOr seen (setOf (present rows es)))) e
+        go l es e a c =
+            let o = first-entry read l es e n a c pos in
+            let j : i ≡ findRow (o .k) rows = found ∙ ap (λ (z : List ℕ). findRow z rows) (o .name) in
+            let t : rowTest (findRow (o .k) rows) rows (o .x) ≡ false = ap (λ (z : ℕ). rowTest z rows (o .x)) (sym j) ∙ failed (rowTest i rows (o .x)) (o .end) (sym is ∙ here .says l (o .x) (o .end) (o .value)) in
+            ap (λ (b : Bool). endsIf (b && covered rows (bitOr seen (setOf (present rows (entry (o .k) (o .x) (o .others)))))) e) (sym (fitting-entry (o .k) (o .x) (o .others) rows distinct (o .fresh) ∙ ap (λ (b : Bool). b && fitting rows (o .others)) t)) ∙ ap (λ (z : Entries). endsIf (fitting rows z && covered rows (bitOr seen (setOf (present rows z)))) e) (sym (o .is))
