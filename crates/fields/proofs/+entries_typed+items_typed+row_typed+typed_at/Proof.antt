@@ -1,6 +1,23 @@
-use Prim.Native.Nat.{ℕ, _<_}
+-- A value is judged by its type's numbers, the values of an array and the entries of a map by loops whose invariants say that what is left from
+-- here on decides. The levels left fall with each array and map.
+use mathlib.Core.Path.{_≡_, sym, ap, _∙_}
+use Prim.Native.Nat.{ℕ, _+_, _-_, _*_, _%_, _<_}
+use native.Mathlib.Omega.{arith}
+use native.Mathlib.Nat.{pos-of-ne-zero}
 use borrow.Fn.Kinds.{In}
 use borrow.Fn.PlainCycle.{Measures, is, falls, and}
+use borrow.Author.Needs.{needs}
+use Rattle.heads.proofs.head_at.Reads as head-at-reads
+use Rattle.heads.proofs.kind_at.Reads as kind-at-reads
+use Rattle.values.proofs.skip.Reads as skip-reads
+use Rattle.values.proofs.text_at.Reads as text-at-reads
+use Rattle.fields.specs.Types.{FieldType, arrayOf, mapWith}
+use Rattle.fields.specs.Tests.{typed}
+use Rattle.fields.specs.Numbers.{build, typeOf, typeCount, tagOf, rowsFrom, marked}
+use Rattle.fields.specs.Steps.{ItemsSay, EntriesSay}
+use Rattle.fields.specs.declared.Typed.{Typed}
+use Rattle.fields.specs.Laws.Numbers.{rows-count, simple-kind, map-distinct, type-none, type-past, type-read, build-map}
+use Rattle.fields.specs.Laws.Steps.{value-as, value-cut, nothing-says, head-read, arrayOf-wrong, arrayOf-says, mapWith-wrong, mapWith-says, items-none, items-next, items-wrong, entries-next, entries-wrong, entries-done, entries-lack, row-says, row-over}
 use Rattle.fields.proofs.entries_typed.Reads as entries-typed
 use Rattle.fields.proofs.entries_typed.Kinds as entries-typed-kinds
 use Rattle.fields.proofs.+entries_typed+items_typed+row_typed+typed_at.Lts-entries_typed as entries-typed-lts
@@ -19,1080 +36,295 @@ use Rattle.fields.proofs.kind_number.Reads as kind-number-reads
 use Rattle.fields.proofs.mark.Reads as mark-reads
 use Rattle.fields.proofs.row_of.Reads as row-of-reads
 use Rattle.fields.proofs.simple_at.Reads as simple-at-reads
-use Rattle.heads.proofs.head_at.Reads as head-at-reads
-use Rattle.heads.proofs.kind_at.Reads as kind-at-reads
-use Rattle.values.proofs.skip.Reads as skip-reads
-use Rattle.values.proofs.text_at.Reads as text-at-reads
 use Rattle.fields.proofs.+entries_typed+items_typed+row_typed+typed_at.{statement}
 use Rattle.fields.proofs.+entries_typed+items_typed+row_typed+typed_at.Tie.{close}
 
+-- what falls: three times the levels left, and more before a value is taken up
+
 abbrev μ-entries-typed : Measures 3 entries-typed-kinds.ps ℕ
-μ-entries-typed κs a = ?
+μ-entries-typed κs a = 3 * a .1 .1 .1 .1 .1 .1 .1 .0 + 2
 
 abbrev μ-items-typed : Measures 3 items-typed-kinds.ps ℕ
-μ-items-typed κs a = ?
+μ-items-typed κs a = 3 * a .1 .1 .1 .1 .1 .1 .0 + 1
 
 abbrev μ-row-typed : Measures 3 row-typed-kinds.ps ℕ
-μ-row-typed κs a = ?
+μ-row-typed κs a = 3 * a .1 .1 .1 .1 .1 .1 .1 .0 + 1
 
 abbrev μ-typed-at : Measures 3 typed-at-kinds.ps ℕ
-μ-typed-at κs a = ?
+μ-typed-at κs a = 3 * a .1 .1 .1 .1 .1 .0
 
 abbrev entries-typed-at : ℕ → In 3 entries-typed-kinds.ps
-entries-typed-at t =
-    and 3 entries-typed-kinds.ps (is 3 entries-typed-kinds.ps μ-entries-typed t) entries-typed.Pre
+entries-typed-at t = and 3 entries-typed-kinds.ps (is 3 entries-typed-kinds.ps μ-entries-typed t) entries-typed.Pre
 
 abbrev entries-typed-below : ℕ → In 3 entries-typed-kinds.ps
-entries-typed-below t =
-    and
-    3
-    entries-typed-kinds.ps
-    (falls 3 entries-typed-kinds.ps _<_ μ-entries-typed t)
-    entries-typed.Pre
+entries-typed-below t = and 3 entries-typed-kinds.ps (falls 3 entries-typed-kinds.ps _<_ μ-entries-typed t) entries-typed.Pre
 
 abbrev items-typed-at : ℕ → In 3 items-typed-kinds.ps
-items-typed-at t =
-    and 3 items-typed-kinds.ps (is 3 items-typed-kinds.ps μ-items-typed t) items-typed.Pre
+items-typed-at t = and 3 items-typed-kinds.ps (is 3 items-typed-kinds.ps μ-items-typed t) items-typed.Pre
 
 abbrev items-typed-below : ℕ → In 3 items-typed-kinds.ps
-items-typed-below t =
-    and 3 items-typed-kinds.ps (falls 3 items-typed-kinds.ps _<_ μ-items-typed t) items-typed.Pre
+items-typed-below t = and 3 items-typed-kinds.ps (falls 3 items-typed-kinds.ps _<_ μ-items-typed t) items-typed.Pre
 
 abbrev row-typed-at : ℕ → In 3 row-typed-kinds.ps
 row-typed-at t = and 3 row-typed-kinds.ps (is 3 row-typed-kinds.ps μ-row-typed t) row-typed.Pre
 
 abbrev row-typed-below : ℕ → In 3 row-typed-kinds.ps
-row-typed-below t =
-    and 3 row-typed-kinds.ps (falls 3 row-typed-kinds.ps _<_ μ-row-typed t) row-typed.Pre
+row-typed-below t = and 3 row-typed-kinds.ps (falls 3 row-typed-kinds.ps _<_ μ-row-typed t) row-typed.Pre
 
 abbrev typed-at-at : ℕ → In 3 typed-at-kinds.ps
 typed-at-at t = and 3 typed-at-kinds.ps (is 3 typed-at-kinds.ps μ-typed-at t) typed-at.Pre
 
 abbrev typed-at-below : ℕ → In 3 typed-at-kinds.ps
-typed-at-below t =
-    and 3 typed-at-kinds.ps (falls 3 typed-at-kinds.ps _<_ μ-typed-at t) typed-at.Pre
+typed-at-below t = and 3 typed-at-kinds.ps (falls 3 typed-at-kinds.ps _<_ μ-typed-at t) typed-at.Pre
+
+-- what each may ask of those that it calls, and learns from them
+
+abbrev entries-typed-claims : ℕ → entries-typed-lts.Claims
+entries-typed-claims t = (text-at-reads.Asked, text-at-reads.Learnt, row-of-reads.Asked, row-of-reads.Learnt, row-typed-below t, row-typed.Post, mark-reads.Asked, mark-reads.Learnt, all-seen-reads.Asked, all-seen-reads.Learnt)
+
+abbrev items-typed-claims : ℕ → items-typed-lts.Claims
+items-typed-claims t = (typed-at-below t, typed-at.Post)
+
+abbrev row-typed-claims : ℕ → row-typed-lts.Claims
+row-typed-claims t = (cell-reads.Asked, cell-reads.Learnt, typed-at-below t, typed-at.Post, skip-reads.Asked, skip-reads.Learnt)
+
+abbrev typed-at-claims : ℕ → typed-at-lts.Claims
+typed-at-claims t = (cell-reads.Asked, cell-reads.Learnt, simple-at-reads.Asked, simple-at-reads.Learnt, head-at-reads.Asked, head-at-reads.Learnt, kind-at-reads.Asked, kind-at-reads.Learnt, kind-number-reads.Asked, kind-number-reads.Learnt, items-typed-below t, items-typed.Post, entries-typed-below t, entries-typed.Post)
 
 abbrev entries-typed-Inv-loop : entries-typed-lts.InvT-loop
-entries-typed-Inv-loop leads file types count at first n depth seen₀ left₀ p₀ seen left p = ?
+entries-typed-Inv-loop leads file types count at first n depth seen₀ left₀ p₀ seen left p =
+    (r : Typed) → EntriesSay leads file (rowsFrom (typeOf depth) n first) seen left p r → EntriesSay leads file (rowsFrom (typeOf depth) n first) 0 count at r
 
 abbrev entries-typed-μ-loop : entries-typed-lts.MeasureT-loop
-entries-typed-μ-loop leads file types count at first n depth seen₀ left₀ p₀ seen left p = ?
+entries-typed-μ-loop leads file types count at first n depth seen₀ left₀ p₀ seen left p = left
 
--- src/lib.rt:266:5
-entries-typed-loop-holds : (t : ℕ) → entries-typed-lts.Need-loop-holds (
-  text-at-reads.Asked,
-  text-at-reads.Learnt,
-  row-of-reads.Asked,
-  row-of-reads.Learnt,
-  row-typed-below t,
-  row-typed.Post,
-  mark-reads.Asked,
-  mark-reads.Learnt,
-  all-seen-reads.Asked,
-  all-seen-reads.Learnt,
-) (entries-typed-at t) entries-typed.Post entries-typed-Inv-loop entries-typed-μ-loop
-entries-typed-loop-holds t c = ?
+entries-typed-loop-holds : (t : ℕ) → entries-typed-lts.Need-loop-holds (entries-typed-claims t) (entries-typed-at t) entries-typed.Post entries-typed-Inv-loop entries-typed-μ-loop
+entries-typed-loop-holds t c = λ r h. h
 
--- src/lib.rt:267:13
-entries-typed-text-at-requires : (t : ℕ) → entries-typed-lts.Need-text-at-requires (
-  text-at-reads.Asked,
-  text-at-reads.Learnt,
-  row-of-reads.Asked,
-  row-of-reads.Learnt,
-  row-typed-below t,
-  row-typed.Post,
-  mark-reads.Asked,
-  mark-reads.Learnt,
-  all-seen-reads.Asked,
-  all-seen-reads.Learnt,
-) (entries-typed-at t) entries-typed.Post entries-typed-Inv-loop entries-typed-μ-loop
-entries-typed-text-at-requires t c κs = ?
+entries-typed-row-of-requires : (t : ℕ) → entries-typed-lts.Need-row-of-requires (entries-typed-claims t) (entries-typed-at t) entries-typed.Post entries-typed-Inv-loop entries-typed-μ-loop
+entries-typed-row-of-requires t c κs = (c .before .before .before .before .pre .1 .0, (c .text-at .ensures .0, (c .before .before .before .before .pre .1 .1 .0, c .before .before .before .before .pre .1 .1 .1 .0)))
 
--- src/lib.rt:270:13
-entries-typed-row-of-requires : (t : ℕ) → entries-typed-lts.Need-row-of-requires (
-  text-at-reads.Asked,
-  text-at-reads.Learnt,
-  row-of-reads.Asked,
-  row-of-reads.Learnt,
-  row-typed-below t,
-  row-typed.Post,
-  mark-reads.Asked,
-  mark-reads.Learnt,
-  all-seen-reads.Asked,
-  all-seen-reads.Learnt,
-) (entries-typed-at t) entries-typed.Post entries-typed-Inv-loop entries-typed-μ-loop
-entries-typed-row-of-requires t c κs = ?
+entries-typed-row-typed-requires : (t : ℕ) → entries-typed-lts.Need-row-typed-requires (entries-typed-claims t) (entries-typed-at t) entries-typed.Post entries-typed-Inv-loop entries-typed-μ-loop
+entries-typed-row-typed-requires t c κs = (search needs, (c .before .before .before .before .before .pre .1 .0, (c .before .before .before .before .before .pre .1 .1 .0, c .before .before .before .before .before .pre .1 .1 .1 .0)))
 
--- src/lib.rt:271:60
-entries-typed-add-row-typed : (t : ℕ) → entries-typed-lts.Need-add-row-typed (
-  text-at-reads.Asked,
-  text-at-reads.Learnt,
-  row-of-reads.Asked,
-  row-of-reads.Learnt,
-  row-typed-below t,
-  row-typed.Post,
-  mark-reads.Asked,
-  mark-reads.Learnt,
-  all-seen-reads.Asked,
-  all-seen-reads.Learnt,
-) (entries-typed-at t) entries-typed.Post entries-typed-Inv-loop entries-typed-μ-loop
-entries-typed-add-row-typed t c = ?
+entries-typed-returns : (t : ℕ) → entries-typed-lts.Need-returns (entries-typed-claims t) (entries-typed-at t) entries-typed.Post entries-typed-Inv-loop entries-typed-μ-loop
+entries-typed-returns t c =
+    let a = c .before .before .before .before .before .before .before .before .args in
+    let l = c .before .before .before .before .before .before .loop in
+    let rows = rowsFrom (typeOf (a .depth)) (a .n) (a .first) in
+    l .inv Typed.Wrong (entries-wrong (a .leads .now) (a .file .now) rows (c .before .before .before .before .before .before .before .before .pre .1 .1 .1 .1) (l .left) (l .p) (l .seen) _ (c .before .before .before .before .before .loop-test .taken) (record { says = c .before .before .before .before .text-at .ensures .1 }) (c .before .before .before .row-of .ensures (typeOf (a .depth))) (c .before .before .row-typed .ensures) (c .enum-told .given .1))
 
--- src/lib.rt:271:30
-entries-typed-row-typed-requires : (t : ℕ) → entries-typed-lts.Need-row-typed-requires (
-  text-at-reads.Asked,
-  text-at-reads.Learnt,
-  row-of-reads.Asked,
-  row-of-reads.Learnt,
-  row-typed-below t,
-  row-typed.Post,
-  mark-reads.Asked,
-  mark-reads.Learnt,
-  all-seen-reads.Asked,
-  all-seen-reads.Learnt,
-) (entries-typed-at t) entries-typed.Post entries-typed-Inv-loop entries-typed-μ-loop
-entries-typed-row-typed-requires t c κs = ?
+entries-typed-mark-requires : (t : ℕ) → entries-typed-lts.Need-mark-requires (entries-typed-claims t) (entries-typed-at t) entries-typed.Post entries-typed-Inv-loop entries-typed-μ-loop
+entries-typed-mark-requires t c κs = c .before .before .before .before .before .before .before .before .before .pre .1 .1 .1 .0
 
--- src/lib.rt:271:25
-entries-typed-enum-known-e : (t : ℕ) → entries-typed-lts.Need-enum-known-e (
-  text-at-reads.Asked,
-  text-at-reads.Learnt,
-  row-of-reads.Asked,
-  row-of-reads.Learnt,
-  row-typed-below t,
-  row-typed.Post,
-  mark-reads.Asked,
-  mark-reads.Learnt,
-  all-seen-reads.Asked,
-  all-seen-reads.Learnt,
-) (entries-typed-at t) entries-typed.Post entries-typed-Inv-loop entries-typed-μ-loop
-entries-typed-enum-known-e t c = ?
+entries-typed-loop-again : (t : ℕ) → entries-typed-lts.Need-loop-again (entries-typed-claims t) (entries-typed-at t) entries-typed.Post entries-typed-Inv-loop entries-typed-μ-loop
+entries-typed-loop-again t c =
+    let a = c .before .before .before .before .before .before .before .before .before .before .args in
+    let l = c .before .before .before .before .before .before .before .before .loop in
+    let rows = rowsFrom (typeOf (a .depth)) (a .n) (a .first) in
+    λ r h. l .inv r (entries-next (a .leads .now) (a .file .now) rows (c .before .before .before .before .before .before .before .before .before .before .pre .1 .1 .1 .1) (l .left) (l .p) (l .seen) _ (c .before .before .before .before .before .before .before .loop-test .taken) (record { says = c .before .before .before .before .before .before .text-at .ensures .1 }) (c .before .before .before .before .before .row-of .ensures (typeOf (a .depth))) (c .before .before .before .before .row-typed .ensures) _ _ (c .before .before .e .given .1) (c .mark .ensures ∙ ap (λ (z : ℕ). marked z (l .seen) (c .before .before .before .before .before .row-of .result)) (sym (rows-count (typeOf (a .depth)) (a .n) (a .first)))) h)
 
--- src/lib.rt:272:13
-entries-typed-enum-told : (t : ℕ) → entries-typed-lts.Need-enum-told (
-  text-at-reads.Asked,
-  text-at-reads.Learnt,
-  row-of-reads.Asked,
-  row-of-reads.Learnt,
-  row-typed-below t,
-  row-typed.Post,
-  mark-reads.Asked,
-  mark-reads.Learnt,
-  all-seen-reads.Asked,
-  all-seen-reads.Learnt,
-) (entries-typed-at t) entries-typed.Post entries-typed-Inv-loop entries-typed-μ-loop
-entries-typed-enum-told t c = ?
+entries-typed-all-seen-requires : (t : ℕ) → entries-typed-lts.Need-all-seen-requires (entries-typed-claims t) (entries-typed-at t) entries-typed.Post entries-typed-Inv-loop entries-typed-μ-loop
+entries-typed-all-seen-requires t c κs = (c .before .before .before .pre .1 .0, (c .before .before .before .pre .1 .1 .0, c .before .before .before .pre .1 .1 .1 .0))
 
--- src/lib.rt:272:13
-entries-typed-returns : (t : ℕ) → entries-typed-lts.Need-returns (
-  text-at-reads.Asked,
-  text-at-reads.Learnt,
-  row-of-reads.Asked,
-  row-of-reads.Learnt,
-  row-typed-below t,
-  row-typed.Post,
-  mark-reads.Asked,
-  mark-reads.Learnt,
-  all-seen-reads.Asked,
-  all-seen-reads.Learnt,
-) (entries-typed-at t) entries-typed.Post entries-typed-Inv-loop entries-typed-μ-loop
-entries-typed-returns t c = ?
+entries-typed-returns-2 : (t : ℕ) → entries-typed-lts.Need-returns-2 (entries-typed-claims t) (entries-typed-at t) entries-typed.Post entries-typed-Inv-loop entries-typed-μ-loop
+entries-typed-returns-2 t c =
+    let a = c .before .before .before .before .before .args in
+    let l = c .before .before .before .loop in
+    let rows = rowsFrom (typeOf (a .depth)) (a .n) (a .first) in
+    l .inv (Typed.Ends (l .p)) (entries-done (a .leads .now) (a .file .now) rows (l .left) (l .p) (l .seen) (c .before .before .loop-test .left) (c .before .all-seen .ensures (typeOf (a .depth))) (c .if1 .taken))
 
--- src/lib.rt:274:9
-entries-typed-mark-requires : (t : ℕ) → entries-typed-lts.Need-mark-requires (
-  text-at-reads.Asked,
-  text-at-reads.Learnt,
-  row-of-reads.Asked,
-  row-of-reads.Learnt,
-  row-typed-below t,
-  row-typed.Post,
-  mark-reads.Asked,
-  mark-reads.Learnt,
-  all-seen-reads.Asked,
-  all-seen-reads.Learnt,
-) (entries-typed-at t) entries-typed.Post entries-typed-Inv-loop entries-typed-μ-loop
-entries-typed-mark-requires t c κs = ?
-
--- src/lib.rt:276:9
-entries-typed-sub-left : (t : ℕ) → entries-typed-lts.Need-sub-left (
-  text-at-reads.Asked,
-  text-at-reads.Learnt,
-  row-of-reads.Asked,
-  row-of-reads.Learnt,
-  row-typed-below t,
-  row-typed.Post,
-  mark-reads.Asked,
-  mark-reads.Learnt,
-  all-seen-reads.Asked,
-  all-seen-reads.Learnt,
-) (entries-typed-at t) entries-typed.Post entries-typed-Inv-loop entries-typed-μ-loop
-entries-typed-sub-left t c = ?
-
--- src/lib.rt:266:5
-entries-typed-loop-less : (t : ℕ) → entries-typed-lts.Need-loop-less (
-  text-at-reads.Asked,
-  text-at-reads.Learnt,
-  row-of-reads.Asked,
-  row-of-reads.Learnt,
-  row-typed-below t,
-  row-typed.Post,
-  mark-reads.Asked,
-  mark-reads.Learnt,
-  all-seen-reads.Asked,
-  all-seen-reads.Learnt,
-) (entries-typed-at t) entries-typed.Post entries-typed-Inv-loop entries-typed-μ-loop
-entries-typed-loop-less t c = ?
-
--- src/lib.rt:266:5
-entries-typed-loop-again : (t : ℕ) → entries-typed-lts.Need-loop-again (
-  text-at-reads.Asked,
-  text-at-reads.Learnt,
-  row-of-reads.Asked,
-  row-of-reads.Learnt,
-  row-typed-below t,
-  row-typed.Post,
-  mark-reads.Asked,
-  mark-reads.Learnt,
-  all-seen-reads.Asked,
-  all-seen-reads.Learnt,
-) (entries-typed-at t) entries-typed.Post entries-typed-Inv-loop entries-typed-μ-loop
-entries-typed-loop-again t c = ?
-
--- src/lib.rt:278:8
-entries-typed-all-seen-requires : (t : ℕ) → entries-typed-lts.Need-all-seen-requires (
-  text-at-reads.Asked,
-  text-at-reads.Learnt,
-  row-of-reads.Asked,
-  row-of-reads.Learnt,
-  row-typed-below t,
-  row-typed.Post,
-  mark-reads.Asked,
-  mark-reads.Learnt,
-  all-seen-reads.Asked,
-  all-seen-reads.Learnt,
-) (entries-typed-at t) entries-typed.Post entries-typed-Inv-loop entries-typed-μ-loop
-entries-typed-all-seen-requires t c κs = ?
-
--- src/lib.rt:279:9
-entries-typed-returns-2 : (t : ℕ) → entries-typed-lts.Need-returns-2 (
-  text-at-reads.Asked,
-  text-at-reads.Learnt,
-  row-of-reads.Asked,
-  row-of-reads.Learnt,
-  row-typed-below t,
-  row-typed.Post,
-  mark-reads.Asked,
-  mark-reads.Learnt,
-  all-seen-reads.Asked,
-  all-seen-reads.Learnt,
-) (entries-typed-at t) entries-typed.Post entries-typed-Inv-loop entries-typed-μ-loop
-entries-typed-returns-2 t c = ?
-
--- src/lib.rt:250:1
-entries-typed-returns-3 : (t : ℕ) → entries-typed-lts.Need-returns-3 (
-  text-at-reads.Asked,
-  text-at-reads.Learnt,
-  row-of-reads.Asked,
-  row-of-reads.Learnt,
-  row-typed-below t,
-  row-typed.Post,
-  mark-reads.Asked,
-  mark-reads.Learnt,
-  all-seen-reads.Asked,
-  all-seen-reads.Learnt,
-) (entries-typed-at t) entries-typed.Post entries-typed-Inv-loop entries-typed-μ-loop
-entries-typed-returns-3 t c = ?
+entries-typed-returns-3 : (t : ℕ) → entries-typed-lts.Need-returns-3 (entries-typed-claims t) (entries-typed-at t) entries-typed.Post entries-typed-Inv-loop entries-typed-μ-loop
+entries-typed-returns-3 t c =
+    let a = c .before .before .before .before .before .args in
+    let l = c .before .before .before .loop in
+    let rows = rowsFrom (typeOf (a .depth)) (a .n) (a .first) in
+    l .inv Typed.Wrong (entries-lack (a .leads .now) (a .file .now) rows (l .left) (l .p) (l .seen) (c .before .before .loop-test .left) (c .before .all-seen .ensures (typeOf (a .depth))) (c .if1 .left))
 
 abbrev items-typed-Inv-loop : items-typed-lts.InvT-loop
-items-typed-Inv-loop leads file types count at code depth left₀ p₀ left p = ?
+items-typed-Inv-loop leads file types count at code depth left₀ p₀ left p =
+    (r : Typed) → ItemsSay leads file (typed (typeOf depth code)) left p r → ItemsSay leads file (typed (typeOf depth code)) count at r
 
 abbrev items-typed-μ-loop : items-typed-lts.MeasureT-loop
-items-typed-μ-loop leads file types count at code depth left₀ p₀ left p = ?
+items-typed-μ-loop leads file types count at code depth left₀ p₀ left p = left
 
--- src/lib.rt:239:5
-items-typed-loop-holds : (t : ℕ) → items-typed-lts.Need-loop-holds (
-  typed-at-below t,
-  typed-at.Post,
-) (items-typed-at t) items-typed.Post items-typed-Inv-loop items-typed-μ-loop
-items-typed-loop-holds t c = ?
+items-typed-loop-holds : (t : ℕ) → items-typed-lts.Need-loop-holds (items-typed-claims t) (items-typed-at t) items-typed.Post items-typed-Inv-loop items-typed-μ-loop
+items-typed-loop-holds t c = λ r h. h
 
--- src/lib.rt:240:30
-items-typed-typed-at-requires : (t : ℕ) → items-typed-lts.Need-typed-at-requires (
-  typed-at-below t,
-  typed-at.Post,
-) (items-typed-at t) items-typed.Post items-typed-Inv-loop items-typed-μ-loop
-items-typed-typed-at-requires t c κs = ?
+items-typed-typed-at-requires : (t : ℕ) → items-typed-lts.Need-typed-at-requires (items-typed-claims t) (items-typed-at t) items-typed.Post items-typed-Inv-loop items-typed-μ-loop
+items-typed-typed-at-requires t c κs = (search needs, c .before .before .before .pre .1)
 
--- src/lib.rt:240:25
-items-typed-enum-known-e : (t : ℕ) → items-typed-lts.Need-enum-known-e (
-  typed-at-below t,
-  typed-at.Post,
-) (items-typed-at t) items-typed.Post items-typed-Inv-loop items-typed-μ-loop
-items-typed-enum-known-e t c = ?
+items-typed-returns : (t : ℕ) → items-typed-lts.Need-returns (items-typed-claims t) (items-typed-at t) items-typed.Post items-typed-Inv-loop items-typed-μ-loop
+items-typed-returns t c =
+    let a = c .before .before .before .before .before .before .args in
+    let l = c .before .before .before .before .loop in
+    l .inv Typed.Wrong (items-wrong (a .leads .now) (a .file .now) (typed (typeOf (a .depth) (a .code))) (l .left) (l .p) (c .before .before .before .loop-test .taken) (c .before .before .typed-at .ensures) (c .enum-told .given .1))
 
--- src/lib.rt:241:13
-items-typed-enum-told :
-    (t : ℕ) →
-    items-typed-lts.Need-enum-told
-    (typed-at-below t, typed-at.Post)
-    (items-typed-at t)
-    items-typed.Post
-    items-typed-Inv-loop
-    items-typed-μ-loop
-items-typed-enum-told t c = ?
+items-typed-loop-again : (t : ℕ) → items-typed-lts.Need-loop-again (items-typed-claims t) (items-typed-at t) items-typed.Post items-typed-Inv-loop items-typed-μ-loop
+items-typed-loop-again t c =
+    let a = c .before .before .before .before .before .before .before .args in
+    let l = c .before .before .before .before .before .loop in
+    λ r h. l .inv r (items-next (a .leads .now) (a .file .now) (typed (typeOf (a .depth) (a .code))) (l .left) (l .p) _ (c .before .before .before .before .loop-test .taken) (c .before .before .before .typed-at .ensures) (c .before .e .given .1) h)
 
--- src/lib.rt:241:13
-items-typed-returns :
-    (t : ℕ) →
-    items-typed-lts.Need-returns
-    (typed-at-below t, typed-at.Post)
-    (items-typed-at t)
-    items-typed.Post
-    items-typed-Inv-loop
-    items-typed-μ-loop
-items-typed-returns t c = ?
+items-typed-returns-2 : (t : ℕ) → items-typed-lts.Need-returns-2 (items-typed-claims t) (items-typed-at t) items-typed.Post items-typed-Inv-loop items-typed-μ-loop
+items-typed-returns-2 t c =
+    let a = c .before .before .before .args in
+    let l = c .before .loop in
+    l .inv (Typed.Ends (l .p)) (items-none (a .leads .now) (a .file .now) (typed (typeOf (a .depth) (a .code))) (l .left) (l .p) (c .loop-test .left))
 
--- src/lib.rt:244:9
-items-typed-sub-left :
-    (t : ℕ) →
-    items-typed-lts.Need-sub-left
-    (typed-at-below t, typed-at.Post)
-    (items-typed-at t)
-    items-typed.Post
-    items-typed-Inv-loop
-    items-typed-μ-loop
-items-typed-sub-left t c = ?
+row-typed-typed-at-requires : (t : ℕ) → row-typed-lts.Need-typed-at-requires (row-typed-claims t) (row-typed-at t) row-typed.Post
+row-typed-typed-at-requires t c κs = (search needs, c .before .before .before .pre .1 .0)
 
--- src/lib.rt:239:5
-items-typed-loop-less :
-    (t : ℕ) →
-    items-typed-lts.Need-loop-less
-    (typed-at-below t, typed-at.Post)
-    (items-typed-at t)
-    items-typed.Post
-    items-typed-Inv-loop
-    items-typed-μ-loop
-items-typed-loop-less t c = ?
+row-typed-returns : (t : ℕ) → row-typed-lts.Need-returns (row-typed-claims t) (row-typed-at t) row-typed.Post
+row-typed-returns t c =
+    let a = c .before .before .before .before .args in
+    row-says (a .leads .now) (a .file .now) (typeOf (a .depth)) (a .n) (a .first) (a .row) (c .before .before .if1 .taken) (c .before .cell .ensures .0) (c .typed-at .ensures)
 
--- src/lib.rt:239:5
-items-typed-loop-again : (t : ℕ) → items-typed-lts.Need-loop-again (
-  typed-at-below t,
-  typed-at.Post,
-) (items-typed-at t) items-typed.Post items-typed-Inv-loop items-typed-μ-loop
-items-typed-loop-again t c = ?
+row-typed-returns-2 : (t : ℕ) → row-typed-lts.Need-returns-2 (row-typed-claims t) (row-typed-at t) row-typed.Post
+row-typed-returns-2 t c =
+    let a = c .before .before .before .args in
+    row-over (a .leads .now) (a .file .now) (typeOf (a .depth)) (a .n) (a .first) (a .row) (c .before .if1 .left) (c .skip .ensures)
 
--- src/lib.rt:225:1
-items-typed-returns-2 :
-    (t : ℕ) →
-    items-typed-lts.Need-returns-2
-    (typed-at-below t, typed-at.Post)
-    (items-typed-at t)
-    items-typed.Post
-    items-typed-Inv-loop
-    items-typed-μ-loop
-items-typed-returns-2 t c = ?
+typed-at-returns : (t : ℕ) → typed-at-lts.Need-returns (typed-at-claims t) (typed-at-at t) typed-at.Post
+typed-at-returns t c =
+    let a = c .before .before .args in
+    nothing-says (a .leads .now) (a .file .now) (a .at) (typeOf (a .depth) (a .code)) (ap (λ (d : ℕ). typeOf d (a .code)) (c .if1 .taken) ∙ type-none (a .code))
 
--- src/lib.rt:178:33
-row-typed-add-cell : (t : ℕ) → row-typed-lts.Need-add-cell (
-  cell-reads.Asked,
-  cell-reads.Learnt,
-  typed-at-below t,
-  typed-at.Post,
-  skip-reads.Asked,
-  skip-reads.Learnt,
-) (row-typed-at t) row-typed.Post
-row-typed-add-cell t c = ?
+typed-at-returns-2 : (t : ℕ) → typed-at-lts.Need-returns-2 (typed-at-claims t) (typed-at-at t) typed-at.Post
+typed-at-returns-2 t c =
+    let a = c .before .before .before .args in
+    nothing-says (a .leads .now) (a .file .now) (a .at) (typeOf (a .depth) (a .code)) (type-past (a .depth) (a .code) (c .if2 .taken))
 
--- src/lib.rt:178:32
-row-typed-mul-cell : (t : ℕ) → row-typed-lts.Need-mul-cell (
-  cell-reads.Asked,
-  cell-reads.Learnt,
-  typed-at-below t,
-  typed-at.Post,
-  skip-reads.Asked,
-  skip-reads.Learnt,
-) (row-typed-at t) row-typed.Post
-row-typed-mul-cell t c = ?
+typed-at-simple-at-requires : (t : ℕ) → typed-at-lts.Need-simple-at-requires (typed-at-claims t) (typed-at-at t) typed-at.Post
+typed-at-simple-at-requires t c κs =
+    let a = c .before .before .before .before .before .before .before .args in
+    let small : tagOf (a .code) < 3 = omega (arith, c .before .before .before .cell .ensures .0) in
+    (c .if3 .taken, omega (arith, c .before .cell3 .ensures .0, simple-kind (a .code) (c .before .before .before .before .if2 .left) small))
 
--- src/lib.rt:178:32
-row-typed-add-cell-2 : (t : ℕ) → row-typed-lts.Need-add-cell-2 (
-  cell-reads.Asked,
-  cell-reads.Learnt,
-  typed-at-below t,
-  typed-at.Post,
-  skip-reads.Asked,
-  skip-reads.Learnt,
-) (row-typed-at t) row-typed.Post
-row-typed-add-cell-2 t c = ?
+typed-at-returns-3 : (t : ℕ) → typed-at-lts.Need-returns-3 (typed-at-claims t) (typed-at-at t) typed-at.Post
+typed-at-returns-3 t c =
+    let a = c .before .before .before .before .before .before .before .before .args in
+    value-as (typeOf (a .depth) (a .code)) _ (type-read (a .depth) (a .code) (pos-of-ne-zero (c .before .before .before .before .before .before .if1 .left)) (c .before .before .before .before .before .if2 .left) (c .before .before .before .before .cell .ensures .0) (c .before .before .before .cell2 .ensures .0) (c .before .before .cell3 .ensures .0)) (c .simple-at .ensures (typeOf (a .depth - 1)))
 
--- src/lib.rt:178:32
-row-typed-add-cell-3 : (t : ℕ) → row-typed-lts.Need-add-cell-3 (
-  cell-reads.Asked,
-  cell-reads.Learnt,
-  typed-at-below t,
-  typed-at.Post,
-  skip-reads.Asked,
-  skip-reads.Learnt,
-) (row-typed-at t) row-typed.Post
-row-typed-add-cell-3 t c = ?
+typed-at-returns-4 : (t : ℕ) → typed-at-lts.Need-returns-4 (typed-at-claims t) (typed-at-at t) typed-at.Post
+typed-at-returns-4 t c =
+    let a = c .before .before .before .before .before .before .before .before .before .before .args in
+    value-cut (a .leads .now) (a .file .now) (a .at) (typed (typeOf (a .depth) (a .code))) (c .before .before .head-at .ensures .1) (c .enum-told .given .1)
 
--- src/lib.rt:178:13
-row-typed-cell-requires : (t : ℕ) → row-typed-lts.Need-cell-requires (
-  cell-reads.Asked,
-  cell-reads.Learnt,
-  typed-at-below t,
-  typed-at.Post,
-  skip-reads.Asked,
-  skip-reads.Learnt,
-) (row-typed-at t) row-typed.Post
-row-typed-cell-requires t c κs = ?
+typed-at-returns-5 : (t : ℕ) → typed-at-lts.Need-returns-5 (typed-at-claims t) (typed-at-at t) typed-at.Post
+typed-at-returns-5 t c =
+    let a = c .before .before .before .before .before .before .before .before .before .before .before .before .before .before .before .args in
+    value-as (typeOf (a .depth) (a .code)) (arrayOf (typeOf (a .depth - 1) (c .before .before .before .before .before .before .before .before .before .cell3 .result))) (type-read (a .depth) (a .code) (pos-of-ne-zero (c .before .before .before .before .before .before .before .before .before .before .before .before .before .if1 .left)) (c .before .before .before .before .before .before .before .before .before .before .before .before .if2 .left) (c .before .before .before .before .before .before .before .before .before .before .before .cell .ensures .0) (c .before .before .before .before .before .before .before .before .before .before .cell2 .ensures .0) (c .before .before .before .before .before .before .before .before .before .cell3 .ensures .0) ∙ ap (λ (t : ℕ). build (typeOf (a .depth - 1)) t (c .before .before .before .before .before .before .before .before .before .before .cell2 .result % 64) (c .before .before .before .before .before .before .before .before .before .cell3 .result)) (c .before .if4 .taken)) (arrayOf-wrong (head-read (a .leads .now) (a .file .now) (a .at) (c .before .before .before .before .before .before .before .head-at .ensures .1) (c .before .before .before .before .before .n .given .1) (c .before .before .before .kind-at .ensures .1) (c .before .before .kind-number .ensures)) (typeOf (a .depth - 1) (c .before .before .before .before .before .before .before .before .before .cell3 .result)) (c .if5 .taken))
 
--- src/lib.rt:179:9
-row-typed-typed-at-requires : (t : ℕ) → row-typed-lts.Need-typed-at-requires (
-  cell-reads.Asked,
-  cell-reads.Learnt,
-  typed-at-below t,
-  typed-at.Post,
-  skip-reads.Asked,
-  skip-reads.Learnt,
-) (row-typed-at t) row-typed.Post
-row-typed-typed-at-requires t c κs = ?
+typed-at-items-typed-requires : (t : ℕ) → typed-at-lts.Need-items-typed-requires (typed-at-claims t) (typed-at-at t) typed-at.Post
+typed-at-items-typed-requires t c κs = (search needs, c .before .before .before .before .before .before .before .before .before .before .before .before .before .before .before .pre .1)
 
--- src/lib.rt:179:9
-row-typed-returns : (t : ℕ) → row-typed-lts.Need-returns (
-  cell-reads.Asked,
-  cell-reads.Learnt,
-  typed-at-below t,
-  typed-at.Post,
-  skip-reads.Asked,
-  skip-reads.Learnt,
-) (row-typed-at t) row-typed.Post
-row-typed-returns t c = ?
+typed-at-returns-6 : (t : ℕ) → typed-at-lts.Need-returns-6 (typed-at-claims t) (typed-at-at t) typed-at.Post
+typed-at-returns-6 t c =
+    let a = c .before .before .before .before .before .before .before .before .before .before .before .before .before .before .before .before .args in
+    value-as (typeOf (a .depth) (a .code)) (arrayOf (typeOf (a .depth - 1) (c .before .before .before .before .before .before .before .before .before .before .cell3 .result))) (type-read (a .depth) (a .code) (pos-of-ne-zero (c .before .before .before .before .before .before .before .before .before .before .before .before .before .before .if1 .left)) (c .before .before .before .before .before .before .before .before .before .before .before .before .before .if2 .left) (c .before .before .before .before .before .before .before .before .before .before .before .before .cell .ensures .0) (c .before .before .before .before .before .before .before .before .before .before .before .cell2 .ensures .0) (c .before .before .before .before .before .before .before .before .before .before .cell3 .ensures .0) ∙ ap (λ (t : ℕ). build (typeOf (a .depth - 1)) t (c .before .before .before .before .before .before .before .before .before .before .before .cell2 .result % 64) (c .before .before .before .before .before .before .before .before .before .before .cell3 .result)) (c .before .before .if4 .taken)) (arrayOf-says (head-read (a .leads .now) (a .file .now) (a .at) (c .before .before .before .before .before .before .before .before .head-at .ensures .1) (c .before .before .before .before .before .before .n .given .1) (c .before .before .before .before .kind-at .ensures .1) (c .before .before .before .kind-number .ensures)) (typeOf (a .depth - 1) (c .before .before .before .before .before .before .before .before .before .before .cell3 .result)) (c .before .if5 .left) (c .items-typed .ensures))
 
--- src/lib.rt:181:17
-row-typed-skip-requires : (t : ℕ) → row-typed-lts.Need-skip-requires (
-  cell-reads.Asked,
-  cell-reads.Learnt,
-  typed-at-below t,
-  typed-at.Post,
-  skip-reads.Asked,
-  skip-reads.Learnt,
-) (row-typed-at t) row-typed.Post
-row-typed-skip-requires t c κs = ?
+typed-at-returns-7 : (t : ℕ) → typed-at-lts.Need-returns-7 (typed-at-claims t) (typed-at-at t) typed-at.Post
+typed-at-returns-7 t c =
+    let a = c .before .before .before .before .before .before .before .before .before .before .before .before .before .before .before .args in
+    let large : 3 < c .before .before .before .before .before .before .before .before .before .before .before .cell .result = omega arith in
+    value-as (typeOf (a .depth) (a .code)) (mapWith (rowsFrom (typeOf (a .depth - 1)) (c .before .before .before .before .before .before .before .before .before .before .cell2 .result % 64) (c .before .before .before .before .before .before .before .before .before .cell3 .result))) (type-read (a .depth) (a .code) (pos-of-ne-zero (c .before .before .before .before .before .before .before .before .before .before .before .before .before .if1 .left)) (c .before .before .before .before .before .before .before .before .before .before .before .before .if2 .left) (c .before .before .before .before .before .before .before .before .before .before .before .cell .ensures .0) (c .before .before .before .before .before .before .before .before .before .before .cell2 .ensures .0) (c .before .before .before .before .before .before .before .before .before .cell3 .ensures .0) ∙ build-map (typeOf (a .depth - 1)) (c .before .before .before .before .before .before .before .before .before .before .before .cell .result) (c .before .before .before .before .before .before .before .before .before .before .cell2 .result % 64) (c .before .before .before .before .before .before .before .before .before .cell3 .result) large) (mapWith-wrong (head-read (a .leads .now) (a .file .now) (a .at) (c .before .before .before .before .before .before .before .head-at .ensures .1) (c .before .before .before .before .before .n .given .1) (c .before .before .before .kind-at .ensures .1) (c .before .before .kind-number .ensures)) (rowsFrom (typeOf (a .depth - 1)) (c .before .before .before .before .before .before .before .before .before .before .cell2 .result % 64) (c .before .before .before .before .before .before .before .before .before .cell3 .result)) (c .if6 .taken))
 
--- src/lib.rt:164:1
-row-typed-returns-2 : (t : ℕ) → row-typed-lts.Need-returns-2 (
-  cell-reads.Asked,
-  cell-reads.Learnt,
-  typed-at-below t,
-  typed-at.Post,
-  skip-reads.Asked,
-  skip-reads.Learnt,
-) (row-typed-at t) row-typed.Post
-row-typed-returns-2 t c = ?
+typed-at-entries-typed-requires : (t : ℕ) → typed-at-lts.Need-entries-typed-requires (typed-at-claims t) (typed-at-at t) typed-at.Post
+typed-at-entries-typed-requires t c κs =
+    let a = c .before .before .before .before .before .before .before .before .before .before .before .before .before .before .before .args in
+    let large : 3 < tagOf (a .code) = omega (arith, c .before .before .before .before .before .before .before .before .before .before .before .cell .ensures .0) in
+    (search needs, (c .before .before .before .before .before .before .before .before .before .before .before .before .before .before .before .pre .1, (c .before .before .before .before .before .before .before .before .before .cell3 .ensures .1, (omega arith, rw (c .before .before .before .before .before .before .before .before .before .before .cell2 .ensures .0, c .before .before .before .before .before .before .before .before .before .cell3 .ensures .0) (map-distinct (typeOf (a .depth - 1)) (a .code) (c .before .before .before .before .before .before .before .before .before .before .before .before .if2 .left) large)))))
 
--- src/lib.rt:197:9
-typed-at-returns : (t : ℕ) → typed-at-lts.Need-returns (
-  cell-reads.Asked,
-  cell-reads.Learnt,
-  simple-at-reads.Asked,
-  simple-at-reads.Learnt,
-  head-at-reads.Asked,
-  head-at-reads.Learnt,
-  kind-at-reads.Asked,
-  kind-at-reads.Learnt,
-  kind-number-reads.Asked,
-  kind-number-reads.Learnt,
-  items-typed-below t,
-  items-typed.Post,
-  entries-typed-below t,
-  entries-typed.Post,
-) (typed-at-at t) typed-at.Post
-typed-at-returns t c = ?
-
--- src/lib.rt:200:9
-typed-at-returns-2 : (t : ℕ) → typed-at-lts.Need-returns-2 (
-  cell-reads.Asked,
-  cell-reads.Learnt,
-  simple-at-reads.Asked,
-  simple-at-reads.Learnt,
-  head-at-reads.Asked,
-  head-at-reads.Learnt,
-  kind-at-reads.Asked,
-  kind-at-reads.Learnt,
-  kind-number-reads.Asked,
-  kind-number-reads.Learnt,
-  items-typed-below t,
-  items-typed.Post,
-  entries-typed-below t,
-  entries-typed.Post,
-) (typed-at-at t) typed-at.Post
-typed-at-returns-2 t c = ?
-
--- src/lib.rt:202:27
-typed-at-mul-cell : (t : ℕ) → typed-at-lts.Need-mul-cell (
-  cell-reads.Asked,
-  cell-reads.Learnt,
-  simple-at-reads.Asked,
-  simple-at-reads.Learnt,
-  head-at-reads.Asked,
-  head-at-reads.Learnt,
-  kind-at-reads.Asked,
-  kind-at-reads.Learnt,
-  kind-number-reads.Asked,
-  kind-number-reads.Learnt,
-  items-typed-below t,
-  items-typed.Post,
-  entries-typed-below t,
-  entries-typed.Post,
-) (typed-at-at t) typed-at.Post
-typed-at-mul-cell t c = ?
-
--- src/lib.rt:202:9
-typed-at-cell-requires : (t : ℕ) → typed-at-lts.Need-cell-requires (
-  cell-reads.Asked,
-  cell-reads.Learnt,
-  simple-at-reads.Asked,
-  simple-at-reads.Learnt,
-  head-at-reads.Asked,
-  head-at-reads.Learnt,
-  kind-at-reads.Asked,
-  kind-at-reads.Learnt,
-  kind-number-reads.Asked,
-  kind-number-reads.Learnt,
-  items-typed-below t,
-  items-typed.Post,
-  entries-typed-below t,
-  entries-typed.Post,
-) (typed-at-at t) typed-at.Post
-typed-at-cell-requires t c κs = ?
-
--- src/lib.rt:203:28
-typed-at-mul-cell-2 : (t : ℕ) → typed-at-lts.Need-mul-cell-2 (
-  cell-reads.Asked,
-  cell-reads.Learnt,
-  simple-at-reads.Asked,
-  simple-at-reads.Learnt,
-  head-at-reads.Asked,
-  head-at-reads.Learnt,
-  kind-at-reads.Asked,
-  kind-at-reads.Learnt,
-  kind-number-reads.Asked,
-  kind-number-reads.Learnt,
-  items-typed-below t,
-  items-typed.Post,
-  entries-typed-below t,
-  entries-typed.Post,
-) (typed-at-at t) typed-at.Post
-typed-at-mul-cell-2 t c = ?
-
--- src/lib.rt:203:28
-typed-at-add-cell : (t : ℕ) → typed-at-lts.Need-add-cell (
-  cell-reads.Asked,
-  cell-reads.Learnt,
-  simple-at-reads.Asked,
-  simple-at-reads.Learnt,
-  head-at-reads.Asked,
-  head-at-reads.Learnt,
-  kind-at-reads.Asked,
-  kind-at-reads.Learnt,
-  kind-number-reads.Asked,
-  kind-number-reads.Learnt,
-  items-typed-below t,
-  items-typed.Post,
-  entries-typed-below t,
-  entries-typed.Post,
-) (typed-at-at t) typed-at.Post
-typed-at-add-cell t c = ?
-
--- src/lib.rt:203:16
-typed-at-cell-requires-2 : (t : ℕ) → typed-at-lts.Need-cell-requires-2 (
-  cell-reads.Asked,
-  cell-reads.Learnt,
-  simple-at-reads.Asked,
-  simple-at-reads.Learnt,
-  head-at-reads.Asked,
-  head-at-reads.Learnt,
-  kind-at-reads.Asked,
-  kind-at-reads.Learnt,
-  kind-number-reads.Asked,
-  kind-number-reads.Learnt,
-  items-typed-below t,
-  items-typed.Post,
-  entries-typed-below t,
-  entries-typed.Post,
-) (typed-at-at t) typed-at.Post
-typed-at-cell-requires-2 t c κs = ?
-
--- src/lib.rt:204:30
-typed-at-mul-cell-3 : (t : ℕ) → typed-at-lts.Need-mul-cell-3 (
-  cell-reads.Asked,
-  cell-reads.Learnt,
-  simple-at-reads.Asked,
-  simple-at-reads.Learnt,
-  head-at-reads.Asked,
-  head-at-reads.Learnt,
-  kind-at-reads.Asked,
-  kind-at-reads.Learnt,
-  kind-number-reads.Asked,
-  kind-number-reads.Learnt,
-  items-typed-below t,
-  items-typed.Post,
-  entries-typed-below t,
-  entries-typed.Post,
-) (typed-at-at t) typed-at.Post
-typed-at-mul-cell-3 t c = ?
-
--- src/lib.rt:204:30
-typed-at-add-cell-2 : (t : ℕ) → typed-at-lts.Need-add-cell-2 (
-  cell-reads.Asked,
-  cell-reads.Learnt,
-  simple-at-reads.Asked,
-  simple-at-reads.Learnt,
-  head-at-reads.Asked,
-  head-at-reads.Learnt,
-  kind-at-reads.Asked,
-  kind-at-reads.Learnt,
-  kind-number-reads.Asked,
-  kind-number-reads.Learnt,
-  items-typed-below t,
-  items-typed.Post,
-  entries-typed-below t,
-  entries-typed.Post,
-) (typed-at-at t) typed-at.Post
-typed-at-add-cell-2 t c = ?
-
--- src/lib.rt:204:9
-typed-at-cell-requires-3 : (t : ℕ) → typed-at-lts.Need-cell-requires-3 (
-  cell-reads.Asked,
-  cell-reads.Learnt,
-  simple-at-reads.Asked,
-  simple-at-reads.Learnt,
-  head-at-reads.Asked,
-  head-at-reads.Learnt,
-  kind-at-reads.Asked,
-  kind-at-reads.Learnt,
-  kind-number-reads.Asked,
-  kind-number-reads.Learnt,
-  items-typed-below t,
-  items-typed.Post,
-  entries-typed-below t,
-  entries-typed.Post,
-) (typed-at-at t) typed-at.Post
-typed-at-cell-requires-3 t c κs = ?
-
--- src/lib.rt:206:9
-typed-at-simple-at-requires : (t : ℕ) → typed-at-lts.Need-simple-at-requires (
-  cell-reads.Asked,
-  cell-reads.Learnt,
-  simple-at-reads.Asked,
-  simple-at-reads.Learnt,
-  head-at-reads.Asked,
-  head-at-reads.Learnt,
-  kind-at-reads.Asked,
-  kind-at-reads.Learnt,
-  kind-number-reads.Asked,
-  kind-number-reads.Learnt,
-  items-typed-below t,
-  items-typed.Post,
-  entries-typed-below t,
-  entries-typed.Post,
-) (typed-at-at t) typed-at.Post
-typed-at-simple-at-requires t c κs = ?
-
--- src/lib.rt:206:9
-typed-at-returns-3 : (t : ℕ) → typed-at-lts.Need-returns-3 (
-  cell-reads.Asked,
-  cell-reads.Learnt,
-  simple-at-reads.Asked,
-  simple-at-reads.Learnt,
-  head-at-reads.Asked,
-  head-at-reads.Learnt,
-  kind-at-reads.Asked,
-  kind-at-reads.Learnt,
-  kind-number-reads.Asked,
-  kind-number-reads.Learnt,
-  items-typed-below t,
-  items-typed.Post,
-  entries-typed-below t,
-  entries-typed.Post,
-) (typed-at-at t) typed-at.Post
-typed-at-returns-3 t c = ?
-
--- src/lib.rt:208:26
-typed-at-head-at-requires : (t : ℕ) → typed-at-lts.Need-head-at-requires (
-  cell-reads.Asked,
-  cell-reads.Learnt,
-  simple-at-reads.Asked,
-  simple-at-reads.Learnt,
-  head-at-reads.Asked,
-  head-at-reads.Learnt,
-  kind-at-reads.Asked,
-  kind-at-reads.Learnt,
-  kind-number-reads.Asked,
-  kind-number-reads.Learnt,
-  items-typed-below t,
-  items-typed.Post,
-  entries-typed-below t,
-  entries-typed.Post,
-) (typed-at-at t) typed-at.Post
-typed-at-head-at-requires t c κs = ?
-
--- src/lib.rt:208:18
-typed-at-enum-known-n : (t : ℕ) → typed-at-lts.Need-enum-known-n (
-  cell-reads.Asked,
-  cell-reads.Learnt,
-  simple-at-reads.Asked,
-  simple-at-reads.Learnt,
-  head-at-reads.Asked,
-  head-at-reads.Learnt,
-  kind-at-reads.Asked,
-  kind-at-reads.Learnt,
-  kind-number-reads.Asked,
-  kind-number-reads.Learnt,
-  items-typed-below t,
-  items-typed.Post,
-  entries-typed-below t,
-  entries-typed.Post,
-) (typed-at-at t) typed-at.Post
-typed-at-enum-known-n t c = ?
-
--- src/lib.rt:209:9
-typed-at-enum-told : (t : ℕ) → typed-at-lts.Need-enum-told (
-  cell-reads.Asked,
-  cell-reads.Learnt,
-  simple-at-reads.Asked,
-  simple-at-reads.Learnt,
-  head-at-reads.Asked,
-  head-at-reads.Learnt,
-  kind-at-reads.Asked,
-  kind-at-reads.Learnt,
-  kind-number-reads.Asked,
-  kind-number-reads.Learnt,
-  items-typed-below t,
-  items-typed.Post,
-  entries-typed-below t,
-  entries-typed.Post,
-) (typed-at-at t) typed-at.Post
-typed-at-enum-told t c = ?
-
--- src/lib.rt:209:9
-typed-at-returns-4 : (t : ℕ) → typed-at-lts.Need-returns-4 (
-  cell-reads.Asked,
-  cell-reads.Learnt,
-  simple-at-reads.Asked,
-  simple-at-reads.Learnt,
-  head-at-reads.Asked,
-  head-at-reads.Learnt,
-  kind-at-reads.Asked,
-  kind-at-reads.Learnt,
-  kind-number-reads.Asked,
-  kind-number-reads.Learnt,
-  items-typed-below t,
-  items-typed.Post,
-  entries-typed-below t,
-  entries-typed.Post,
-) (typed-at-at t) typed-at.Post
-typed-at-returns-4 t c = ?
-
--- src/lib.rt:211:28
-typed-at-kind-at-requires : (t : ℕ) → typed-at-lts.Need-kind-at-requires (
-  cell-reads.Asked,
-  cell-reads.Learnt,
-  simple-at-reads.Asked,
-  simple-at-reads.Learnt,
-  head-at-reads.Asked,
-  head-at-reads.Learnt,
-  kind-at-reads.Asked,
-  kind-at-reads.Learnt,
-  kind-number-reads.Asked,
-  kind-number-reads.Learnt,
-  items-typed-below t,
-  items-typed.Post,
-  entries-typed-below t,
-  entries-typed.Post,
-) (typed-at-at t) typed-at.Post
-typed-at-kind-at-requires t c κs = ?
-
--- src/lib.rt:211:9
-typed-at-kind-number-requires : (t : ℕ) → typed-at-lts.Need-kind-number-requires (
-  cell-reads.Asked,
-  cell-reads.Learnt,
-  simple-at-reads.Asked,
-  simple-at-reads.Learnt,
-  head-at-reads.Asked,
-  head-at-reads.Learnt,
-  kind-at-reads.Asked,
-  kind-at-reads.Learnt,
-  kind-number-reads.Asked,
-  kind-number-reads.Learnt,
-  items-typed-below t,
-  items-typed.Post,
-  entries-typed-below t,
-  entries-typed.Post,
-) (typed-at-at t) typed-at.Post
-typed-at-kind-number-requires t c κs = ?
-
--- src/lib.rt:214:13
-typed-at-returns-5 : (t : ℕ) → typed-at-lts.Need-returns-5 (
-  cell-reads.Asked,
-  cell-reads.Learnt,
-  simple-at-reads.Asked,
-  simple-at-reads.Learnt,
-  head-at-reads.Asked,
-  head-at-reads.Learnt,
-  kind-at-reads.Asked,
-  kind-at-reads.Learnt,
-  kind-number-reads.Asked,
-  kind-number-reads.Learnt,
-  items-typed-below t,
-  items-typed.Post,
-  entries-typed-below t,
-  entries-typed.Post,
-) (typed-at-at t) typed-at.Post
-typed-at-returns-5 t c = ?
-
--- src/lib.rt:216:62
-typed-at-sub-items-typed : (t : ℕ) → typed-at-lts.Need-sub-items-typed (
-  cell-reads.Asked,
-  cell-reads.Learnt,
-  simple-at-reads.Asked,
-  simple-at-reads.Learnt,
-  head-at-reads.Asked,
-  head-at-reads.Learnt,
-  kind-at-reads.Asked,
-  kind-at-reads.Learnt,
-  kind-number-reads.Asked,
-  kind-number-reads.Learnt,
-  items-typed-below t,
-  items-typed.Post,
-  entries-typed-below t,
-  entries-typed.Post,
-) (typed-at-at t) typed-at.Post
-typed-at-sub-items-typed t c = ?
-
--- src/lib.rt:216:9
-typed-at-items-typed-requires : (t : ℕ) → typed-at-lts.Need-items-typed-requires (
-  cell-reads.Asked,
-  cell-reads.Learnt,
-  simple-at-reads.Asked,
-  simple-at-reads.Learnt,
-  head-at-reads.Asked,
-  head-at-reads.Learnt,
-  kind-at-reads.Asked,
-  kind-at-reads.Learnt,
-  kind-number-reads.Asked,
-  kind-number-reads.Learnt,
-  items-typed-below t,
-  items-typed.Post,
-  entries-typed-below t,
-  entries-typed.Post,
-) (typed-at-at t) typed-at.Post
-typed-at-items-typed-requires t c κs = ?
-
--- src/lib.rt:216:9
-typed-at-returns-6 : (t : ℕ) → typed-at-lts.Need-returns-6 (
-  cell-reads.Asked,
-  cell-reads.Learnt,
-  simple-at-reads.Asked,
-  simple-at-reads.Learnt,
-  head-at-reads.Asked,
-  head-at-reads.Learnt,
-  kind-at-reads.Asked,
-  kind-at-reads.Learnt,
-  kind-number-reads.Asked,
-  kind-number-reads.Learnt,
-  items-typed-below t,
-  items-typed.Post,
-  entries-typed-below t,
-  entries-typed.Post,
-) (typed-at-at t) typed-at.Post
-typed-at-returns-6 t c = ?
-
--- src/lib.rt:219:9
-typed-at-returns-7 : (t : ℕ) → typed-at-lts.Need-returns-7 (
-  cell-reads.Asked,
-  cell-reads.Learnt,
-  simple-at-reads.Asked,
-  simple-at-reads.Learnt,
-  head-at-reads.Asked,
-  head-at-reads.Learnt,
-  kind-at-reads.Asked,
-  kind-at-reads.Learnt,
-  kind-number-reads.Asked,
-  kind-number-reads.Learnt,
-  items-typed-below t,
-  items-typed.Post,
-  entries-typed-below t,
-  entries-typed.Post,
-) (typed-at-at t) typed-at.Post
-typed-at-returns-7 t c = ?
-
--- src/lib.rt:221:59
-typed-at-sub-entries-typed : (t : ℕ) → typed-at-lts.Need-sub-entries-typed (
-  cell-reads.Asked,
-  cell-reads.Learnt,
-  simple-at-reads.Asked,
-  simple-at-reads.Learnt,
-  head-at-reads.Asked,
-  head-at-reads.Learnt,
-  kind-at-reads.Asked,
-  kind-at-reads.Learnt,
-  kind-number-reads.Asked,
-  kind-number-reads.Learnt,
-  items-typed-below t,
-  items-typed.Post,
-  entries-typed-below t,
-  entries-typed.Post,
-) (typed-at-at t) typed-at.Post
-typed-at-sub-entries-typed t c = ?
-
--- src/lib.rt:221:5
-typed-at-entries-typed-requires : (t : ℕ) → typed-at-lts.Need-entries-typed-requires (
-  cell-reads.Asked,
-  cell-reads.Learnt,
-  simple-at-reads.Asked,
-  simple-at-reads.Learnt,
-  head-at-reads.Asked,
-  head-at-reads.Learnt,
-  kind-at-reads.Asked,
-  kind-at-reads.Learnt,
-  kind-number-reads.Asked,
-  kind-number-reads.Learnt,
-  items-typed-below t,
-  items-typed.Post,
-  entries-typed-below t,
-  entries-typed.Post,
-) (typed-at-at t) typed-at.Post
-typed-at-entries-typed-requires t c κs = ?
-
--- src/lib.rt:185:1
-typed-at-returns-8 : (t : ℕ) → typed-at-lts.Need-returns-8 (
-  cell-reads.Asked,
-  cell-reads.Learnt,
-  simple-at-reads.Asked,
-  simple-at-reads.Learnt,
-  head-at-reads.Asked,
-  head-at-reads.Learnt,
-  kind-at-reads.Asked,
-  kind-at-reads.Learnt,
-  kind-number-reads.Asked,
-  kind-number-reads.Learnt,
-  items-typed-below t,
-  items-typed.Post,
-  entries-typed-below t,
-  entries-typed.Post,
-) (typed-at-at t) typed-at.Post
-typed-at-returns-8 t c = ?
+typed-at-returns-8 : (t : ℕ) → typed-at-lts.Need-returns-8 (typed-at-claims t) (typed-at-at t) typed-at.Post
+typed-at-returns-8 t c =
+    let a = c .before .before .before .before .before .before .before .before .before .before .before .before .before .before .before .before .args in
+    let large : 3 < c .before .before .before .before .before .before .before .before .before .before .before .before .cell .result = omega arith in
+    value-as (typeOf (a .depth) (a .code)) (mapWith (rowsFrom (typeOf (a .depth - 1)) (c .before .before .before .before .before .before .before .before .before .before .before .cell2 .result % 64) (c .before .before .before .before .before .before .before .before .before .before .cell3 .result))) (type-read (a .depth) (a .code) (pos-of-ne-zero (c .before .before .before .before .before .before .before .before .before .before .before .before .before .before .if1 .left)) (c .before .before .before .before .before .before .before .before .before .before .before .before .before .if2 .left) (c .before .before .before .before .before .before .before .before .before .before .before .before .cell .ensures .0) (c .before .before .before .before .before .before .before .before .before .before .before .cell2 .ensures .0) (c .before .before .before .before .before .before .before .before .before .before .cell3 .ensures .0) ∙ build-map (typeOf (a .depth - 1)) (c .before .before .before .before .before .before .before .before .before .before .before .before .cell .result) (c .before .before .before .before .before .before .before .before .before .before .before .cell2 .result % 64) (c .before .before .before .before .before .before .before .before .before .before .cell3 .result) large) (mapWith-says (head-read (a .leads .now) (a .file .now) (a .at) (c .before .before .before .before .before .before .before .before .head-at .ensures .1) (c .before .before .before .before .before .before .n .given .1) (c .before .before .before .before .kind-at .ensures .1) (c .before .before .before .kind-number .ensures)) (rowsFrom (typeOf (a .depth - 1)) (c .before .before .before .before .before .before .before .before .before .before .before .cell2 .result % 64) (c .before .before .before .before .before .before .before .before .before .before .cell3 .result)) (c .before .if6 .left) (c .entries-typed .ensures))
 
 pub +entries-typed+items-typed+row-typed+typed-at-spec : {M : Type 1} → statement M
 +entries-typed+items-typed+row-typed+typed-at-spec =
-    close μ-entries-typed μ-items-typed μ-row-typed μ-typed-at (λ t. entries-typed-lts.spec (
-      text-at-reads.Asked,
-      text-at-reads.Learnt,
-      row-of-reads.Asked,
-      row-of-reads.Learnt,
-      row-typed-below t,
-      row-typed.Post,
-      mark-reads.Asked,
-      mark-reads.Learnt,
-      all-seen-reads.Asked,
-      all-seen-reads.Learnt,
-    )
+    close
+    μ-entries-typed
+    μ-items-typed
+    μ-row-typed
+    μ-typed-at
+    (λ t. entries-typed-lts.spec
+    (entries-typed-claims t)
     (entries-typed-at t)
     entries-typed.Post
     entries-typed-Inv-loop
     entries-typed-μ-loop
     (entries-typed-loop-holds t)
-    (entries-typed-text-at-requires t)
+    (λ c κs. search needs)
     (entries-typed-row-of-requires t)
-    (entries-typed-add-row-typed t)
+    (λ c. search needs)
     (entries-typed-row-typed-requires t)
-    (entries-typed-enum-known-e t)
-    (entries-typed-enum-told t)
+    (λ c. search needs)
+    (λ c. search needs)
     (entries-typed-returns t)
     (entries-typed-mark-requires t)
-    (entries-typed-sub-left t)
-    (entries-typed-loop-less t)
+    (λ c. search needs)
+    (λ c. search needs)
     (entries-typed-loop-again t)
     (entries-typed-all-seen-requires t)
     (entries-typed-returns-2 t)
     (entries-typed-returns-3 t))
     (λ t. items-typed-lts.spec
-    (typed-at-below t, typed-at.Post)
+    (items-typed-claims t)
     (items-typed-at t)
     items-typed.Post
     items-typed-Inv-loop
     items-typed-μ-loop
     (items-typed-loop-holds t)
     (items-typed-typed-at-requires t)
-    (items-typed-enum-known-e t)
-    (items-typed-enum-told t)
+    (λ c. search needs)
+    (λ c. search needs)
     (items-typed-returns t)
-    (items-typed-sub-left t)
-    (items-typed-loop-less t)
+    (λ c. search needs)
+    (λ c. search needs)
     (items-typed-loop-again t)
     (items-typed-returns-2 t))
-    (λ t. row-typed-lts.spec (
-      cell-reads.Asked,
-      cell-reads.Learnt,
-      typed-at-below t,
-      typed-at.Post,
-      skip-reads.Asked,
-      skip-reads.Learnt,
-    )
+    (λ t. row-typed-lts.spec
+    (row-typed-claims t)
     (row-typed-at t)
     row-typed.Post
-    (row-typed-add-cell t)
-    (row-typed-mul-cell t)
-    (row-typed-add-cell-2 t)
-    (row-typed-add-cell-3 t)
-    (row-typed-cell-requires t)
+    (λ c. search needs)
+    (λ c. search needs)
+    (λ c. search needs)
+    (λ c. search needs)
+    (λ c κs. search needs)
     (row-typed-typed-at-requires t)
     (row-typed-returns t)
-    (row-typed-skip-requires t)
+    (λ c κs. search needs)
     (row-typed-returns-2 t))
-    λ t. typed-at-lts.spec (
-      cell-reads.Asked,
-      cell-reads.Learnt,
-      simple-at-reads.Asked,
-      simple-at-reads.Learnt,
-      head-at-reads.Asked,
-      head-at-reads.Learnt,
-      kind-at-reads.Asked,
-      kind-at-reads.Learnt,
-      kind-number-reads.Asked,
-      kind-number-reads.Learnt,
-      items-typed-below t,
-      items-typed.Post,
-      entries-typed-below t,
-      entries-typed.Post,
-    )
+    λ t. typed-at-lts.spec
+    (typed-at-claims t)
     (typed-at-at t)
     typed-at.Post
     (typed-at-returns t)
     (typed-at-returns-2 t)
-    (typed-at-mul-cell t)
-    (typed-at-cell-requires t)
-    (typed-at-mul-cell-2 t)
-    (typed-at-add-cell t)
-    (typed-at-cell-requires-2 t)
-    (typed-at-mul-cell-3 t)
-    (typed-at-add-cell-2 t)
-    (typed-at-cell-requires-3 t)
+    (λ c. search needs)
+    (λ c κs. search needs)
+    (λ c. search needs)
+    (λ c. search needs)
+    (λ c κs. search needs)
+    (λ c. search needs)
+    (λ c. search needs)
+    (λ c κs. search needs)
     (typed-at-simple-at-requires t)
     (typed-at-returns-3 t)
-    (typed-at-head-at-requires t)
-    (typed-at-enum-known-n t)
-    (typed-at-enum-told t)
+    (λ c κs. search needs)
+    (λ c. search needs)
+    (λ c. search needs)
     (typed-at-returns-4 t)
-    (typed-at-kind-at-requires t)
-    (typed-at-kind-number-requires t)
+    (λ c κs. search needs)
+    (λ c κs. search needs)
     (typed-at-returns-5 t)
-    (typed-at-sub-items-typed t)
+    (λ c. search needs)
     (typed-at-items-typed-requires t)
     (typed-at-returns-6 t)
     (typed-at-returns-7 t)
-    (typed-at-sub-entries-typed t)
+    (λ c. search needs)
     (typed-at-entries-typed-requires t)
     (typed-at-returns-8 t)

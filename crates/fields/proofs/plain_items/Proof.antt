@@ -1,50 +1,41 @@
-use Rattle.fields.proofs.plain_items.Statement.{statement}
+-- What is left from here on decides.
+use Prim.Native.Nat.{ℕ}
+use native.Mathlib.Omega.{arith}
+use borrow.Author.Needs.{needs}
+use Rattle.fields.specs.declared.Typed.{Typed}
+use Rattle.fields.specs.Types.{plain}
+use Rattle.fields.specs.Steps.{ItemsSay}
+use Rattle.fields.specs.Laws.Steps.{items-none, items-next, items-wrong}
+use Rattle.fields.specs.Tests.{typed}
 use Rattle.fields.proofs.plain_items.Tie as tie
-use Rattle.fields.proofs.plain_items.Reads as reads
-use Rattle.fields.proofs.plain_items.Lts as lts
-use Rattle.fields.proofs.plain_at.Reads as plain-at-reads
+use Rattle.fields.proofs.plain_items.Statement.{statement}
 
 abbrev Inv-loop : tie.InvT-loop
-Inv-loop leads file count at wanted left₀ p₀ left p = ?
+Inv-loop leads file count at wanted left₀ p₀ left p = (r : Typed) → ItemsSay leads file (typed (plain wanted)) left p r → ItemsSay leads file (typed (plain wanted)) count at r
 
 abbrev μ-loop : tie.MeasureT-loop
-μ-loop leads file count at wanted left₀ p₀ left p = ?
+μ-loop leads file count at wanted left₀ p₀ left p = left
 
--- src/lib.rt:315:5
 loop-holds : tie.Need-loop-holds Inv-loop μ-loop
-loop-holds c = ?
+loop-holds c = λ r h. h
 
--- src/lib.rt:316:30
-plain-at-requires : tie.Need-plain-at-requires Inv-loop μ-loop
-plain-at-requires c κs = ?
-
--- src/lib.rt:316:25
-enum-known-e : tie.Need-enum-known-e Inv-loop μ-loop
-enum-known-e c = ?
-
--- src/lib.rt:317:13
-enum-told : tie.Need-enum-told Inv-loop μ-loop
-enum-told c = ?
-
--- src/lib.rt:317:13
 returns : tie.Need-returns Inv-loop μ-loop
-returns c = ?
+returns c =
+    let a = c .before .before .before .before .before .before .args in
+    let l = c .before .before .before .before .loop in
+    l .inv Typed.Wrong (items-wrong (a .leads .now) (a .file .now) (typed (plain (a .wanted))) (l .left) (l .p) (c .before .before .before .loop-test .taken) (c .before .before .plain-at .ensures) (c .enum-told .given .1))
 
--- src/lib.rt:320:9
-sub-left : tie.Need-sub-left Inv-loop μ-loop
-sub-left c = ?
-
--- src/lib.rt:315:5
-loop-less : tie.Need-loop-less Inv-loop μ-loop
-loop-less c = ?
-
--- src/lib.rt:315:5
 loop-again : tie.Need-loop-again Inv-loop μ-loop
-loop-again c = ?
+loop-again c =
+    let a = c .before .before .before .before .before .before .before .args in
+    let l = c .before .before .before .before .before .loop in
+    λ r h. l .inv r (items-next (a .leads .now) (a .file .now) (typed (plain (a .wanted))) (l .left) (l .p) _ (c .before .before .before .before .loop-test .taken) (c .before .before .before .plain-at .ensures) (c .before .e .given .1) h)
 
--- src/lib.rt:309:1
 returns-2 : tie.Need-returns-2 Inv-loop μ-loop
-returns-2 c = ?
+returns-2 c =
+    let a = c .before .before .before .args in
+    let l = c .before .loop in
+    l .inv (Typed.Ends (l .p)) (items-none (a .leads .now) (a .file .now) (typed (plain (a .wanted))) (l .left) (l .p) (c .loop-test .left))
 
 pub plain-items-spec : {M : Type 1} → statement M
 plain-items-spec =
@@ -53,11 +44,11 @@ plain-items-spec =
     Inv-loop
     μ-loop
     loop-holds
-    plain-at-requires
-    enum-known-e
-    enum-told
+    (λ c κs. search needs)
+    (λ c. search needs)
+    (λ c. search needs)
     returns
-    sub-left
-    loop-less
+    (λ c. search needs)
+    (λ c. search needs)
     loop-again
     returns-2)

@@ -1,85 +1,72 @@
+-- A value of a kind, or an array by its head and its values.
+use mathlib.Core.List.{List}
+use mathlib.Core.Path.{_≡_, refl, ap}
+use Prim.Native.Nat.{ℕ, zero, suc, _<_}
+use native.Mathlib.Omega.{arith}
 use borrow.Author.Needs.{needs}
+use Rattle.fields.specs.Types.{FieldType, plain, arrayOf, exactly}
+use Rattle.fields.specs.Laws.Steps.{HeadRead, value-as, value-cut, head-read, arrayOf-wrong, arrayOf-says, exactly-wrong, exactly-says, exactly-other}
+use Rattle.fields.specs.Steps.{ValueSays}
+use Rattle.fields.specs.Numbers.{build}
+use Rattle.fields.specs.declared.Typed.{Typed}
+use Rattle.fields.specs.Tests.{typed}
 use Rattle.fields.proofs.simple_at.Statement.{statement}
 use Rattle.fields.proofs.simple_at.Tie as tie
-use Rattle.fields.proofs.simple_at.Reads as reads
-use Rattle.fields.proofs.simple_at.Lts as lts
-use Rattle.fields.proofs.kind_number.Reads as kind-number-reads
-use Rattle.fields.proofs.plain_at.Reads as plain-at-reads
-use Rattle.fields.proofs.plain_items.Reads as plain-items-reads
-use Rattle.heads.proofs.head_at.Reads as head-at-reads
-use Rattle.heads.proofs.kind_at.Reads as kind-at-reads
 
--- src/lib.rt:290:9
-plain-at-requires : tie.Need-plain-at-requires
-plain-at-requires c κs = search needs
-
--- src/lib.rt:290:9
 returns : tie.Need-returns
-returns c = ?
+returns c =
+    let a = c .before .before .before .args in
+    λ f. value-as (build f (a .tag) (a .many) (a .wanted)) (plain (a .wanted)) (ap (λ (t : ℕ). build f t (a .many) (a .wanted)) (c .before .if1 .taken)) (c .plain-at .ensures)
 
--- src/lib.rt:292:26
-head-at-requires : tie.Need-head-at-requires
-head-at-requires c κs = search needs
-
--- src/lib.rt:292:18
-enum-known-n : tie.Need-enum-known-n
-enum-known-n c = search needs
-
--- src/lib.rt:293:9
-enum-told : tie.Need-enum-told
-enum-told c = search needs
-
--- src/lib.rt:293:9
 returns-2 : tie.Need-returns-2
-returns-2 c = ?
+returns-2 c =
+    let a = c .before .before .before .before .before .args in
+    λ f. value-cut (a .leads .now) (a .file .now) (a .at) (typed (build f (a .tag) (a .many) (a .wanted))) (c .before .before .head-at .ensures .1) (c .enum-told .given .1)
 
--- src/lib.rt:295:28
-kind-at-requires : tie.Need-kind-at-requires
-kind-at-requires c κs = search needs
+-- an array is of neither type where the kind is another
+array-wrong : (f : ℕ → FieldType) (tag many wanted : ℕ) → (tag ≡ 0 → ⊥) → tag < 3 → {leads s : List ℕ} {at n p k : ℕ} → HeadRead leads s at n p k → (k ≡ 5 → ⊥) → ValueSays leads s (typed (build f tag many wanted)) at Typed.Wrong
+array-wrong f zero m w d l h o = absurd (d refl)
+array-wrong f (suc zero) m w d l h o = arrayOf-wrong h (plain w) o
+array-wrong f (suc (suc zero)) m w d l h o = exactly-wrong h m (plain w) o
+array-wrong f (suc (suc (suc t))) m w d l h o = absurd (omega arith)
 
--- src/lib.rt:295:9
-kind-number-requires : tie.Need-kind-number-requires
-kind-number-requires c κs = search needs
-
--- src/lib.rt:297:9
 returns-3 : tie.Need-returns-3
-returns-3 c = ?
+returns-3 c =
+    let a = c .before .before .before .before .before .before .before .before .before .args in
+    λ f. array-wrong f (a .tag) (a .many) (a .wanted) (c .before .before .before .before .before .before .before .if1 .left) (c .before .before .before .before .before .before .before .before .before .pre .0) (head-read (a .leads .now) (a .file .now) (a .at) (c .before .before .before .before .before .before .head-at .ensures .1) (c .before .before .before .before .n .given .1) (c .before .before .kind-at .ensures .1) (c .before .kind-number .ensures)) (c .if2 .taken)
 
--- src/lib.rt:300:9
-plain-items-requires : tie.Need-plain-items-requires
-plain-items-requires c κs = search needs
-
--- src/lib.rt:300:9
 returns-4 : tie.Need-returns-4
-returns-4 c = ?
+returns-4 c =
+    let a = c .before .before .before .before .before .before .before .before .before .before .before .args in
+    λ f. value-as (build f (a .tag) (a .many) (a .wanted)) (arrayOf (plain (a .wanted))) (ap (λ (t : ℕ). build f t (a .many) (a .wanted)) (c .before .if3 .taken)) (arrayOf-says (head-read (a .leads .now) (a .file .now) (a .at) (c .before .before .before .before .before .before .before .before .head-at .ensures .1) (c .before .before .before .before .before .before .n .given .1) (c .before .before .before .before .kind-at .ensures .1) (c .before .before .before .kind-number .ensures)) (plain (a .wanted)) (c .before .before .if2 .left) (c .plain-items .ensures))
 
--- src/lib.rt:303:9
 returns-5 : tie.Need-returns-5
-returns-5 c = ?
+returns-5 c =
+    let a = c .before .before .before .before .before .before .before .before .before .before .before .args in
+    let two : a .tag ≡ 2 = omega arith in
+    λ f. value-as (build f (a .tag) (a .many) (a .wanted)) (exactly (a .many) (plain (a .wanted))) (ap (λ (t : ℕ). build f t (a .many) (a .wanted)) two) (exactly-other (head-read (a .leads .now) (a .file .now) (a .at) (c .before .before .before .before .before .before .before .before .head-at .ensures .1) (c .before .before .before .before .before .before .n .given .1) (c .before .before .before .before .kind-at .ensures .1) (c .before .before .before .kind-number .ensures)) (a .many) (plain (a .wanted)) (c .before .before .if2 .left) (c .if4 .taken))
 
--- src/lib.rt:305:5
-plain-items-requires-2 : tie.Need-plain-items-requires-2
-plain-items-requires-2 c κs = search needs
-
--- src/lib.rt:285:1
 returns-6 : tie.Need-returns-6
-returns-6 c = ?
+returns-6 c =
+    let a = c .before .before .before .before .before .before .before .before .before .before .before .before .args in
+    let two : a .tag ≡ 2 = omega arith in
+    λ f. value-as (build f (a .tag) (a .many) (a .wanted)) (exactly (a .many) (plain (a .wanted))) (ap (λ (t : ℕ). build f t (a .many) (a .wanted)) two) (exactly-says (head-read (a .leads .now) (a .file .now) (a .at) (c .before .before .before .before .before .before .before .before .before .head-at .ensures .1) (c .before .before .before .before .before .before .before .n .given .1) (c .before .before .before .before .before .kind-at .ensures .1) (c .before .before .before .before .kind-number .ensures)) (a .many) (plain (a .wanted)) (c .before .before .before .if2 .left) (c .before .if4 .left) (c .plain-items2 .ensures))
 
 pub simple-at-spec : {M : Type 1} → statement M
 simple-at-spec =
     tie.close
     (tie.spec
-    plain-at-requires
+    (λ c κs. search needs)
     returns
-    head-at-requires
-    enum-known-n
-    enum-told
+    (λ c κs. search needs)
+    (λ c. search needs)
+    (λ c. search needs)
     returns-2
-    kind-at-requires
-    kind-number-requires
+    (λ c κs. search needs)
+    (λ c κs. search needs)
     returns-3
-    plain-items-requires
+    (λ c κs. search needs)
     returns-4
     returns-5
-    plain-items-requires-2
+    (λ c κs. search needs)
     returns-6)

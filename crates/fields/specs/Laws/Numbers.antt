@@ -17,7 +17,7 @@ use Rattle.heads.specs.Laws.Span.{part-length}
 use Rattle.messagepack.specs.Document.{Document}
 use Rattle.messagepack.specs.Walk.{equal}
 use Rattle.messagepack.specs.Laws.Keys.{equal-lengths, equal-next, equal-not, equal-end}
-use Rattle.fields.specs.Types.{FieldType, Rows, plain, last, row}
+use Rattle.fields.specs.Types.{FieldType, Rows, plain, mapWith, last, row}
 use Rattle.fields.specs.Table.{groupRows, transformRows, assemblyRows, entityRows, named, fieldCount}
 use Rattle.fields.specs.Tests.{typed}
 use Rattle.fields.specs.Numbers.{rowCells, typeTable, cellOf, tagOf, manyOf, insideOf, rowAt, nameOf, needOf, codeOf, rowsFrom, build, typeOf, typeCount, typeDepth, firstField, findRow, rowTest, covered, newName, distinctNames, lacking}
@@ -239,3 +239,14 @@ pub type-is : (d c : ℕ) → 0 < d → c < typeCount → typeOf d c ≡ build (
 unfolding typeOf
 type-is zero c h lt = absurd (omega arith)
 type-is (suc d) c h lt = let e : suc d - 1 ≡ d = omega arith in rw (lt-ltb c typeCount lt, e)
+
+-- the same by the numbers that were read
+pub type-read : (d c : ℕ) {tag many inside : ℕ} → 0 < d → c < typeCount → tag ≡ tagOf c → many ≡ cellOf (c * 3 + 1) → inside ≡ insideOf c → typeOf d c ≡ build (typeOf (d - 1)) tag (many % 64) inside
+type-read d c h lt t m i = type-is d c h lt ∙ rw (t, m, i)
+
+pub build-map : (f : ℕ → FieldType) (tag many inside : ℕ) → 3 < tag → build f tag many inside ≡ mapWith (rowsFrom f many inside)
+build-map f zero m i h = absurd (omega arith)
+build-map f (suc zero) m i h = absurd (omega arith)
+build-map f (suc (suc zero)) m i h = absurd (omega arith)
+build-map f (suc (suc (suc zero))) m i h = absurd (omega arith)
+build-map f (suc (suc (suc (suc t)))) m i h = refl

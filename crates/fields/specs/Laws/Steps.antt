@@ -25,11 +25,12 @@ use Rattle.values.specs.declared.Part.{Part}
 use Rattle.fields.specs.Types.{FieldType, Rows, plain, arrayOf, exactly, mapWith, last, row, kindNumber}
 use Rattle.fields.specs.Tests.{onArray, onMap, all, have, typed, fitting}
 use Rattle.fields.specs.Fields.{setOf, present}
-use Rattle.fields.specs.Numbers.{findRow, rowTest, covered, marked, distinctNames}
+use Rattle.fields.specs.Numbers.{codeOf, rowsFrom, findRow, rowTest, covered, marked, distinctNames}
 use Rattle.fields.specs.Steps.{endsIf, numberOf, plainEnd, ValueSays, ItemsSay, EntriesSay}
 use Rattle.fields.specs.declared.Typed.{Typed}
 use Rattle.fields.specs.Laws.Sets.{or-later, present-none, covered-have}
 use Rattle.fields.specs.Laws.Rows.{rowCount, fitting-none, fitting-entry, present-marked}
+use Rattle.fields.specs.Laws.Numbers.{row-typed, row-free}
 
 -- a document's head, and its kind by it
 
@@ -353,3 +354,16 @@ module _ (leads s : List ℕ) (rows : Rows) where
             let j : i ≡ findRow (o .k) rows = found ∙ ap (λ (z : List ℕ). findRow z rows) (o .name) in
             let t : rowTest (findRow (o .k) rows) rows (o .x) ≡ false = ap (λ (z : ℕ). rowTest z rows (o .x)) (sym j) ∙ failed (rowTest i rows (o .x)) (o .end) (sym is ∙ here .says l (o .x) (o .end) (o .value)) in
             ap (λ (b : Bool). endsIf (b && covered rows (bitOr seen (setOf (present rows (entry (o .k) (o .x) (o .others)))))) e) (sym (fitting-entry (o .k) (o .x) (o .others) rows distinct (o .fresh) ∙ ap (λ (b : Bool). b && fitting rows (o .others)) t)) ∙ ap (λ (z : Entries). endsIf (fitting rows z && covered rows (bitOr seen (setOf (present rows z)))) e) (sym (o .is))
+
+-- what is said by a type is said by any that is equal
+pub value-as : {leads s : List ℕ} {at : ℕ} {v : Typed} (t u : FieldType) → t ≡ u → ValueSays leads s (typed u) at v → ValueSays leads s (typed t) at v
+value-as {leads} {s} {at} {v} t u q h = subst (λ (z : FieldType). ValueSays leads s (typed z) at v) (sym q) h
+
+-- a value under a row, or under none, which is stepped over
+
+module _ (leads s : List ℕ) (f : ℕ → FieldType) (n r i : ℕ) {at : ℕ} where
+  pub row-says : {c : ℕ} {v : Typed} → i < n → c ≡ codeOf (r + i) → ValueSays leads s (typed (f c)) at v → ValueSays leads s (rowTest i (rowsFrom f n r)) at v
+  row-says {c = c} lt q h = record { says = λ l x e a. h .says l x e a ∙ ap (λ (b : Bool). endsIf b e) (ap (λ (z : ℕ). typed (f z) x) q ∙ sym (row-typed f n r i x lt)) }
+
+  pub row-over : {q : ℕ} → n ≤ i → (leads ≡ leadTable → (e : ℕ) → Standing s 1 at e → q ≡ e) → ValueSays leads s (rowTest i (rowsFrom f n r)) at (Typed.Ends q)
+  row-over le h = record { says = λ l x e a. ap Typed.Ends (h l e (at-standing a)) ∙ ap (λ (b : Bool). endsIf b e) (sym (row-free f n r i x le)) }
