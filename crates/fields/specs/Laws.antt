@@ -4,3 +4,4 @@ pub mod Sets
 pub mod Rows
 pub mod Numbers
 pub mod Steps
+pub mod Notes

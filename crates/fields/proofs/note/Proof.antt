@@ -1,78 +1,58 @@
+-- What is noted in the end, from here on with what is noted so far, is what is noted of all entries.
+use mathlib.Core.List.{List}
+use mathlib.Core.Path.{_≡_, sym, ap, subst, _∙_}
+use mathlib.Core.Bool.{true}
+use Prim.Native.Nat.{ℕ, _+_}
+use native.Mathlib.Omega.{arith}
+use lib.ListN.{length, take, drop, length-set}
+use lib.Dec.{lit<}
+use borrow.Author.Needs.{needs}
+use Rattle.fields.specs.Numbers.{typeTable, typeOf, typeDepth, findRow}
+use Rattle.fields.specs.Types.{Rows}
+use Rattle.fields.specs.Steps.{NoteSays, noPlaces}
+use Rattle.fields.specs.Table.{fieldCount}
+use Rattle.fields.specs.Laws.Numbers.{named-is}
+use Rattle.fields.specs.declared.Fields.{Fields}
+use Rattle.fields.specs.Laws.Notes.{note-none, note-next, note-done}
 use Rattle.fields.proofs.note.Statement.{statement}
 use Rattle.fields.proofs.note.Tie as tie
-use Rattle.fields.proofs.note.Reads as reads
-use Rattle.fields.proofs.note.Lts as lts
-use Rattle.fields.proofs.both.Reads as both-reads
-use Rattle.fields.proofs.judge.Reads as judge-reads
-use Rattle.fields.proofs.mark.Reads as mark-reads
-use Rattle.fields.proofs.no_places.Reads as no-places-reads
-use Rattle.fields.proofs.put_place.Reads as put-place-reads
-use Rattle.fields.proofs.row_of.Reads as row-of-reads
-use Rattle.fields.proofs.types.Reads as types-reads
-use Rattle.values.proofs.text_at.Reads as text-at-reads
 
 abbrev Inv-loop : tie.InvT-loop
-Inv-loop leads file count at types places₀ presence₀ typed₀ left₀ p₀ places presence typed left p =
-    ?
+Inv-loop leads file count at types places₀ presence₀ typed₀ left₀ p₀ places presence typed left p = (types ≡ typeTable) × ((length places ≡ fieldCount) × ((r : Fields) → NoteSays leads file places presence typed left p r → NoteSays leads file noPlaces 0 true count at r))
 
 abbrev μ-loop : tie.MeasureT-loop
-μ-loop leads file count at types places₀ presence₀ typed₀ left₀ p₀ places presence typed left p = ?
+μ-loop leads file count at types places₀ presence₀ typed₀ left₀ p₀ places presence typed left p = left
 
--- src/lib.rt:49:17
-types-requires : tie.Need-types-requires Inv-loop μ-loop
-types-requires c κs = ?
-
--- src/lib.rt:50:22
-no-places-requires : tie.Need-no-places-requires Inv-loop μ-loop
-no-places-requires c κs = ?
-
--- src/lib.rt:55:5
 loop-holds : tie.Need-loop-holds Inv-loop μ-loop
-loop-holds c = ?
+loop-holds c =
+    let a = c .before .before .before .args in
+    (c .before .types .ensures, (ap length (c .no-places .ensures), λ r h. subst (λ (l : List ℕ). NoteSays (a .leads .now) (a .file .now) l 0 true (a .count) (a .at) r) (c .no-places .ensures) h))
 
--- src/lib.rt:56:13
-text-at-requires : tie.Need-text-at-requires Inv-loop μ-loop
-text-at-requires c κs = ?
-
--- src/lib.rt:59:21
-add-value : tie.Need-add-value Inv-loop μ-loop
-add-value c = ?
-
--- src/lib.rt:60:13
 row-of-requires : tie.Need-row-of-requires Inv-loop μ-loop
-row-of-requires c κs = ?
+row-of-requires c κs = (c .before .before .before .loop .inv .0, (c .before .text-at .ensures .0, (lit< tt, lit< tt)))
 
--- src/lib.rt:61:13
 judge-requires : tie.Need-judge-requires Inv-loop μ-loop
-judge-requires c κs = ?
+judge-requires c κs = c .before .before .before .before .before .loop .inv .0
 
--- src/lib.rt:62:9
 put-place-requires : tie.Need-put-place-requires Inv-loop μ-loop
-put-place-requires c κs = ?
+put-place-requires c κs = c .before .before .before .before .before .before .before .loop .inv .1 .0
 
--- src/lib.rt:63:9
 mark-requires : tie.Need-mark-requires Inv-loop μ-loop
-mark-requires c κs = ?
+mark-requires c κs = lit< tt
 
--- src/lib.rt:64:9
-both-requires : tie.Need-both-requires Inv-loop μ-loop
-both-requires c κs = ?
-
--- src/lib.rt:66:9
-sub-left : tie.Need-sub-left Inv-loop μ-loop
-sub-left c = ?
-
--- src/lib.rt:55:5
-loop-less : tie.Need-loop-less Inv-loop μ-loop
-loop-less c = ?
-
--- src/lib.rt:55:5
 loop-again : tie.Need-loop-again Inv-loop μ-loop
-loop-again c = ?
+loop-again c =
+    let a = c .before .before .before .before .before .before .before .before .before .before .before .before .before .before .args in
+    let l = c .before .before .before .before .before .before .before .before .before .before .loop in
+    let key = c .before .before .before .before .before .before .before .before .text-at .result in
+    let i = c .before .before .before .before .before .before .row-of .result in
+    (l .inv .0, (ap length (c .before .before .put-place .ensures) ∙ length-set (l .places) i (key .at + key .count) ∙ l .inv .1 .0, λ r h. l .inv .1 .1 r (note-next (a .leads .now) (a .file .now) (l .places) (l .presence) (l .typed) (l .left) (l .p) i (c .before .before .before .before .judge .result .end) (c .before .before .before .before .judge .result .typed) (c .before .before .before .before .before .before .before .before .before .loop-test .taken) (l .inv .1 .0) (record { says = c .before .before .before .before .before .before .before .before .text-at .ensures .1 }) (c .before .before .before .before .before .before .row-of .ensures (typeOf typeDepth) ∙ ap (λ (z : Rows). findRow (take (key .count) (drop (key .at) (a .file .now))) z) named-is) (c .before .before .before .before .judge .ensures) (c .before .before .put-place .ensures) (c .before .mark .ensures) (c .both .ensures) h)))
 
--- src/lib.rt:46:1
 returns : tie.Need-returns Inv-loop μ-loop
-returns c = ?
+returns c =
+    let a = c .before .before .before .before .before .args in
+    let l = c .before .loop in
+    note-done (l .inv .1 .1 _ (note-none (a .leads .now) (a .file .now) (l .places) (l .presence) (l .typed) (l .left) (l .p) (c .loop-test .left) (l .inv .1 .0)))
 
 pub note-spec : {M : Type 1} → statement M
 note-spec =
@@ -80,17 +60,17 @@ note-spec =
     (tie.spec
     Inv-loop
     μ-loop
-    types-requires
-    no-places-requires
+    (λ c κs. search needs)
+    (λ c κs. search needs)
     loop-holds
-    text-at-requires
-    add-value
+    (λ c κs. search needs)
+    (λ c. search needs)
     row-of-requires
     judge-requires
     put-place-requires
     mark-requires
-    both-requires
-    sub-left
-    loop-less
+    (λ c κs. search needs)
+    (λ c. search needs)
+    (λ c. search needs)
     loop-again
     returns)

@@ -1,8 +1,8 @@
 -- A value of a kind that holds no others ends with its head or its body.
 use borrow.Author.Needs.{needs}
 use Rattle.fields.specs.Laws.Steps.{value-cut, head-read, plain-says}
-use Rattle.fields.specs.Tests.{typed}
 use Rattle.fields.specs.Types.{plain}
+use Rattle.fields.specs.Tests.{typed}
 use Rattle.fields.proofs.plain_at.Statement.{statement}
 use Rattle.fields.proofs.plain_at.Tie as tie
 

@@ -1,59 +1,41 @@
+-- The three tests are those of the number, in its order.
+use mathlib.Core.Path.{_≡_, sym, ap, _∙_}
+use borrow.Author.Tests.{not-true, not-false}
 use borrow.Author.Needs.{needs}
-use Rattle.fields.proofs.refusal_of.Statement.{statement}
+use Rattle.fields.specs.Fields.{isVersionOne}
+use Rattle.fields.specs.Numbers.{typeOf, typeDepth}
+use Rattle.fields.specs.Laws.Notes.{seen-have, version-read, fields-missing, fields-mistyped, fields-version, fields-right}
 use Rattle.fields.proofs.refusal_of.Tie as tie
-use Rattle.fields.proofs.refusal_of.Reads as reads
-use Rattle.fields.proofs.refusal_of.Lts as lts
-use Rattle.fields.proofs.all_seen.Reads as all-seen-reads
-use Rattle.fields.proofs.is_version_one.Reads as is-version-one-reads
-use Rattle.fields.proofs.types.Reads as types-reads
-use Rattle.values.proofs.text_at.Reads as text-at-reads
+use Rattle.fields.proofs.refusal_of.Statement.{statement}
 
--- src/lib.rt:79:17
-types-requires : tie.Need-types-requires
-types-requires c κs = search needs
-
--- src/lib.rt:80:9
-all-seen-requires : tie.Need-all-seen-requires
-all-seen-requires c κs = search needs
-
--- src/lib.rt:81:9
 returns : tie.Need-returns
-returns c = ?
+returns c = λ l es m. sym (fields-missing es (sym (seen-have m (c .before .all-seen .ensures (typeOf typeDepth))) ∙ not-true _ (c .if1 .taken)))
 
--- src/lib.rt:84:9
 returns-2 : tie.Need-returns-2
-returns-2 c = ?
+returns-2 c = λ l es m. sym (fields-mistyped es (sym (seen-have m (c .before .before .all-seen .ensures (typeOf typeDepth))) ∙ not-false _ (c .before .if1 .left)) (sym (m .typed) ∙ not-true _ (c .if2 .taken)))
 
--- src/lib.rt:86:48
-element-copy-out-text-at : tie.Need-element-copy-out-text-at
-element-copy-out-text-at c = search needs
-
--- src/lib.rt:86:9
-text-at-requires : tie.Need-text-at-requires
-text-at-requires c κs = search needs
-
--- src/lib.rt:89:9
-is-version-one-requires : tie.Need-is-version-one-requires
-is-version-one-requires c κs = search needs
-
--- src/lib.rt:90:9
 returns-3 : tie.Need-returns-3
-returns-3 c = ?
+returns-3 c =
+    λ l es m.
+        let h = sym (seen-have m (c .before .before .before .before .before .before .all-seen .ensures (typeOf typeDepth))) ∙ not-false _ (c .before .before .before .before .before .if1 .left) in
+        sym (fields-version es h (sym (m .typed) ∙ not-false _ (c .before .before .before .before .if2 .left)) (ap isVersionOne (sym (version-read m h (c .before .before .text-at .ensures .1 l))) ∙ sym (c .before .is-version-one .ensures) ∙ not-true _ (c .if3 .taken)))
 
--- src/lib.rt:76:1
 returns-4 : tie.Need-returns-4
-returns-4 c = ?
+returns-4 c =
+    λ l es m.
+        let h = sym (seen-have m (c .before .before .before .before .before .before .all-seen .ensures (typeOf typeDepth))) ∙ not-false _ (c .before .before .before .before .before .if1 .left) in
+        sym (fields-right es h (sym (m .typed) ∙ not-false _ (c .before .before .before .before .if2 .left)) (ap isVersionOne (sym (version-read m h (c .before .before .text-at .ensures .1 l))) ∙ sym (c .before .is-version-one .ensures) ∙ not-false _ (c .if3 .left)))
 
 pub refusal-of-spec : {M : Type 1} → statement M
 refusal-of-spec =
     tie.close
     (tie.spec
-    types-requires
-    all-seen-requires
+    (λ c κs. search needs)
+    (λ c κs. search needs)
     returns
     returns-2
-    element-copy-out-text-at
-    text-at-requires
-    is-version-one-requires
+    (λ c. search needs)
+    (λ c κs. search needs)
+    (λ c κs. search needs)
     returns-3
     returns-4)

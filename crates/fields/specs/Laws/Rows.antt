@@ -106,7 +106,7 @@ module _ (k : List ℕ) (x : Document) (es : Entries) where
   pub present-marked : (rows : Rows) → distinctNames rows ≡ true → setOf (present rows (entry k x es)) ≡ marked (rowCount rows) (setOf (present rows es)) (findRow k rows)
   present-marked rows d = ap setOf (present-entry rows d) ∙ set-marked (present rows es) (findRow k rows) (rowCount rows) (present-length rows es)
 
-  -- the values of the rows: one is the first entry's, and its row has none in the rest
+  -- the values of the rows: one is the first entry's
   pub valueOf-entry : (i : ℕ) (rows : Rows) → distinctNames rows ≡ true → i < rowCount rows → valueOf i rows (entry k x es) ≡ cond (eqb i (findRow k rows)) (some x) (valueOf i rows es)
   unfolding valueOf distinctNames look findRow rowCount
   valueOf-entry i last d lt = absurd (omega arith)
@@ -124,11 +124,12 @@ module _ (k : List ℕ) (x : Document) (es : Entries) where
           rw eqb·suc-zero (valueOf-other k x es i rows o)
       go false e rest = rw eqb·suc-suc rest
 
-  pub valueOf-fresh : (rows : Rows) → NoKey k es → valueOf (findRow k rows) rows es ≡ nothing
-  unfolding valueOf findRow
-  valueOf-fresh last f = refl
-  valueOf-fresh (row l q t rows) f = go (equal k l) refl (valueOf-fresh rows f)
-    where
-      go : (b : Bool) → equal k l ≡ b → valueOf (findRow k rows) rows es ≡ nothing → valueOf (cond b 0 (suc (findRow k rows))) (row l q t rows) es ≡ nothing
-      go true e rest = look-none l es (rw (equal-true k l e) at f)
-      go false e rest = rest
+-- the row of a new key has no value
+pub valueOf-fresh : (k : List ℕ) (es : Entries) (rows : Rows) → NoKey k es → valueOf (findRow k rows) rows es ≡ nothing
+unfolding valueOf findRow
+valueOf-fresh k es last f = refl
+valueOf-fresh k es (row l q t rows) f = go (equal k l) refl (valueOf-fresh k es rows f)
+  where
+    go : (b : Bool) → equal k l ≡ b → valueOf (findRow k rows) rows es ≡ nothing → valueOf (cond b 0 (suc (findRow k rows))) (row l q t rows) es ≡ nothing
+    go true e rest = look-none l es (rw (equal-true k l e) at f)
+    go false e rest = rest

@@ -225,11 +225,11 @@ module _ {leads s : List ℕ} {at n p k : ℕ} (r : HeadRead leads s at n p k) w
 -- the values of an array, one after another
 
 -- a step was right: where it ended, and that it passed
-passed : (b : Bool) {q e : ℕ} → Typed.Ends q ≡ endsIf b e → (b ≡ true) × (q ≡ e)
+pub passed : (b : Bool) {q e : ℕ} → Typed.Ends q ≡ endsIf b e → (b ≡ true) × (q ≡ e)
 passed true h = (refl, cc)
 passed false h = let z : _≡_ {A = ℕ} 0 1 = cc in absurd (omega arith)
 
-failed : (b : Bool) (e : ℕ) → Typed.Wrong ≡ endsIf b e → b ≡ false
+pub failed : (b : Bool) (e : ℕ) → Typed.Wrong ≡ endsIf b e → b ≡ false
 failed true e h = let z : _≡_ {A = ℕ} 0 1 = cc in absurd (omega arith)
 failed false e h = refl
 
@@ -304,7 +304,7 @@ first-entry {s = s} {p = p} {key = key} t l (entry k x es) e n a c pos =
       positive = omega (arith, i .0, u .ends);
     }
 
-or-marked : (n a b i : ℕ) → bitOr a (marked n b i) ≡ bitOr (marked n a i) b
+pub or-marked : (n a b i : ℕ) → bitOr a (marked n b i) ≡ bitOr (marked n a i) b
 or-marked n a b i = go (ltb i n)
   where
     go : (t : Bool) → bitOr a (cond t (bitOr b (2 ^ i)) b) ≡ bitOr (cond t (bitOr a (2 ^ i)) a) b
