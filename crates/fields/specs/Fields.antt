@@ -10,7 +10,7 @@ use lib.ListN.{getD}
 use Rattle.refusal.specs.Table.{accepted, fieldMissing, fieldType, versionNot1}
 use Rattle.messagepack.specs.Document.{Document, Entries}
 use Rattle.values.specs.Parts.{textOf}
-use Rattle.fields.specs.Types.{Rows, last, row, look, Has, Fits}
+use Rattle.fields.specs.Types.{FieldType, Rows, plain, last, row, look, Has, Fits}
 use Rattle.fields.specs.Tests.{isThere, have, fitting}
 use Rattle.fields.specs.Table.{named}
 
@@ -23,6 +23,22 @@ valueOf (suc i) (row k q t rows) es = valueOf i rows es
 -- the value of the named field i, 0 to 38
 unfoldable pub fieldAt : ℕ → Entries → Option Document
 fieldAt i es = valueOf i named es
+
+-- the type of row i; no document has that of no row
+unfoldable pub typeIn : ℕ → Rows → FieldType
+typeIn i last = plain 0
+typeIn zero (row k q t rows) = t
+typeIn (suc i) (row k q t rows) = typeIn i rows
+
+-- the type of the named field i
+unfoldable pub fieldTypeOf : ℕ → FieldType
+fieldTypeOf i = typeIn i named
+
+-- is row i required?
+unfoldable pub requiredIn : ℕ → Rows → Bool
+requiredIn i last = false
+requiredIn zero (row k q t rows) = q
+requiredIn (suc i) (row k q t rows) = requiredIn i rows
 
 -- which of the rows' keys are there
 unfoldable pub present : Rows → Entries → List Bool

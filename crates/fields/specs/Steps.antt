@@ -6,7 +6,7 @@ use mathlib.Core.Option.{Option, some, none as nothing}
 use Prim.Native.Nat.{ℕ, _+_, _<_}
 use lib.Bits.{bitOr}
 use lib.Dec.{eqb, leb, ltb}
-use lib.ListN.{length, getD, set, replicate}
+use lib.ListN.{length, getD, replicate}
 use Rattle.heads.specs.Table.{leadTable}
 use Rattle.heads.specs.declared.Kind.{Kind}
 use Rattle.messagepack.specs.Document.{Document, Documents, Entries, count, size}
@@ -77,7 +77,3 @@ pub record NoteSays (leads s : List ℕ) (places : List ℕ) (presence : ℕ) (t
 -- no places
 abbrev pub noPlaces : List ℕ
 noPlaces = replicate fieldCount 0
-
--- the places with one of them put at i, if there is an i
-abbrev pub putAt : List ℕ → ℕ → ℕ → List ℕ
-putAt places i p = set places i p

@@ -4,7 +4,7 @@
 ghost use mathlib.Core.Path.{_≡_};
 ghost use mathlib.Core.Bool.{Bool, true, false, _&&_};
 ghost use Prim.Native.Nat.{ℕ, _+_, _*_, _≤_, _<_};
-ghost use lib.ListN.{length, take, drop};
+ghost use lib.ListN.{length, take, drop, set};
 ghost use Rattle.heads.specs.Table.{leadTable};
 ghost use Rattle.messagepack.specs.Document.{Document, Entries, size};
 ghost use Rattle.messagepack.specs.Walk.{equal};
@@ -12,10 +12,10 @@ ghost use Rattle.values.specs.Places.{At, AtEntries};
 ghost use Rattle.fields.specs.Types.{FieldType, plain};
 ghost use Rattle.fields.specs.Table.{fieldCount};
 ghost use Rattle.fields.specs.Tests.{typed};
-ghost use Rattle.fields.specs.Fields.{isVersionOne, fieldsNumber};
+ghost use Rattle.fields.specs.Fields.{fieldTypeOf, isVersionOne, fieldsNumber};
 ghost use Rattle.fields.specs.Noted.{Noted};
 ghost use Rattle.fields.specs.Numbers.{typeTable, cellOf, nameOf, needOf, rowsFrom, typeOf, findRow, rowTest, build, covered, marked, lacking, distinctNames};
-ghost use Rattle.fields.specs.Steps.{numberOf, plainEnd, ValueSays, ItemsSay, EntriesSay, RowSays, noPlaces, putAt};
+ghost use Rattle.fields.specs.Steps.{numberOf, plainEnd, ValueSays, ItemsSay, EntriesSay, RowSays, noPlaces};
 use heads::Head;
 use heads::Kind;
 
@@ -92,6 +92,18 @@ pub fn refusal_of(leads: &[u8; 256], file: &[u8], fields: Fields) -> u8
     refusal::ACCEPTED
 }
 
+// Has the value at a place the type of a named field? Where there is no such field, no value has.
+pub fn is_typed(leads: &[u8; 256], file: &[u8], at: usize, field: usize) -> bool
+    ensures { λ r. ⌜ (now (leads .entry) ≡ leadTable → (x : Document) (e : ℕ) → At (now (file .entry)) at x e → r ≡ typed (fieldTypeOf field) x) ⌝ }
+{
+    if FIELD_COUNT <= field {
+        return false;
+    }
+    let types = types();
+    let judged = judge(leads, file, &types, at, field);
+    judged.typed
+}
+
 // Do the m bytes from a on begin with "1." and a digit?
 fn is_version_one(file: &[u8], a: usize, m: usize) -> bool
     requires { ⌜ a + m ≤ length (now file) ⌝ }
@@ -123,7 +135,7 @@ fn no_places() -> [usize; 39]
 // Puts a place at a field's number, if it is one.
 fn put_place(places: &mut [usize; 39], row: usize, place: usize)
     requires { ⌜ length (now places) ≡ fieldCount ⌝ }
-    ensures { λ _. ⌜ now (places .exit) ≡ putAt (now (places .entry)) row place ⌝ }
+    ensures { λ _. ⌜ now (places .exit) ≡ set (now (places .entry)) row place ⌝ }
 {
     if row < FIELD_COUNT {
         places[row] = place;

@@ -1,19 +1,19 @@
 -- What is noted in the end, from here on with what is noted so far, is what is noted of all entries.
+use mathlib.Core.Bool.{true}
 use mathlib.Core.List.{List}
 use mathlib.Core.Path.{_≡_, sym, ap, subst, _∙_}
-use mathlib.Core.Bool.{true}
 use Prim.Native.Nat.{ℕ, _+_}
 use native.Mathlib.Omega.{arith}
 use lib.ListN.{length, take, drop, length-set}
 use lib.Dec.{lit<}
 use borrow.Author.Needs.{needs}
-use Rattle.fields.specs.Numbers.{typeTable, typeOf, typeDepth, findRow}
 use Rattle.fields.specs.Types.{Rows}
+use Rattle.fields.specs.Numbers.{typeTable, typeOf, typeDepth, findRow}
+use Rattle.fields.specs.Laws.Notes.{note-none, note-next, note-done}
 use Rattle.fields.specs.Steps.{NoteSays, noPlaces}
+use Rattle.fields.specs.declared.Fields.{Fields}
 use Rattle.fields.specs.Table.{fieldCount}
 use Rattle.fields.specs.Laws.Numbers.{named-is}
-use Rattle.fields.specs.declared.Fields.{Fields}
-use Rattle.fields.specs.Laws.Notes.{note-none, note-next, note-done}
 use Rattle.fields.proofs.note.Statement.{statement}
 use Rattle.fields.proofs.note.Tie as tie
 

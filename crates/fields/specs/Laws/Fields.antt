@@ -4,6 +4,7 @@ use mathlib.Core.Path.{_≡_, refl, sym, ap, _∙_}
 use mathlib.Core.Bool.{Bool, true, false, cond, _&&_}
 use mathlib.Core.List.{List, [], _∷_}
 use mathlib.Core.Logic.{_↔_}
+use mathlib.Core.Option.{some}
 use Prim.Native.Nat.{ℕ, zero, suc, _+_, _<_, _≤_}
 use native.Mathlib.Omega.{arith}
 use native.Mathlib.Nat.{add-zero}
@@ -12,11 +13,36 @@ use lib.ListN.{getD, take, drop, length-take, List·getD-eq-default}
 use lib.Seq.{getD-take, getD-drop}
 use borrow.Author.Tests.{eqb-true, leb-true, le-leb}
 use Rattle.refusal.specs.Table.{accepted, fieldMissing, fieldType, versionNot1}
-use Rattle.messagepack.specs.Document.{Entries}
+use Rattle.messagepack.specs.Document.{Document, Entries}
+use Rattle.fields.specs.Types.{Rows, last, row, Has, Fits, HasType}
 use Rattle.fields.specs.Tests.{have, fitting}
 use Rattle.fields.specs.Table.{named}
-use Rattle.fields.specs.Fields.{VersionOne, isVersionOne, versionOf, FieldsRight, fieldsNumber}
+use Rattle.fields.specs.Fields.{valueOf, fieldAt, typeIn, fieldTypeOf, requiredIn, VersionOne, isVersionOne, versionOf, FieldsRight, fieldsNumber}
 use Rattle.fields.specs.Laws.Types.{clash, and-left, and-right, have-exactly, fitting-exactly}
+
+-- each field that is there has its type, and each required one is there
+
+pub fits-type : (rows : Rows) (es : Entries) → Fits rows es → (i : ℕ) (x : Document) → valueOf i rows es ≡ some x → HasType (typeIn i rows) x
+unfolding Fits valueOf typeIn
+fits-type last es f i x h = let z : _≡_ {A = ℕ} 0 1 = cc in absurd (omega arith)
+fits-type (row k q t rows) es f zero x h = f .0 x h
+fits-type (row k q t rows) es f (suc i) x h = fits-type rows es (f .1) i x h
+
+pub field-type : (es : Entries) → Fits named es → (i : ℕ) (x : Document) → fieldAt i es ≡ some x → HasType (fieldTypeOf i) x
+unfolding fieldAt fieldTypeOf
+field-type es f i x h = fits-type named es f i x h
+
+pub has-value : (rows : Rows) (es : Entries) → Has rows es → (i : ℕ) → requiredIn i rows ≡ true → record { x : Document; is : valueOf i rows es ≡ some x }
+unfolding Has valueOf requiredIn
+has-value last es h i q = clash q
+has-value (row k true t rows) es h zero q = h .0
+has-value (row k false t rows) es h zero q = clash q
+has-value (row k true t rows) es h (suc i) q = has-value rows es (h .1) i q
+has-value (row k false t rows) es h (suc i) q = has-value rows es h i q
+
+pub field-there : (es : Entries) → Has named es → (i : ℕ) → requiredIn i named ≡ true → record { x : Document; is : fieldAt i es ≡ some x }
+unfolding fieldAt
+field-there es h i q = has-value named es h i q
 
 -- the test of the version says what its rule says
 

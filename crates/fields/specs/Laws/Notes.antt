@@ -20,20 +20,20 @@ use Rattle.values.specs.Places.{At, AtEntries, TextAt}
 use Rattle.values.specs.Standing.{Standing}
 use Rattle.values.specs.Laws.Places.{at-standing}
 use Rattle.values.specs.declared.Part.{Part}
-use Rattle.fields.specs.Types.{Rows, look}
+use Rattle.fields.specs.Types.{FieldType, Rows}
 use Rattle.fields.specs.Table.{named, fieldCount}
-use Rattle.fields.specs.Tests.{isThere, have, fitting}
-use Rattle.fields.specs.Fields.{valueOf, fieldAt, present, setOf, presenceOf, textIn, versionOf, isVersionOne, fieldsNumber}
+use Rattle.fields.specs.Tests.{isThere, have, typed, fitting}
+use Rattle.fields.specs.Fields.{fieldAt, fieldTypeOf, valueOf, present, setOf, presenceOf, textIn, versionOf, isVersionOne, fieldsNumber}
 use Rattle.fields.specs.Noted.{PlaceSays, gone, there, Noted}
 use Rattle.fields.specs.Numbers.{rowsFrom, typeOf, typeDepth, firstField, findRow, rowTest, covered, marked}
-use Rattle.fields.specs.Steps.{ValueSays, RowSays, PlaceFrom, same, found, NotedFrom, NoteSays, noPlaces, putAt}
+use Rattle.fields.specs.Steps.{ValueSays, RowSays, PlaceFrom, same, found, NotedFrom, NoteSays, noPlaces}
 use Rattle.fields.specs.declared.Typed.{Typed}
 use Rattle.fields.specs.declared.Fields.{Fields}
 use Rattle.fields.specs.Laws.Types.{clash, and-left}
 use Rattle.fields.specs.Laws.Sets.{present-none, covered-have}
 use Rattle.fields.specs.Laws.Rows.{rowCount, fitting-none, valueOf-none, fitting-entry, present-marked, valueOf-entry, valueOf-fresh}
-use Rattle.fields.specs.Laws.Numbers.{named-is, named-distinct, named-count}
-use Rattle.fields.specs.Laws.Steps.{passed, failed, or-marked, KeyRead, FirstEntry, first-entry}
+use Rattle.fields.specs.Laws.Numbers.{named-is, named-distinct, named-count, row-type, no-type}
+use Rattle.fields.specs.Laws.Steps.{no-kind, passed, failed, or-marked, KeyRead, FirstEntry, first-entry}
 
 -- a field's value by its row
 
@@ -49,6 +49,16 @@ module _ (i : ℕ) {leads s : List ℕ} {at : ℕ} {v : Typed} (h : ValueSays le
   pub judge-wrong : (e : ℕ) → v ≡ Typed.Wrong → (leads ≡ leadTable → (f : ℕ) → Standing s 1 at f → e ≡ f) → RowSays leads s i at e false
   judge-wrong e is over = record { says = λ l x f a.
     (over l f (at-standing a), sym (failed (rowTest i (rowsFrom (typeOf typeDepth) fieldCount firstField) x) f (sym is ∙ h .says l x f a)) ∙ row-named i x) }
+
+-- the same by the field's type
+
+pub is-typed : {leads s : List ℕ} {i at e : ℕ} {b : Bool} → RowSays leads s i at e b → i < fieldCount → leads ≡ leadTable → (x : Document) (f : ℕ) → At s at x f → b ≡ typed (fieldTypeOf i) x
+unfolding fieldTypeOf
+is-typed {i = i} h lt l x f a = h .says l x f a .1 ∙ row-type named i x (omega (arith, named-count))
+
+pub is-untyped : (i : ℕ) → fieldCount ≤ i → (x : Document) → false ≡ typed (fieldTypeOf i) x
+unfolding fieldTypeOf
+is-untyped i le x = sym (ap (λ (t : FieldType). typed t x) (no-type named i (omega (arith, named-count))) ∙ no-kind x)
 
 -- places
 
@@ -75,7 +85,7 @@ unfolding fieldAt
 field-fresh k es f = valueOf-fresh k es named f
 
 -- its place, when the entry's value stands at q
-place-entry : {s : List ℕ} (k : List ℕ) (x : Document) (es : Entries) (places : List ℕ) (i q e : ℕ) → i ≡ findRow k named → NoKey k es → length places ≡ fieldCount → 0 < q → At s q x e → (j final : ℕ) → j < fieldCount → PlaceFrom s (getD (putAt places i q) j 0) (fieldAt j es) final → PlaceFrom s (getD places j 0) (fieldAt j (entry k x es)) final
+place-entry : {s : List ℕ} (k : List ℕ) (x : Document) (es : Entries) (places : List ℕ) (i q e : ℕ) → i ≡ findRow k named → NoKey k es → length places ≡ fieldCount → 0 < q → At s q x e → (j final : ℕ) → j < fieldCount → PlaceFrom s (getD (set places i q) j 0) (fieldAt j es) final → PlaceFrom s (getD places j 0) (fieldAt j (entry k x es)) final
 place-entry {s} k x es places i q e is f long pos a j final lt rest = rw (field-entry k x es j lt) (go (eqb j (findRow k named)) refl)
   where
     go : (t : Bool) → eqb j (findRow k named) ≡ t → PlaceFrom s (getD places j 0) (cond t (some x) (fieldAt j es)) final
@@ -83,7 +93,7 @@ place-entry {s} k x es places i q e is f long pos a j final lt rest = rw (field-
         let r : j ≡ findRow k named = eqb-true j (findRow k named) h in
         let g : j ≡ i = r ∙ sym is in
         let n : fieldAt j es ≡ nothing = ap (λ (z : ℕ). fieldAt z es) r ∙ field-fresh k es f in
-        let p : final ≡ q = same-place rest n ∙ ap (λ (z : ℕ). getD (putAt places i q) z 0) g ∙ getD-set-same places i q 0 (omega arith) in
+        let p : final ≡ q = same-place rest n ∙ ap (λ (z : ℕ). getD (set places i q) z 0) g ∙ getD-set-same places i q 0 (omega arith) in
         subst (λ (z : ℕ). PlaceFrom s (getD places j 0) (some x) z) (sym p) (found pos a)
     go false h = subst (λ (z : ℕ). PlaceFrom s z (fieldAt j es) final) (getD-set-other places i j q 0 (λ g. eqb-false j (findRow k named) h (g ∙ is))) rest
 
@@ -102,7 +112,7 @@ note-none leads s places presence typed n p le long = record { says = λ l es e 
     }
     go (entry k x es) c = absurd (omega (arith, c))
 
-pub note-next : (leads s places : List ℕ) (presence : ℕ) (typed : Bool) (n p i q : ℕ) (b : Bool) {key : Part} {after : List ℕ} {next : ℕ} {right : Bool} {r : Fields} → 0 < n → length places ≡ fieldCount → KeyRead leads s p key → i ≡ findRow (take (key .count) (drop (key .at) s)) named → RowSays leads s i (key .at + key .count) q b → after ≡ putAt places i (key .at + key .count) → next ≡ marked fieldCount presence i → right ≡ (typed && b) → NoteSays leads s after next right (n - 1) q r → NoteSays leads s places presence typed n p r
+pub note-next : (leads s places : List ℕ) (presence : ℕ) (typed : Bool) (n p i q : ℕ) (b : Bool) {key : Part} {after : List ℕ} {next : ℕ} {right : Bool} {r : Fields} → 0 < n → length places ≡ fieldCount → KeyRead leads s p key → i ≡ findRow (take (key .count) (drop (key .at) s)) named → RowSays leads s i (key .at + key .count) q b → after ≡ set places i (key .at + key .count) → next ≡ marked fieldCount presence i → right ≡ (typed && b) → NoteSays leads s after next right (n - 1) q r → NoteSays leads s places presence typed n p r
 note-next leads s places presence typed n p i q b {key} {after} {next} {right} {r} pos long read row here put set fit rest = record { says = λ l es e a c. go l es e a c }
   where
     noted : (k : List ℕ) (x : Document) (es : Entries) (e : ℕ) → i ≡ findRow k named → NoKey k es → 0 < key .at + key .count → At s (key .at + key .count) x e → b ≡ rowTest i named x → NotedFrom s after next right es r → NotedFrom s places presence typed (entry k x es) r

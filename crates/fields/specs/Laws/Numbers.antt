@@ -20,6 +20,7 @@ use Rattle.messagepack.specs.Laws.Keys.{equal-lengths, equal-next, equal-not, e
 use Rattle.fields.specs.Types.{FieldType, Rows, plain, mapWith, last, row}
 use Rattle.fields.specs.Table.{groupRows, transformRows, assemblyRows, entityRows, named, fieldCount}
 use Rattle.fields.specs.Tests.{typed}
+use Rattle.fields.specs.Fields.{typeIn}
 use Rattle.fields.specs.Numbers.{rowCells, typeTable, cellOf, tagOf, manyOf, insideOf, rowAt, nameOf, needOf, codeOf, rowsFrom, build, typeOf, typeCount, typeDepth, firstField, findRow, rowTest, covered, newName, distinctNames, lacking}
 use Rattle.fields.specs.Laws.Types.{clash, and-left, and-right}
 use Rattle.fields.specs.Laws.Rows.{rowCount}
@@ -165,6 +166,20 @@ unfolding rowTest rowsFrom
 row-free f zero r i x le = refl
 row-free f (suc n) r zero x le = absurd (omega arith)
 row-free f (suc n) r (suc i) x le = row-free f n (r + 1) i x (omega arith)
+
+-- a row's test is that of its type
+
+pub row-type : (rows : Rows) (i : ℕ) (x : Document) → i < rowCount rows → rowTest i rows x ≡ typed (typeIn i rows) x
+unfolding rowTest typeIn rowCount
+row-type last i x lt = absurd (omega arith)
+row-type (row k q t rows) zero x lt = refl
+row-type (row k q t rows) (suc i) x lt = row-type rows i x (omega arith)
+
+pub no-type : (rows : Rows) (i : ℕ) → rowCount rows ≤ i → typeIn i rows ≡ plain 0
+unfolding typeIn rowCount
+no-type last i le = refl
+no-type (row k q t rows) zero le = absurd (omega arith)
+no-type (row k q t rows) (suc i) le = no-type rows i (omega arith)
 
 -- the names of rows are different whatever their types are
 

@@ -108,17 +108,22 @@ pub value-cut : (leads s : List ℕ) (at : ℕ) (f : Document → Bool) {h : Hea
 value-cut leads s at f r c = record { says = λ le x e a. let d = head-there x a in let i = r le in let j = d .is in cc }
 
 -- no document has the type 0
+
+some-kind : (x : Document) → kindNumber x ≡ 0 → ⊥
+some-kind (integer v) h = omega (arith, h)
+some-kind (float v) h = omega (arith, h)
+some-kind (string v) h = omega (arith, h)
+some-kind (binary v) h = omega (arith, h)
+some-kind (array v) h = omega (arith, h)
+some-kind (map v) h = omega (arith, h)
+
+pub no-kind : (x : Document) → typed (plain 0) x ≡ false
+unfolding typed
+no-kind x = ne-eqb (kindNumber x) 0 (some-kind x)
+
 pub nothing-says : (leads s : List ℕ) (at : ℕ) (t : FieldType) → t ≡ plain 0 → ValueSays leads s (typed t) at Typed.Wrong
 unfolding typed
-nothing-says leads s at t q = record { says = λ le x e a. rw (q, ne-eqb (kindNumber x) 0 (some-kind x)) }
-  where
-    some-kind : (x : Document) → kindNumber x ≡ 0 → ⊥
-    some-kind (integer v) h = omega (arith, h)
-    some-kind (float v) h = omega (arith, h)
-    some-kind (string v) h = omega (arith, h)
-    some-kind (binary v) h = omega (arith, h)
-    some-kind (array v) h = omega (arith, h)
-    some-kind (map v) h = omega (arith, h)
+nothing-says leads s at t q = record { says = λ le x e a. rw (q, no-kind x) }
 
 array-not : (f : Documents → Bool) (x : Document) → (kindNumber x ≡ 5 → ⊥) → onArray x f ≡ false
 array-not f (integer v) d = refl
