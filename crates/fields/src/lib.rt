@@ -77,10 +77,12 @@ pub fn refusal_of(leads: &[u8; 256], file: &[u8], fields: Fields) -> u8
     ensures { λ r. ⌜ (now (leads .entry) ≡ leadTable → (es : Entries) → Noted (now (file .entry)) es fields → r ≡ fieldsNumber es) ⌝ }
 {
     let types = types();
-    if !all_seen(&types, fields.presence, FIRST_FIELD, FIELD_COUNT) {
+    let whole = all_seen(&types, fields.presence, FIRST_FIELD, FIELD_COUNT);
+    let right = fields.typed;
+    if !whole {
         return refusal::FIELD_MISSING;
     }
-    if !fields.typed {
+    if !right {
         return refusal::FIELD_TYPE;
     }
     let version = values::text_at(leads, file, fields.places[0]);
@@ -162,8 +164,20 @@ fn judge(leads: &[u8; 256], file: &[u8], types: &[u8; 1261], at: usize, row: usi
     requires { ⌜ now types ≡ typeTable ⌝ }
     ensures { λ r. ⌜ RowSays (now (leads .entry)) (now (file .entry)) row at (r .end) (r .typed) ⌝ }
 {
-    match row_typed(leads, file, types, at, FIRST_FIELD, FIELD_COUNT, row, TYPE_DEPTH) {
-        Typed::Ends(e) => Judged { end: e, typed: true },
+    match row_typed(
+        leads,
+        file,
+        types,
+        at,
+        FIRST_FIELD,
+        FIELD_COUNT,
+        row,
+        TYPE_DEPTH,
+    ) {
+        Typed::Ends(e) => Judged {
+            end: e,
+            typed: true,
+        },
         Typed::Wrong => Judged {
             end: values::skip(leads, file, at),
             typed: false,
@@ -293,7 +307,14 @@ fn entries_typed(
 }
 
 // The value at a place by a type with no types inside: a value of a kind, or an array of those, or of exactly so many.
-fn simple_at(leads: &[u8; 256], file: &[u8], at: usize, tag: usize, many: usize, wanted: usize) -> Typed
+fn simple_at(
+    leads: &[u8; 256],
+    file: &[u8],
+    at: usize,
+    tag: usize,
+    many: usize,
+    wanted: usize,
+) -> Typed
     requires { ⌜ (tag < 3) × (wanted ≤ 4) ⌝ }
     ensures { λ r. ⌜ ((f : ℕ → FieldType) → ValueSays (now (leads .entry)) (now (file .entry)) (typed (build f tag many wanted)) at r) ⌝ }
 {
@@ -468,11 +489,14 @@ fn types() -> [u8; 1261]
 
 // The row of the first named field, how many types have a number, and the levels of the deepest.
 const FIRST_FIELD: usize = 16;
+
 const TYPE_COUNT: usize = 17;
+
 const TYPE_DEPTH: usize = 5;
 
 // Where the first row starts in the table, and the bytes of a row.
 const ROWS_AT: usize = 51;
+
 const ROW_SIZE: usize = 22;
 
 // Three bytes for each type: 0 a value of a kind, 1 an array of values of a kind, 2 an array of exactly so many, 3 an array of values of a type,

@@ -109,18 +109,25 @@ module _ (f : ℕ → FieldType) (n r i : ℕ) where
       let g : r + i + 1 ≡ r + (i + 1) = omega arith in
       rows-first f (n - i) (r + i) (omega arith) ∙ rw (e, g)
 
-  -- a row found, and one passed
-  pub found-here : (k : List ℕ) → i < n → equal k (nameOf (r + i)) ≡ true → i ≡ i + findRow k (rowsLeft f n r i)
-  unfolding findRow
-  found-here k lt e = rw (left-first lt, e, add-zero i)
+  -- no row before i has a name: the row at i has it, or those after it may, or there are none
+  module _ (k : List ℕ) (so-far : findRow k (rowsFrom f n r) ≡ i + findRow k (rowsLeft f n r i)) where
+    pub found-here : {b : Bool} → i < n → b ≡ equal k (nameOf (r + i)) → b ≡ true → i ≡ findRow k (rowsFrom f n r)
+    unfolding findRow
+    found-here lt d e =
+        let here : findRow k (rowsLeft f n r i) ≡ 0 = rw (left-first lt, ← d, e) in
+        omega arith
 
-  pub found-later : (k : List ℕ) → i < n → equal k (nameOf (r + i)) ≡ false → i + findRow k (rowsLeft f n r i) ≡ i + 1 + findRow k (rowsLeft f n r (i + 1))
-  unfolding findRow
-  found-later k lt e = rw (left-first lt, e) (omega arith)
+    pub found-later : {b : Bool} → i < n → b ≡ equal k (nameOf (r + i)) → b ≡ false → findRow k (rowsFrom f n r) ≡ i + 1 + findRow k (rowsLeft f n r (i + 1))
+    unfolding findRow
+    found-later lt d e =
+        let later : findRow k (rowsLeft f n r i) ≡ suc (findRow k (rowsLeft f n r (i + 1))) = rw (left-first lt, ← d, e) in
+        omega arith
 
-  pub found-none : (k : List ℕ) → n ≤ i → i + findRow k (rowsLeft f n r i) ≡ i
-  unfolding findRow
-  found-none k le = rw (rows-none f (n - i) (r + i) (omega arith), add-zero i)
+    pub found-none : i ≤ n → n ≤ i → n ≡ findRow k (rowsFrom f n r)
+    unfolding findRow
+    found-none ge le =
+        let none : findRow k (rowsLeft f n r i) ≡ 0 = rw (rows-none f (n - i) (r + i) (omega arith)) in
+        omega arith
 
   -- the required rows that are seen, row by row
   pub covered-next : (seen : ℕ) → i < n → lacking (cellOf (rowAt (r + i) + 1)) seen ≡ false → covered (rowsLeft f n r i) seen ≡ covered (rowsLeft f n r (i + 1)) (seen / 2)

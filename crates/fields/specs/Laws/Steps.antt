@@ -223,9 +223,11 @@ module _ {leads s : List ℕ} {at n p k : ℕ} (r : HeadRead leads s at n p k) w
 
   pub mapWith-says : (rows : Rows) {v : Typed} → k ≡ 6 → EntriesSay leads s rows 0 n p v → ValueSays leads s (typed (mapWith rows)) at v
   unfolding typed
-  mapWith-says rows q i = record { says = λ le x e a.
-    let o = entries-of s at n p e (r .head le) x (sym (kinds le x a) ∙ q) a in
-    i .says le (o .es) e (o .all) (o .counts) ∙ ap (λ (b : Bool). endsIf b e) (ap (λ (b : Bool). fitting rows (o .es) && b) (covered-have rows (o .es)) ∙ and-comm (fitting rows (o .es)) (have rows (o .es))) ∙ ap (λ (z : Document). endsIf (onMap z (λ es. have rows es && fitting rows es)) e) (sym (o .is)) }
+  mapWith-says rows q i = record {
+    says = λ le x e a.
+        let o = entries-of s at n p e (r .head le) x (sym (kinds le x a) ∙ q) a in
+        i .says le (o .es) e (o .all) (o .counts) ∙ ap (λ (b : Bool). endsIf b e) (ap (λ (b : Bool). fitting rows (o .es) && b) (covered-have rows (o .es)) ∙ and-comm (fitting rows (o .es)) (have rows (o .es))) ∙ ap (λ (z : Document). endsIf (onMap z (λ es. have rows es && fitting rows es)) e) (sym (o .is));
+  }
 
 -- the values of an array, one after another
 
