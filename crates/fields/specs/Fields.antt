@@ -58,6 +58,15 @@ setOf (b ∷ bs) = bit b + setOf bs * 2
 unfoldable pub presenceOf : Entries → ℕ
 presenceOf es = setOf (present named es)
 
+-- how many are in a set
+unfoldable pub countOf : List Bool → ℕ
+countOf [] = 0
+countOf (b ∷ bs) = bit b + countOf bs
+
+-- how many named fields are present
+unfoldable pub presentCount : Entries → ℕ
+presentCount es = countOf (present named es)
+
 -- the bytes of a string, if there is one
 abbrev pub textIn : Option Document → List ℕ
 textIn (some x) = textOf x

@@ -2,7 +2,7 @@
 // type, with the set of those that are present; and the refusals 12, 13 and 24. The types stand in one table of bytes, made once for a pass
 // and lent. Values, arrays and maps are gone through by functions that call each other, the levels left falling.
 ghost use mathlib.Core.Path.{_≡_};
-ghost use mathlib.Core.Bool.{Bool, true, false, _&&_};
+ghost use mathlib.Core.Bool.{true, false, _&&_};
 ghost use Prim.Native.Nat.{ℕ, _+_, _*_, _≤_, _<_};
 ghost use lib.ListN.{length, take, drop, set};
 ghost use Rattle.heads.specs.Table.{leadTable};
@@ -14,7 +14,7 @@ ghost use Rattle.fields.specs.Table.{fieldCount};
 ghost use Rattle.fields.specs.Tests.{typed};
 ghost use Rattle.fields.specs.Fields.{fieldTypeOf, isVersionOne, fieldsNumber};
 ghost use Rattle.fields.specs.Noted.{Noted};
-ghost use Rattle.fields.specs.Numbers.{typeTable, cellOf, nameOf, needOf, rowsFrom, typeOf, findRow, rowTest, build, covered, marked, lacking, distinctNames};
+ghost use Rattle.fields.specs.Numbers.{typeTable, cellOf, nameOf, rowsFrom, typeOf, findRow, rowTest, build, covered, marked, lacking, distinctNames};
 ghost use Rattle.fields.specs.Steps.{numberOf, plainEnd, ValueSays, ItemsSay, EntriesSay, RowSays, noPlaces};
 use heads::Head;
 use heads::Kind;

@@ -8,8 +8,8 @@ use borrow.Author.Needs.{needs}
 use Rattle.fields.specs.Laws.Numbers.{rowsLeft, left-all, found-here, found-later, found-none}
 use Rattle.fields.specs.Numbers.{findRow, rowsFrom}
 use Rattle.fields.specs.Types.{FieldType}
-use Rattle.fields.proofs.row_of.Statement.{statement}
 use Rattle.fields.proofs.row_of.Tie as tie
+use Rattle.fields.proofs.row_of.Statement.{statement}
 
 abbrev Inv-loop : tie.InvT-loop
 Inv-loop types file a m first n i₀ i = (i ≤ n) × ((f : ℕ → FieldType) → findRow (take m (drop a file)) (rowsFrom f n first) ≡ i + findRow (take m (drop a file)) (rowsLeft f n first i))

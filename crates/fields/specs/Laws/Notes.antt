@@ -2,7 +2,7 @@
 -- Assumes nothing.
 use mathlib.Core.Path.{_≡_, refl, sym, ap, subst, _∙_}
 use mathlib.Core.Bool.{Bool, true, false, cond, _&&_, and-true, and-assoc}
-use mathlib.Core.List.{List, [], _∷_}
+use mathlib.Core.List.{List}
 use mathlib.Core.Option.{Option, some, none as nothing}
 use Prim.Native.Nat.{ℕ, zero, suc, _+_, _-_, _<_, _≤_}
 use native.Mathlib.Omega.{arith}
@@ -15,7 +15,6 @@ use Rattle.refusal.specs.Table.{accepted, fieldMissing, fieldType, versionNot1}
 use Rattle.heads.specs.Table.{leadTable}
 use Rattle.messagepack.specs.Document.{Document, Entries, empty, entry, size}
 use Rattle.messagepack.specs.Rules.{NoKey}
-use Rattle.values.specs.Parts.{textOf}
 use Rattle.values.specs.Places.{At, AtEntries, TextAt}
 use Rattle.values.specs.Standing.{Standing}
 use Rattle.values.specs.Laws.Places.{at-standing}
@@ -31,9 +30,9 @@ use Rattle.fields.specs.declared.Typed.{Typed}
 use Rattle.fields.specs.declared.Fields.{Fields}
 use Rattle.fields.specs.Laws.Types.{clash, and-left}
 use Rattle.fields.specs.Laws.Sets.{present-none, covered-have}
-use Rattle.fields.specs.Laws.Rows.{rowCount, fitting-none, valueOf-none, fitting-entry, present-marked, valueOf-entry, valueOf-fresh}
+use Rattle.fields.specs.Laws.Rows.{fitting-none, valueOf-none, fitting-entry, present-marked, valueOf-entry, valueOf-fresh}
 use Rattle.fields.specs.Laws.Numbers.{named-is, named-distinct, named-count, row-type, no-type}
-use Rattle.fields.specs.Laws.Steps.{no-kind, passed, failed, or-marked, KeyRead, FirstEntry, first-entry}
+use Rattle.fields.specs.Laws.Steps.{no-kind, passed, failed, or-marked, KeyRead, first-entry}
 
 -- a field's value by its row
 

@@ -1,13 +1,12 @@
 -- The table of numbers says what Table.antt says, and what is read from it.
 -- Assumes nothing.
 use mathlib.Core.Path.{_≡_, refl, sym, ap, _∙_}
-use mathlib.Core.Bool.{Bool, true, false, cond, not, _&&_, _||_}
-use mathlib.Core.List.{List, [], _∷_}
+use mathlib.Core.Bool.{Bool, true, false, not, _&&_, _||_}
+use mathlib.Core.List.{List}
 use Prim.Native.Nat.{ℕ, zero, suc, _+_, _-_, _*_, _/_, _%_, _<_, _≤_}
 use native.Mathlib.Omega.{arith}
-use native.Mathlib.Nat.{zero-add, add-zero, sub-zero}
-use native.Mathlib.Numerals.{add-one}
-use lib.Dec.{eqb, ltb, leb}
+use native.Mathlib.Nat.{add-zero, sub-zero}
+use lib.Dec.{eqb, leb}
 use lib.ListN.{length, getD, take, drop}
 use lib.Seq.{getD-take, getD-drop}
 use borrow.Author.Tests.{leb-true, eqb-true, eqb-false, lt-ltb, le-ltb}
@@ -21,9 +20,8 @@ use Rattle.fields.specs.Types.{FieldType, Rows, plain, mapWith, last, ro
 use Rattle.fields.specs.Table.{groupRows, transformRows, assemblyRows, entityRows, named, fieldCount}
 use Rattle.fields.specs.Tests.{typed}
 use Rattle.fields.specs.Fields.{typeIn}
-use Rattle.fields.specs.Numbers.{rowCells, typeTable, cellOf, tagOf, manyOf, insideOf, rowAt, nameOf, needOf, codeOf, rowsFrom, build, typeOf, typeCount, typeDepth, firstField, findRow, rowTest, covered, newName, distinctNames, lacking}
+use Rattle.fields.specs.Numbers.{rowCells, typeTable, cellOf, tagOf, manyOf, insideOf, rowAt, nameOf, needOf, codeOf, rowsFrom, build, typeOf, typeCount, typeDepth, firstField, findRow, rowTest, covered, newName, distinctNames, lacking, rowCount}
 use Rattle.fields.specs.Laws.Types.{clash, and-left, and-right}
-use Rattle.fields.specs.Laws.Rows.{rowCount}
 
 -- computed over the whole table
 pub named-is : rowsFrom (typeOf typeDepth) fieldCount firstField ≡ named

@@ -1,15 +1,14 @@
 -- What stands at a place has a type, by its head and by what stands inside: a law for each way on.
 -- Assumes nothing.
-use mathlib.Core.Path.{_≡_, refl, sym, ap, ap₂, subst, _∙_}
+use mathlib.Core.Path.{_≡_, refl, sym, ap, subst, _∙_}
 use mathlib.Core.Bool.{Bool, true, false, cond, _&&_, and-comm}
-use mathlib.Core.List.{List, [], _∷_}
-use mathlib.Core.Option.{Option, some, none as nothing}
-use Prim.Native.Nat.{ℕ, zero, suc, _+_, _-_, _^_, _<_, _≤_}
+use mathlib.Core.List.{List}
+use Prim.Native.Nat.{ℕ, _+_, _-_, _^_, _<_, _≤_}
 use native.Mathlib.Omega.{arith}
 use native.Mathlib.Nat.{add-zero}
 use lib.Bits.{bitOr, or-zero-r}
 use lib.Dec.{eqb, leb, ltb}
-use lib.ListN.{length, getD, take, drop}
+use lib.ListN.{length, take, drop}
 use borrow.Author.Tests.{eq-eqb, ne-eqb, le-leb}
 use Rattle.heads.specs.Head.{kindAt, headAt}
 use Rattle.heads.specs.Table.{leadTable}
@@ -20,16 +19,16 @@ use Rattle.messagepack.specs.Document.{Document, Documents, Entries, integer, f
 use Rattle.messagepack.specs.Rules.{NoKey}
 use Rattle.values.specs.Places.{At, AtAll, AtEntries, TextAt}
 use Rattle.values.specs.Standing.{Standing}
-use Rattle.values.specs.Laws.Places.{at-inside, at-standing, OpenArray, open-array, OpenMap, open-map, OpenText, open-string, open-binary, open-float, OpenInteger, unsigned, signed, open-integer, OpenItem, open-item, OpenEntry, open-entry}
+use Rattle.values.specs.Laws.Places.{at-inside, at-standing, open-array, open-map, OpenText, open-string, open-binary, open-float, OpenInteger, unsigned, signed, open-integer, open-item, open-entry}
 use Rattle.values.specs.declared.Part.{Part}
-use Rattle.fields.specs.Types.{FieldType, Rows, plain, arrayOf, exactly, mapWith, last, row, kindNumber}
+use Rattle.fields.specs.Types.{FieldType, Rows, plain, arrayOf, exactly, mapWith, kindNumber}
 use Rattle.fields.specs.Tests.{onArray, onMap, all, have, typed, fitting}
 use Rattle.fields.specs.Fields.{setOf, present}
-use Rattle.fields.specs.Numbers.{codeOf, rowsFrom, findRow, rowTest, covered, marked, distinctNames}
+use Rattle.fields.specs.Numbers.{codeOf, rowsFrom, findRow, rowTest, covered, marked, distinctNames, rowCount}
 use Rattle.fields.specs.Steps.{endsIf, numberOf, plainEnd, ValueSays, ItemsSay, EntriesSay}
 use Rattle.fields.specs.declared.Typed.{Typed}
 use Rattle.fields.specs.Laws.Sets.{or-later, present-none, covered-have}
-use Rattle.fields.specs.Laws.Rows.{rowCount, fitting-none, fitting-entry, present-marked}
+use Rattle.fields.specs.Laws.Rows.{fitting-none, fitting-entry, present-marked}
 use Rattle.fields.specs.Laws.Numbers.{row-typed, row-free}
 
 -- a document's head, and its kind by it
