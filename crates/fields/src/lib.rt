@@ -3,6 +3,7 @@
 // and lent. Values, arrays and maps are gone through by functions that call each other, the levels left falling.
 ghost use mathlib.Core.Path.{_≡_};
 ghost use mathlib.Core.Bool.{true, false, _&&_};
+ghost use mathlib.Core.List.{List};
 ghost use Prim.Native.Nat.{ℕ, _+_, _*_, _≤_, _<_};
 ghost use lib.ListN.{length, take, drop, set};
 ghost use Rattle.heads.specs.Table.{leadTable};
@@ -356,6 +357,48 @@ fn plain_items(leads: &[u8; 256], file: &[u8], count: usize, at: usize, wanted: 
 
 // The value at a place, if it is of a kind.
 fn plain_at(leads: &[u8; 256], file: &[u8], at: usize, wanted: usize) -> Typed
+    requires { ⌜ wanted ≤ 4 ⌝ }
+    ensures { λ r. ⌜ ValueSays (now (leads .entry)) (now (file .entry)) (typed (plain wanted)) at r ⌝ }
+{
+    let end = quick_end(file, at, wanted);
+    if 0 < end {
+        return Typed::Ends(end);
+    }
+    headed_at(leads, file, at, wanted)
+}
+
+// Where the commonest values end, an integer in its lead byte and a short string, if they are wanted; else 0.
+fn quick_end(file: &[u8], at: usize, wanted: usize) -> usize
+    ensures { λ r. ⌜ (0 < r → (leads : List ℕ) → ValueSays leads (now (file .entry)) (typed (plain wanted)) at (Typed.Ends r)) ⌝ }
+{
+    if file.len() <= at {
+        return 0;
+    }
+    let b = wide(file[at]);
+    if wanted == 1 {
+        if b < 0x80 {
+            return at + 1;
+        }
+        return 0;
+    }
+    if wanted != 3 {
+        return 0;
+    }
+    if b < 0xa0 {
+        return 0;
+    }
+    if 0xc0 <= b {
+        return 0;
+    }
+    let n = b - 0xa0;
+    if file.len() - at <= n {
+        return 0;
+    }
+    at + 1 + n
+}
+
+// The value at a place, if it is of a kind, by its head.
+fn headed_at(leads: &[u8; 256], file: &[u8], at: usize, wanted: usize) -> Typed
     requires { ⌜ wanted ≤ 4 ⌝ }
     ensures { λ r. ⌜ ValueSays (now (leads .entry)) (now (file .entry)) (typed (plain wanted)) at r ⌝ }
 {

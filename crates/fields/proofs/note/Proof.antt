@@ -1,18 +1,19 @@
 -- What is noted in the end, from here on with what is noted so far, is what is noted of all entries.
-use mathlib.Core.Path.{_≡_, ap, subst, _∙_}
-use mathlib.Core.Bool.{true}
+use mathlib.Core.Path.{_≡_, sym, ap, subst, _∙_}
 use mathlib.Core.List.{List}
+use mathlib.Core.Bool.{true}
 use Prim.Native.Nat.{ℕ, _+_}
+use native.Mathlib.Omega.{arith}
 use lib.Dec.{lit<}
 use lib.ListN.{length, length-set}
 use borrow.Author.Needs.{needs}
-use Rattle.fields.specs.Table.{fieldCount}
-use Rattle.fields.specs.Numbers.{typeTable}
-use Rattle.fields.specs.Steps.{NoteSays, noPlaces}
 use Rattle.fields.specs.declared.Fields.{Fields}
+use Rattle.fields.specs.Numbers.{typeTable}
 use Rattle.fields.specs.Laws.Notes.{note-none, note-next, note-done}
-use Rattle.fields.proofs.note.Tie as tie
+use Rattle.fields.specs.Table.{fieldCount}
+use Rattle.fields.specs.Steps.{NoteSays, noPlaces}
 use Rattle.fields.proofs.note.Statement.{statement}
+use Rattle.fields.proofs.note.Tie as tie
 
 abbrev Inv-loop : tie.InvT-loop
 Inv-loop leads file count at types places₀ presence₀ typed₀ left₀ p₀ places presence typed left p = (types ≡ typeTable) × ((length places ≡ fieldCount) × ((r : Fields) → NoteSays leads file places presence typed left p r → NoteSays leads file noPlaces 0 true count at r))

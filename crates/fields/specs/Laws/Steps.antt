@@ -7,12 +7,14 @@ use Prim.Native.Nat.{ℕ, _+_, _-_, _^_, _<_, _≤_}
 use native.Mathlib.Omega.{arith}
 use native.Mathlib.Nat.{add-zero}
 use lib.Bits.{bitOr, or-zero-r}
-use lib.Dec.{eqb, leb, ltb}
-use lib.ListN.{length, take, drop}
+use lib.Dec.{eqb, leb, ltb, lit≤}
+use lib.ListN.{length, getD, take, drop}
 use borrow.Author.Tests.{eq-eqb, ne-eqb, le-leb}
 use Rattle.heads.specs.Head.{kindAt, headAt}
 use Rattle.heads.specs.Table.{leadTable}
-use Rattle.heads.specs.Laws.Head.{Told}
+use Rattle.heads.specs.Lead.{moreOf}
+use Rattle.heads.specs.Laws.Head.{Told, kind-in, head-held}
+use Rattle.heads.specs.Laws.Table.{low-lead, string-lead}
 use Rattle.heads.specs.declared.Head.{Head}
 use Rattle.heads.specs.declared.Kind.{Kind}
 use Rattle.messagepack.specs.Document.{Document, Documents, Entries, integer, float, string, binary, array, map, none, item, empty, entry, count, size, WritesAll, WritesEntries}
@@ -227,6 +229,29 @@ module _ {leads s : List ℕ} {at n p k : ℕ} (r : HeadRead leads s at n p k) w
         let o = entries-of s at n p e (r .head le) x (sym (kinds le x a) ∙ q) a in
         i .says le (o .es) e (o .all) (o .counts) ∙ ap (λ (b : Bool). endsIf b e) (ap (λ (b : Bool). fitting rows (o .es) && b) (covered-have rows (o .es)) ∙ and-comm (fitting rows (o .es)) (have rows (o .es))) ∙ ap (λ (z : Document). endsIf (onMap z (λ es. have rows es && fitting rows es)) e) (sym (o .is));
   }
+
+-- the commonest values, found by their lead byte
+
+module _ (s : List ℕ) (at : ℕ) (inside : at < length s) (leads : List ℕ) where
+  -- an integer in its lead byte
+  pub low-says : getD s at 0 < 0x80 → ValueSays leads s (typed (plain 1)) at (Typed.Ends (at + 1))
+  low-says h =
+      let r = low-lead (getD s at 0) h in
+      let one : 1 ≡ moreOf (getD s at 0) + 1 = rw (r .more) in
+      plain-says (record {
+        head = λ l. sym (head-held s at one refl (omega arith) (sym (r .held)));
+        kind = λ l. ap numberOf (kind-in s at inside ∙ r .kind);
+      }) 1 (lit≤ tt) refl
+
+  -- a short string
+  pub short-says : (n : ℕ) → 0xa0 ≤ getD s at 0 → getD s at 0 < 0xc0 → n ≡ getD s at 0 - 0xa0 → at + 1 + n ≤ length s → ValueSays leads s (typed (plain 3)) at (Typed.Ends (at + 1 + n))
+  short-says n low high e le =
+      let r = string-lead (getD s at 0) low high in
+      let one : 1 ≡ moreOf (getD s at 0) + 1 = rw (r .more) in
+      plain-says (record {
+        head = λ l. sym (head-held s at one refl (omega arith) (e ∙ sym (r .held)));
+        kind = λ l. ap numberOf (kind-in s at inside ∙ r .kind);
+      }) 3 (lit≤ tt) (rw (le-leb (at + 1 + n) (length s) le))
 
 -- the values of an array, one after another
 
