@@ -45,6 +45,7 @@ unfoldable pub present : Rows → Entries → List Bool
 present last es = []
 present (row k q t rows) es = isThere (look k es) ∷ present rows es
 
+-- one bit of a set
 abbrev pub bit : Bool → ℕ
 bit true = 1
 bit false = 0
@@ -67,7 +68,7 @@ countOf (b ∷ bs) = bit b + countOf bs
 unfoldable pub presentCount : Entries → ℕ
 presentCount es = countOf (present named es)
 
--- the bytes of a string, if there is one
+-- the bytes of a value that is a string or a binary; of another, or where there is none, no bytes
 abbrev pub textIn : Option Document → List ℕ
 textIn (some x) = textOf x
 textIn nothing = []

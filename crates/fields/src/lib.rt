@@ -26,7 +26,7 @@ pub const FIELD_COUNT: usize = 39;
 // What a pass over a file's entries notes of the named fields: where each one's value stands, 0 where it is absent; the set of those present,
 // a bit for each; whether each of them has its type.
 pub struct Fields {
-    pub places: [usize; 39],
+    pub places: [usize; FIELD_COUNT],
     pub presence: u64,
     pub typed: bool,
 }
@@ -129,14 +129,14 @@ fn is_version_one(file: &[u8], a: usize, m: usize) -> bool
 }
 
 // No places.
-fn no_places() -> [usize; 39]
+fn no_places() -> [usize; FIELD_COUNT]
     ensures { λ r. ⌜ r ≡ noPlaces ⌝ }
 {
-    [0usize; 39]
+    [0usize; FIELD_COUNT]
 }
 
 // Puts a place at a field's number, if it is one.
-fn put_place(places: &mut [usize; 39], row: usize, place: usize)
+fn put_place(places: &mut [usize; FIELD_COUNT], row: usize, place: usize)
     requires { ⌜ length (now places) ≡ fieldCount ⌝ }
     ensures { λ _. ⌜ now (places .exit) ≡ set (now (places .entry)) row place ⌝ }
 {
@@ -161,7 +161,7 @@ fn mark(n: usize, seen: u64, i: usize) -> u64
 }
 
 // The value at a place as that of a field, or of no field.
-fn judge(leads: &[u8; 256], file: &[u8], types: &[u8; 1261], at: usize, row: usize) -> Judged
+fn judge(leads: &[u8; 256], file: &[u8], types: &[u8; TABLE_SIZE], at: usize, row: usize) -> Judged
     requires { ⌜ now types ≡ typeTable ⌝ }
     ensures { λ r. ⌜ RowSays (now (leads .entry)) (now (file .entry)) row at (r .end) (r .typed) ⌝ }
 {
@@ -190,7 +190,7 @@ fn judge(leads: &[u8; 256], file: &[u8], types: &[u8; 1261], at: usize, row: usi
 fn row_typed(
     leads: &[u8; 256],
     file: &[u8],
-    types: &[u8; 1261],
+    types: &[u8; TABLE_SIZE],
     at: usize,
     first: usize,
     n: usize,
@@ -211,7 +211,7 @@ fn row_typed(
 fn typed_at(
     leads: &[u8; 256],
     file: &[u8],
-    types: &[u8; 1261],
+    types: &[u8; TABLE_SIZE],
     at: usize,
     code: usize,
     depth: usize,
@@ -251,7 +251,7 @@ fn typed_at(
 fn items_typed(
     leads: &[u8; 256],
     file: &[u8],
-    types: &[u8; 1261],
+    types: &[u8; TABLE_SIZE],
     count: usize,
     at: usize,
     code: usize,
@@ -276,7 +276,7 @@ fn items_typed(
 fn entries_typed(
     leads: &[u8; 256],
     file: &[u8],
-    types: &[u8; 1261],
+    types: &[u8; TABLE_SIZE],
     count: usize,
     at: usize,
     first: usize,
@@ -446,7 +446,14 @@ fn kind_number(kind: Kind) -> usize
 }
 
 // The first of the n rows from first on whose name the m bytes from a on are; n if there is none.
-fn row_of(types: &[u8; 1261], file: &[u8], a: usize, m: usize, first: usize, n: usize) -> usize
+fn row_of(
+    types: &[u8; TABLE_SIZE],
+    file: &[u8],
+    a: usize,
+    m: usize,
+    first: usize,
+    n: usize,
+) -> usize
     requires { ⌜ (now types ≡ typeTable) × ((a + m ≤ length (now file)) × ((first < 256) × (n < 64))) ⌝ }
     ensures { λ r. ⌜ ((f : ℕ → FieldType) → r ≡ findRow (take m (drop a (now (file .entry)))) (rowsFrom f n first)) ⌝ }
 {
@@ -461,7 +468,7 @@ fn row_of(types: &[u8; 1261], file: &[u8], a: usize, m: usize, first: usize, n: 
 }
 
 // Are the m bytes from a on the name of a row?
-fn is_name(types: &[u8; 1261], file: &[u8], a: usize, m: usize, row: usize) -> bool
+fn is_name(types: &[u8; TABLE_SIZE], file: &[u8], a: usize, m: usize, row: usize) -> bool
     requires { ⌜ (now types ≡ typeTable) × ((a + m ≤ length (now file)) × (row < 512)) ⌝ }
     ensures { λ r. ⌜ r ≡ equal (take m (drop a (now (file .entry)))) (nameOf row) ⌝ }
 {
@@ -480,7 +487,7 @@ fn is_name(types: &[u8; 1261], file: &[u8], a: usize, m: usize, row: usize) -> b
 }
 
 // Are the required ones of the n rows from first on all in a set?
-fn all_seen(types: &[u8; 1261], seen: u64, first: usize, n: usize) -> bool
+fn all_seen(types: &[u8; TABLE_SIZE], seen: u64, first: usize, n: usize) -> bool
     requires { ⌜ (now types ≡ typeTable) × ((first < 256) × (n < 64)) ⌝ }
     ensures { λ r. ⌜ ((f : ℕ → FieldType) → r ≡ covered (rowsFrom f n first) seen) ⌝ }
 {
@@ -507,12 +514,12 @@ fn lacks(need: usize, seen: u64) -> bool
 }
 
 // A byte of the table; 0 past its end.
-fn cell(types: &[u8; 1261], i: usize) -> usize
+fn cell(types: &[u8; TABLE_SIZE], i: usize) -> usize
     requires { ⌜ now types ≡ typeTable ⌝ }
     ensures is { λ r. ⌜ r ≡ cellOf i ⌝ }
     ensures byte { λ r. ⌜ r < 256 ⌝ }
 {
-    if i < 1261 { wide(types[i]) } else { 0 }
+    if i < TABLE_SIZE { wide(types[i]) } else { 0 }
 }
 
 // A byte as a larger number.
@@ -524,7 +531,7 @@ fn wide(x: u8) -> usize
 }
 
 // The table of types.
-fn types() -> [u8; 1261]
+fn types() -> [u8; TABLE_SIZE]
     ensures { λ r. ⌜ r ≡ typeTable ⌝ }
 {
     TYPES
@@ -542,10 +549,13 @@ const ROWS_AT: usize = 51;
 
 const ROW_SIZE: usize = 22;
 
+// The bytes of the table.
+const TABLE_SIZE: usize = 1261;
+
 // Three bytes for each type: 0 a value of a kind, 1 an array of values of a kind, 2 an array of exactly so many, 3 an array of values of a type,
 // 4 a map; then how many values or rows; then the kind, the type or the first row. After these 22 bytes for each row: the length of its name,
 // 1 if it is required, its type, and its name. The named fields are the last rows.
-const TYPES: [u8; 1261] = *b"\x00\x00\x01\x00\x00\x02\x00\x00\x03\x00\x00\x04\
+const TYPES: [u8; TABLE_SIZE] = *b"\x00\x00\x01\x00\x00\x02\x00\x00\x03\x00\x00\x04\
     \x01\x00\x01\x01\x00\x03\x02\x06\x02\x02\x10\x02\x03\x00\x07\
     \x04\x08\x00\x03\x00\x09\x04\x02\x08\x03\x00\x0b\
     \x04\x02\x0a\x03\x00\x0d\x04\x04\x0c\x03\x00\x0f\
