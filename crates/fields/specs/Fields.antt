@@ -45,6 +45,7 @@ unfoldable pub present : Rows → Entries → List Bool
 present last es = []
 present (row k q t rows) es = isThere (look k es) ∷ present rows es
 
+-- one bit of a set
 abbrev pub bit : Bool → ℕ
 bit true = 1
 bit false = 0
@@ -58,7 +59,16 @@ setOf (b ∷ bs) = bit b + setOf bs * 2
 unfoldable pub presenceOf : Entries → ℕ
 presenceOf es = setOf (present named es)
 
--- the bytes of a string, if there is one
+-- how many are in a set
+unfoldable pub countOf : List Bool → ℕ
+countOf [] = 0
+countOf (b ∷ bs) = bit b + countOf bs
+
+-- how many named fields are present
+unfoldable pub presentCount : Entries → ℕ
+presentCount es = countOf (present named es)
+
+-- the bytes of a value that is a string or a binary; of another, or where there is none, no bytes
 abbrev pub textIn : Option Document → List ℕ
 textIn (some x) = textOf x
 textIn nothing = []

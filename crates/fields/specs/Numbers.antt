@@ -1,10 +1,10 @@
 -- The types and the rows of Table.antt by numbers, as the code goes through them: one table of bytes, and what is read from it. That the
 -- types so read are those of Table.antt is in Laws/Numbers.antt. For the code inside. No lemma stands here. Assumes nothing.
-use mathlib.Core.Bool.{Bool, true, false, cond, not, _&&_, _||_}
+use mathlib.Core.Bool.{Bool, true, cond, not, _&&_, _||_}
 use mathlib.Core.List.{List, [], _∷_, _++_}
 use Prim.Native.Nat.{ℕ, zero, suc, _+_, _*_, _/_, _%_, _^_}
 use lib.Bits.{bitOr}
-use lib.Dec.{eqb, ltb, leb}
+use lib.Dec.{eqb, ltb}
 use lib.ListN.{length, getD, drop}
 use Rattle.heads.specs.Table.{valuesFrom}
 use Rattle.messagepack.specs.Document.{Document}
@@ -106,6 +106,11 @@ typeOf (suc d) c = cond (ltb c typeCount) (build (typeOf d) (tagOf c) (manyOf c)
 -- the levels of the deepest type
 abbrev pub typeDepth : ℕ
 typeDepth = 5
+
+-- how many rows there are
+unfoldable pub rowCount : Rows → ℕ
+rowCount last = 0
+rowCount (row k q t rows) = suc (rowCount rows)
 
 -- the first row with a name, by its place; the number of rows if there is none
 unfoldable pub findRow : List ℕ → Rows → ℕ

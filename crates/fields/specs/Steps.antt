@@ -1,7 +1,7 @@
 -- What the functions inside say of whatever stands at a place. For the code inside. No lemma stands here. Assumes nothing.
 use mathlib.Core.Path.{_≡_}
 use mathlib.Core.Bool.{Bool, true, false, cond, _&&_}
-use mathlib.Core.List.{List, []}
+use mathlib.Core.List.{List}
 use mathlib.Core.Option.{Option, some, none as nothing}
 use Prim.Native.Nat.{ℕ, _+_, _<_}
 use lib.Bits.{bitOr}
@@ -11,7 +11,7 @@ use Rattle.heads.specs.Table.{leadTable}
 use Rattle.heads.specs.declared.Kind.{Kind}
 use Rattle.messagepack.specs.Document.{Document, Documents, Entries, count, size}
 use Rattle.values.specs.Places.{At, AtAll, AtEntries}
-use Rattle.fields.specs.Types.{FieldType, Rows}
+use Rattle.fields.specs.Types.{Rows}
 use Rattle.fields.specs.Table.{named, fieldCount}
 use Rattle.fields.specs.Tests.{all, fitting}
 use Rattle.fields.specs.Fields.{setOf, present, fieldAt}

@@ -1,7 +1,7 @@
 -- The named fields of paper 01, "Fields, in order": their names, which of them are required, and their types. A field's number is its place in
 -- `named`, from 0 on. A column is a binary here: which kind of column a field is plays no part in its type. No lemma stands here. Assumes nothing.
 use Prim.Native.Nat.{ℕ}
-use Rattle.fields.specs.Types.{FieldType, Rows, arrayOf, exactly, mapWith, last, anInteger, aFloat, aString, aBinary, required, optional, _then_}
+use Rattle.fields.specs.Types.{Rows, arrayOf, exactly, mapWith, last, anInteger, aFloat, aString, aBinary, required, optional, _then_}
 
 -- a map of groupList: a group type
 unfoldable pub groupRows : Rows

@@ -2,9 +2,8 @@
 -- No lemma stands here. Assumes nothing.
 use mathlib.Core.Bool.{Bool, true, false, not, _&&_, _||_}
 use mathlib.Core.Option.{Option, some, none as nothing}
-use Prim.Native.Nat.{ℕ}
 use lib.Dec.{eqb}
-use Rattle.messagepack.specs.Document.{Document, Documents, Entries, integer, float, string, binary, array, map, none, item, empty, entry, count}
+use Rattle.messagepack.specs.Document.{Document, Documents, Entries, integer, float, string, binary, array, map, none, item, count}
 use Rattle.fields.specs.Types.{FieldType, Rows, plain, arrayOf, exactly, mapWith, last, row, kindNumber, look}
 
 -- is the document an array whose values pass?

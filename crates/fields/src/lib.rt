@@ -2,7 +2,8 @@
 // type, with the set of those that are present; and the refusals 12, 13 and 24. The types stand in one table of bytes, made once for a pass
 // and lent. Values, arrays and maps are gone through by functions that call each other, the levels left falling.
 ghost use mathlib.Core.Path.{_≡_};
-ghost use mathlib.Core.Bool.{Bool, true, false, _&&_};
+ghost use mathlib.Core.Bool.{true, false, _&&_};
+ghost use mathlib.Core.List.{List};
 ghost use Prim.Native.Nat.{ℕ, _+_, _*_, _≤_, _<_};
 ghost use lib.ListN.{length, take, drop, set};
 ghost use Rattle.heads.specs.Table.{leadTable};
@@ -14,7 +15,7 @@ ghost use Rattle.fields.specs.Table.{fieldCount};
 ghost use Rattle.fields.specs.Tests.{typed};
 ghost use Rattle.fields.specs.Fields.{fieldTypeOf, isVersionOne, fieldsNumber};
 ghost use Rattle.fields.specs.Noted.{Noted};
-ghost use Rattle.fields.specs.Numbers.{typeTable, cellOf, nameOf, needOf, rowsFrom, typeOf, findRow, rowTest, build, covered, marked, lacking, distinctNames};
+ghost use Rattle.fields.specs.Numbers.{typeTable, cellOf, nameOf, rowsFrom, typeOf, findRow, rowTest, build, covered, marked, lacking, distinctNames};
 ghost use Rattle.fields.specs.Steps.{numberOf, plainEnd, ValueSays, ItemsSay, EntriesSay, RowSays, noPlaces};
 use heads::Head;
 use heads::Kind;
@@ -25,7 +26,7 @@ pub const FIELD_COUNT: usize = 39;
 // What a pass over a file's entries notes of the named fields: where each one's value stands, 0 where it is absent; the set of those present,
 // a bit for each; whether each of them has its type.
 pub struct Fields {
-    pub places: [usize; 39],
+    pub places: [usize; FIELD_COUNT],
     pub presence: u64,
     pub typed: bool,
 }
@@ -77,10 +78,12 @@ pub fn refusal_of(leads: &[u8; 256], file: &[u8], fields: Fields) -> u8
     ensures { λ r. ⌜ (now (leads .entry) ≡ leadTable → (es : Entries) → Noted (now (file .entry)) es fields → r ≡ fieldsNumber es) ⌝ }
 {
     let types = types();
-    if !all_seen(&types, fields.presence, FIRST_FIELD, FIELD_COUNT) {
+    let whole = all_seen(&types, fields.presence, FIRST_FIELD, FIELD_COUNT);
+    let right = fields.typed;
+    if !whole {
         return refusal::FIELD_MISSING;
     }
-    if !fields.typed {
+    if !right {
         return refusal::FIELD_TYPE;
     }
     let version = values::text_at(leads, file, fields.places[0]);
@@ -126,14 +129,14 @@ fn is_version_one(file: &[u8], a: usize, m: usize) -> bool
 }
 
 // No places.
-fn no_places() -> [usize; 39]
+fn no_places() -> [usize; FIELD_COUNT]
     ensures { λ r. ⌜ r ≡ noPlaces ⌝ }
 {
-    [0usize; 39]
+    [0usize; FIELD_COUNT]
 }
 
 // Puts a place at a field's number, if it is one.
-fn put_place(places: &mut [usize; 39], row: usize, place: usize)
+fn put_place(places: &mut [usize; FIELD_COUNT], row: usize, place: usize)
     requires { ⌜ length (now places) ≡ fieldCount ⌝ }
     ensures { λ _. ⌜ now (places .exit) ≡ set (now (places .entry)) row place ⌝ }
 {
@@ -158,12 +161,24 @@ fn mark(n: usize, seen: u64, i: usize) -> u64
 }
 
 // The value at a place as that of a field, or of no field.
-fn judge(leads: &[u8; 256], file: &[u8], types: &[u8; 1261], at: usize, row: usize) -> Judged
+fn judge(leads: &[u8; 256], file: &[u8], types: &[u8; TABLE_SIZE], at: usize, row: usize) -> Judged
     requires { ⌜ now types ≡ typeTable ⌝ }
     ensures { λ r. ⌜ RowSays (now (leads .entry)) (now (file .entry)) row at (r .end) (r .typed) ⌝ }
 {
-    match row_typed(leads, file, types, at, FIRST_FIELD, FIELD_COUNT, row, TYPE_DEPTH) {
-        Typed::Ends(e) => Judged { end: e, typed: true },
+    match row_typed(
+        leads,
+        file,
+        types,
+        at,
+        FIRST_FIELD,
+        FIELD_COUNT,
+        row,
+        TYPE_DEPTH,
+    ) {
+        Typed::Ends(e) => Judged {
+            end: e,
+            typed: true,
+        },
         Typed::Wrong => Judged {
             end: values::skip(leads, file, at),
             typed: false,
@@ -175,7 +190,7 @@ fn judge(leads: &[u8; 256], file: &[u8], types: &[u8; 1261], at: usize, row: usi
 fn row_typed(
     leads: &[u8; 256],
     file: &[u8],
-    types: &[u8; 1261],
+    types: &[u8; TABLE_SIZE],
     at: usize,
     first: usize,
     n: usize,
@@ -196,7 +211,7 @@ fn row_typed(
 fn typed_at(
     leads: &[u8; 256],
     file: &[u8],
-    types: &[u8; 1261],
+    types: &[u8; TABLE_SIZE],
     at: usize,
     code: usize,
     depth: usize,
@@ -236,7 +251,7 @@ fn typed_at(
 fn items_typed(
     leads: &[u8; 256],
     file: &[u8],
-    types: &[u8; 1261],
+    types: &[u8; TABLE_SIZE],
     count: usize,
     at: usize,
     code: usize,
@@ -261,7 +276,7 @@ fn items_typed(
 fn entries_typed(
     leads: &[u8; 256],
     file: &[u8],
-    types: &[u8; 1261],
+    types: &[u8; TABLE_SIZE],
     count: usize,
     at: usize,
     first: usize,
@@ -293,7 +308,14 @@ fn entries_typed(
 }
 
 // The value at a place by a type with no types inside: a value of a kind, or an array of those, or of exactly so many.
-fn simple_at(leads: &[u8; 256], file: &[u8], at: usize, tag: usize, many: usize, wanted: usize) -> Typed
+fn simple_at(
+    leads: &[u8; 256],
+    file: &[u8],
+    at: usize,
+    tag: usize,
+    many: usize,
+    wanted: usize,
+) -> Typed
     requires { ⌜ (tag < 3) × (wanted ≤ 4) ⌝ }
     ensures { λ r. ⌜ ((f : ℕ → FieldType) → ValueSays (now (leads .entry)) (now (file .entry)) (typed (build f tag many wanted)) at r) ⌝ }
 {
@@ -335,6 +357,48 @@ fn plain_items(leads: &[u8; 256], file: &[u8], count: usize, at: usize, wanted: 
 
 // The value at a place, if it is of a kind.
 fn plain_at(leads: &[u8; 256], file: &[u8], at: usize, wanted: usize) -> Typed
+    requires { ⌜ wanted ≤ 4 ⌝ }
+    ensures { λ r. ⌜ ValueSays (now (leads .entry)) (now (file .entry)) (typed (plain wanted)) at r ⌝ }
+{
+    let end = quick_end(file, at, wanted);
+    if 0 < end {
+        return Typed::Ends(end);
+    }
+    headed_at(leads, file, at, wanted)
+}
+
+// Where the commonest values end, an integer in its lead byte and a short string, if they are wanted; else 0.
+fn quick_end(file: &[u8], at: usize, wanted: usize) -> usize
+    ensures { λ r. ⌜ (0 < r → (leads : List ℕ) → ValueSays leads (now (file .entry)) (typed (plain wanted)) at (Typed.Ends r)) ⌝ }
+{
+    if file.len() <= at {
+        return 0;
+    }
+    let b = wide(file[at]);
+    if wanted == 1 {
+        if b < 0x80 {
+            return at + 1;
+        }
+        return 0;
+    }
+    if wanted != 3 {
+        return 0;
+    }
+    if b < 0xa0 {
+        return 0;
+    }
+    if 0xc0 <= b {
+        return 0;
+    }
+    let n = b - 0xa0;
+    if file.len() - at <= n {
+        return 0;
+    }
+    at + 1 + n
+}
+
+// The value at a place, if it is of a kind, by its head.
+fn headed_at(leads: &[u8; 256], file: &[u8], at: usize, wanted: usize) -> Typed
     requires { ⌜ wanted ≤ 4 ⌝ }
     ensures { λ r. ⌜ ValueSays (now (leads .entry)) (now (file .entry)) (typed (plain wanted)) at r ⌝ }
 {
@@ -382,7 +446,14 @@ fn kind_number(kind: Kind) -> usize
 }
 
 // The first of the n rows from first on whose name the m bytes from a on are; n if there is none.
-fn row_of(types: &[u8; 1261], file: &[u8], a: usize, m: usize, first: usize, n: usize) -> usize
+fn row_of(
+    types: &[u8; TABLE_SIZE],
+    file: &[u8],
+    a: usize,
+    m: usize,
+    first: usize,
+    n: usize,
+) -> usize
     requires { ⌜ (now types ≡ typeTable) × ((a + m ≤ length (now file)) × ((first < 256) × (n < 64))) ⌝ }
     ensures { λ r. ⌜ ((f : ℕ → FieldType) → r ≡ findRow (take m (drop a (now (file .entry)))) (rowsFrom f n first)) ⌝ }
 {
@@ -397,7 +468,7 @@ fn row_of(types: &[u8; 1261], file: &[u8], a: usize, m: usize, first: usize, n: 
 }
 
 // Are the m bytes from a on the name of a row?
-fn is_name(types: &[u8; 1261], file: &[u8], a: usize, m: usize, row: usize) -> bool
+fn is_name(types: &[u8; TABLE_SIZE], file: &[u8], a: usize, m: usize, row: usize) -> bool
     requires { ⌜ (now types ≡ typeTable) × ((a + m ≤ length (now file)) × (row < 512)) ⌝ }
     ensures { λ r. ⌜ r ≡ equal (take m (drop a (now (file .entry)))) (nameOf row) ⌝ }
 {
@@ -416,7 +487,7 @@ fn is_name(types: &[u8; 1261], file: &[u8], a: usize, m: usize, row: usize) -> b
 }
 
 // Are the required ones of the n rows from first on all in a set?
-fn all_seen(types: &[u8; 1261], seen: u64, first: usize, n: usize) -> bool
+fn all_seen(types: &[u8; TABLE_SIZE], seen: u64, first: usize, n: usize) -> bool
     requires { ⌜ (now types ≡ typeTable) × ((first < 256) × (n < 64)) ⌝ }
     ensures { λ r. ⌜ ((f : ℕ → FieldType) → r ≡ covered (rowsFrom f n first) seen) ⌝ }
 {
@@ -443,12 +514,12 @@ fn lacks(need: usize, seen: u64) -> bool
 }
 
 // A byte of the table; 0 past its end.
-fn cell(types: &[u8; 1261], i: usize) -> usize
+fn cell(types: &[u8; TABLE_SIZE], i: usize) -> usize
     requires { ⌜ now types ≡ typeTable ⌝ }
     ensures is { λ r. ⌜ r ≡ cellOf i ⌝ }
     ensures byte { λ r. ⌜ r < 256 ⌝ }
 {
-    if i < 1261 { wide(types[i]) } else { 0 }
+    if i < TABLE_SIZE { wide(types[i]) } else { 0 }
 }
 
 // A byte as a larger number.
@@ -460,7 +531,7 @@ fn wide(x: u8) -> usize
 }
 
 // The table of types.
-fn types() -> [u8; 1261]
+fn types() -> [u8; TABLE_SIZE]
     ensures { λ r. ⌜ r ≡ typeTable ⌝ }
 {
     TYPES
@@ -468,17 +539,23 @@ fn types() -> [u8; 1261]
 
 // The row of the first named field, how many types have a number, and the levels of the deepest.
 const FIRST_FIELD: usize = 16;
+
 const TYPE_COUNT: usize = 17;
+
 const TYPE_DEPTH: usize = 5;
 
 // Where the first row starts in the table, and the bytes of a row.
 const ROWS_AT: usize = 51;
+
 const ROW_SIZE: usize = 22;
+
+// The bytes of the table.
+const TABLE_SIZE: usize = 1261;
 
 // Three bytes for each type: 0 a value of a kind, 1 an array of values of a kind, 2 an array of exactly so many, 3 an array of values of a type,
 // 4 a map; then how many values or rows; then the kind, the type or the first row. After these 22 bytes for each row: the length of its name,
 // 1 if it is required, its type, and its name. The named fields are the last rows.
-const TYPES: [u8; 1261] = *b"\x00\x00\x01\x00\x00\x02\x00\x00\x03\x00\x00\x04\
+const TYPES: [u8; TABLE_SIZE] = *b"\x00\x00\x01\x00\x00\x02\x00\x00\x03\x00\x00\x04\
     \x01\x00\x01\x01\x00\x03\x02\x06\x02\x02\x10\x02\x03\x00\x07\
     \x04\x08\x00\x03\x00\x09\x04\x02\x08\x03\x00\x0b\
     \x04\x02\x0a\x03\x00\x0d\x04\x04\x0c\x03\x00\x0f\

@@ -1,6 +1,6 @@
 -- A value is judged by its type's numbers, the values of an array and the entries of a map by loops whose invariants say that what is left from
 -- here on decides. The levels left fall with each array and map.
-use mathlib.Core.Path.{_≡_, sym, ap, _∙_}
+use mathlib.Core.Path.{sym, ap, _∙_}
 use Prim.Native.Nat.{ℕ, _+_, _-_, _*_, _%_, _<_}
 use native.Mathlib.Omega.{arith}
 use native.Mathlib.Nat.{pos-of-ne-zero}
@@ -11,9 +11,9 @@ use Rattle.heads.proofs.head_at.Reads as head-at-reads
 use Rattle.heads.proofs.kind_at.Reads as kind-at-reads
 use Rattle.values.proofs.skip.Reads as skip-reads
 use Rattle.values.proofs.text_at.Reads as text-at-reads
-use Rattle.fields.specs.Types.{FieldType, arrayOf, mapWith}
+use Rattle.fields.specs.Types.{arrayOf, mapWith}
 use Rattle.fields.specs.Tests.{typed}
-use Rattle.fields.specs.Numbers.{build, typeOf, typeCount, tagOf, rowsFrom, marked}
+use Rattle.fields.specs.Numbers.{build, typeOf, tagOf, rowsFrom, marked}
 use Rattle.fields.specs.Steps.{ItemsSay, EntriesSay}
 use Rattle.fields.specs.declared.Typed.{Typed}
 use Rattle.fields.specs.Laws.Numbers.{rows-count, simple-kind, map-distinct, type-none, type-past, type-read, build-map}

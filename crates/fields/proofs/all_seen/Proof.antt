@@ -1,11 +1,10 @@
 -- The required rows before i are in the set, so what is left from i on decides.
 use mathlib.Core.Path.{_≡_, sym, ap, _∙_}
-use mathlib.Core.Bool.{Bool, true, false}
 use Prim.Native.Nat.{ℕ, _-_, _≤_}
 use native.Mathlib.Omega.{arith}
 use borrow.Author.Needs.{needs}
 use Rattle.fields.specs.Types.{FieldType, Rows}
-use Rattle.fields.specs.Numbers.{rowsFrom, covered, lacking, cellOf, rowAt}
+use Rattle.fields.specs.Numbers.{rowsFrom, covered, lacking}
 use Rattle.fields.specs.Laws.Numbers.{rowsLeft, left-all, covered-next, covered-not, covered-none}
 use Rattle.fields.proofs.all_seen.Tie as tie
 use Rattle.fields.proofs.all_seen.Statement.{statement}

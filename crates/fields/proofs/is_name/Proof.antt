@@ -1,7 +1,6 @@
 -- The lengths are compared first; then what is left to compare decides.
-use mathlib.Core.List.{List}
 use mathlib.Core.Path.{_≡_, sym, refl, _∙_}
-use Prim.Native.Nat.{ℕ, _+_, _-_, _≤_}
+use Prim.Native.Nat.{_-_, _≤_}
 use native.Mathlib.Omega.{arith}
 use lib.ListN.{take, drop}
 use borrow.Author.Needs.{needs}

@@ -1,19 +1,17 @@
 -- What is noted in the end, from here on with what is noted so far, is what is noted of all entries.
-use mathlib.Core.Bool.{true}
-use mathlib.Core.List.{List}
 use mathlib.Core.Path.{_≡_, sym, ap, subst, _∙_}
+use mathlib.Core.List.{List}
+use mathlib.Core.Bool.{true}
 use Prim.Native.Nat.{ℕ, _+_}
 use native.Mathlib.Omega.{arith}
-use lib.ListN.{length, take, drop, length-set}
 use lib.Dec.{lit<}
+use lib.ListN.{length, length-set}
 use borrow.Author.Needs.{needs}
-use Rattle.fields.specs.Types.{Rows}
-use Rattle.fields.specs.Numbers.{typeTable, typeOf, typeDepth, findRow}
-use Rattle.fields.specs.Laws.Notes.{note-none, note-next, note-done}
-use Rattle.fields.specs.Steps.{NoteSays, noPlaces}
 use Rattle.fields.specs.declared.Fields.{Fields}
+use Rattle.fields.specs.Numbers.{typeTable}
+use Rattle.fields.specs.Laws.Notes.{note-none, note-next, note-done}
 use Rattle.fields.specs.Table.{fieldCount}
-use Rattle.fields.specs.Laws.Numbers.{named-is}
+use Rattle.fields.specs.Steps.{NoteSays, noPlaces}
 use Rattle.fields.proofs.note.Statement.{statement}
 use Rattle.fields.proofs.note.Tie as tie
 
@@ -46,7 +44,7 @@ loop-again c =
     let l = c .before .before .before .before .before .before .before .before .before .before .loop in
     let key = c .before .before .before .before .before .before .before .before .text-at .result in
     let i = c .before .before .before .before .before .before .row-of .result in
-    (l .inv .0, (ap length (c .before .before .put-place .ensures) ∙ length-set (l .places) i (key .at + key .count) ∙ l .inv .1 .0, λ r h. l .inv .1 .1 r (note-next (a .leads .now) (a .file .now) (l .places) (l .presence) (l .typed) (l .left) (l .p) i (c .before .before .before .before .judge .result .end) (c .before .before .before .before .judge .result .typed) (c .before .before .before .before .before .before .before .before .before .loop-test .taken) (l .inv .1 .0) (record { says = c .before .before .before .before .before .before .before .before .text-at .ensures .1 }) (c .before .before .before .before .before .before .row-of .ensures (typeOf typeDepth) ∙ ap (λ (z : Rows). findRow (take (key .count) (drop (key .at) (a .file .now))) z) named-is) (c .before .before .before .before .judge .ensures) (c .before .before .put-place .ensures) (c .before .mark .ensures) (c .both .ensures) h)))
+    (l .inv .0, (ap length (c .before .before .put-place .ensures) ∙ length-set (l .places) i (key .at + key .count) ∙ l .inv .1 .0, λ r h. l .inv .1 .1 r (note-next (a .leads .now) (a .file .now) (l .places) (l .presence) (l .typed) (l .left) (l .p) i (c .before .before .before .before .judge .result .end) (c .before .before .before .before .judge .result .typed) (c .before .before .before .before .before .before .before .before .before .loop-test .taken) (l .inv .1 .0) (record { says = c .before .before .before .before .before .before .before .before .text-at .ensures .1 }) (c .before .before .before .before .before .before .row-of .ensures) (c .before .before .before .before .judge .ensures) (c .before .before .put-place .ensures) (c .before .mark .ensures) (c .both .ensures) h)))
 
 returns : tie.Need-returns Inv-loop μ-loop
 returns c =

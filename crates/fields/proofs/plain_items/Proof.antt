@@ -1,6 +1,4 @@
 -- What is left from here on decides.
-use Prim.Native.Nat.{ℕ}
-use native.Mathlib.Omega.{arith}
 use borrow.Author.Needs.{needs}
 use Rattle.fields.specs.declared.Typed.{Typed}
 use Rattle.fields.specs.Types.{plain}

@@ -1,5 +1,5 @@
 -- The three tests are those of the number, in its order.
-use mathlib.Core.Path.{_≡_, sym, ap, _∙_}
+use mathlib.Core.Path.{sym, ap, _∙_}
 use borrow.Author.Tests.{not-true, not-false}
 use borrow.Author.Needs.{needs}
 use Rattle.fields.specs.Fields.{isVersionOne}
@@ -17,14 +17,14 @@ returns-2 c = λ l es m. sym (fields-mistyped es (sym (seen-have m (c .before .b
 returns-3 : tie.Need-returns-3
 returns-3 c =
     λ l es m.
-        let h = sym (seen-have m (c .before .before .before .before .before .before .all-seen .ensures (typeOf typeDepth))) ∙ not-false _ (c .before .before .before .before .before .if1 .left) in
-        sym (fields-version es h (sym (m .typed) ∙ not-false _ (c .before .before .before .before .if2 .left)) (ap isVersionOne (sym (version-read m h (c .before .before .text-at .ensures .1 l))) ∙ sym (c .before .is-version-one .ensures) ∙ not-true _ (c .if3 .taken)))
+    let h = sym (seen-have m (c .before .before .before .before .before .before .all-seen .ensures (typeOf typeDepth))) ∙ not-false _ (c .before .before .before .before .before .if1 .left) in
+    sym (fields-version es h (sym (m .typed) ∙ not-false _ (c .before .before .before .before .if2 .left)) (ap isVersionOne (sym (version-read m h (c .before .before .text-at .ensures .1 l))) ∙ sym (c .before .is-version-one .ensures) ∙ not-true _ (c .if3 .taken)))
 
 returns-4 : tie.Need-returns-4
 returns-4 c =
     λ l es m.
-        let h = sym (seen-have m (c .before .before .before .before .before .before .all-seen .ensures (typeOf typeDepth))) ∙ not-false _ (c .before .before .before .before .before .if1 .left) in
-        sym (fields-right es h (sym (m .typed) ∙ not-false _ (c .before .before .before .before .if2 .left)) (ap isVersionOne (sym (version-read m h (c .before .before .text-at .ensures .1 l))) ∙ sym (c .before .is-version-one .ensures) ∙ not-false _ (c .if3 .left)))
+    let h = sym (seen-have m (c .before .before .before .before .before .before .all-seen .ensures (typeOf typeDepth))) ∙ not-false _ (c .before .before .before .before .before .if1 .left) in
+    sym (fields-right es h (sym (m .typed) ∙ not-false _ (c .before .before .before .before .if2 .left)) (ap isVersionOne (sym (version-read m h (c .before .before .text-at .ensures .1 l))) ∙ sym (c .before .is-version-one .ensures) ∙ not-false _ (c .if3 .left)))
 
 pub refusal-of-spec : {M : Type 1} → statement M
 refusal-of-spec =

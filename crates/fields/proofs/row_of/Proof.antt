@@ -5,9 +5,9 @@ use native.Mathlib.Omega.{arith}
 use native.Mathlib.Nat.{zero-add}
 use lib.ListN.{take, drop}
 use borrow.Author.Needs.{needs}
-use Rattle.fields.specs.Types.{FieldType}
-use Rattle.fields.specs.Numbers.{findRow, rowsFrom}
 use Rattle.fields.specs.Laws.Numbers.{rowsLeft, left-all, found-here, found-later, found-none}
+use Rattle.fields.specs.Numbers.{findRow, rowsFrom}
+use Rattle.fields.specs.Types.{FieldType}
 use Rattle.fields.proofs.row_of.Tie as tie
 use Rattle.fields.proofs.row_of.Statement.{statement}
 
@@ -25,18 +25,20 @@ loop-holds c =
 returns : tie.Need-returns Inv-loop μ-loop
 returns c =
     let a = c .before .before .before .before .before .args in
-    λ f. found-here f (a .n) (a .first) (c .before .before .before .loop .i) _ (c .before .before .loop-test .taken) (sym (c .before .is-name .ensures) ∙ c .if1 .taken) ∙ sym (c .before .before .before .loop .inv .1 f)
+    let l = c .before .before .before .loop in
+    λ f. found-here f (a .n) (a .first) (l .i) _ (l .inv .1 f) (c .before .before .loop-test .taken) (c .before .is-name .ensures) (c .if1 .taken)
 
 loop-again : tie.Need-loop-again Inv-loop μ-loop
 loop-again c =
     let a = c .before .before .before .before .before .args in
-    (omega arith, λ f. c .before .before .before .loop .inv .1 f ∙ found-later f (a .n) (a .first) (c .before .before .before .loop .i) _ (c .before .before .loop-test .taken) (sym (c .before .is-name .ensures) ∙ c .if1 .left))
+    let l = c .before .before .before .loop in
+    (omega arith, λ f. found-later f (a .n) (a .first) (l .i) _ (l .inv .1 f) (c .before .before .loop-test .taken) (c .before .is-name .ensures) (c .if1 .left))
 
 returns-2 : tie.Need-returns-2 Inv-loop μ-loop
 returns-2 c =
     let a = c .before .before .before .args in
-    let e : a .n ≡ c .before .loop .i = omega arith in
-    λ f. e ∙ sym (c .before .loop .inv .1 f ∙ found-none f (a .n) (a .first) (c .before .loop .i) _ (c .loop-test .left))
+    let l = c .before .loop in
+    λ f. found-none f (a .n) (a .first) (l .i) _ (l .inv .1 f) (l .inv .0) (c .loop-test .left)
 
 pub row-of-spec : {M : Type 1} → statement M
 row-of-spec =

@@ -2,7 +2,7 @@
 -- Assumes nothing.
 use mathlib.Core.Path.{_≡_, refl, sym, ap, subst, _∙_}
 use mathlib.Core.Bool.{Bool, true, false, cond, _&&_, and-true, and-assoc}
-use mathlib.Core.List.{List, [], _∷_}
+use mathlib.Core.List.{List}
 use mathlib.Core.Option.{Option, some, none as nothing}
 use Prim.Native.Nat.{ℕ, zero, suc, _+_, _-_, _<_, _≤_}
 use native.Mathlib.Omega.{arith}
@@ -15,7 +15,6 @@ use Rattle.refusal.specs.Table.{accepted, fieldMissing, fieldType, versionNot1}
 use Rattle.heads.specs.Table.{leadTable}
 use Rattle.messagepack.specs.Document.{Document, Entries, empty, entry, size}
 use Rattle.messagepack.specs.Rules.{NoKey}
-use Rattle.values.specs.Parts.{textOf}
 use Rattle.values.specs.Places.{At, AtEntries, TextAt}
 use Rattle.values.specs.Standing.{Standing}
 use Rattle.values.specs.Laws.Places.{at-standing}
@@ -31,9 +30,9 @@ use Rattle.fields.specs.declared.Typed.{Typed}
 use Rattle.fields.specs.declared.Fields.{Fields}
 use Rattle.fields.specs.Laws.Types.{clash, and-left}
 use Rattle.fields.specs.Laws.Sets.{present-none, covered-have}
-use Rattle.fields.specs.Laws.Rows.{rowCount, fitting-none, valueOf-none, fitting-entry, present-marked, valueOf-entry, valueOf-fresh}
+use Rattle.fields.specs.Laws.Rows.{fitting-none, valueOf-none, fitting-entry, present-marked, valueOf-entry, valueOf-fresh}
 use Rattle.fields.specs.Laws.Numbers.{named-is, named-distinct, named-count, row-type, no-type}
-use Rattle.fields.specs.Laws.Steps.{no-kind, passed, failed, or-marked, KeyRead, FirstEntry, first-entry}
+use Rattle.fields.specs.Laws.Steps.{no-kind, passed, failed, or-marked, KeyRead, first-entry}
 
 -- a field's value by its row
 
@@ -42,13 +41,17 @@ row-named i x = ap (λ (z : Rows). rowTest i z x) named-is
 
 module _ (i : ℕ) {leads s : List ℕ} {at : ℕ} {v : Typed} (h : ValueSays leads s (rowTest i (rowsFrom (typeOf typeDepth) fieldCount firstField)) at v) where
   pub judge-right : (e : ℕ) → v ≡ Typed.Ends e → RowSays leads s i at e true
-  judge-right e is = record { says = λ l x f a.
-    let k = passed (rowTest i (rowsFrom (typeOf typeDepth) fieldCount firstField) x) (sym is ∙ h .says l x f a) in
-    (k .1, sym (k .0) ∙ row-named i x) }
+  judge-right e is = record {
+    says = λ l x f a.
+        let k = passed (rowTest i (rowsFrom (typeOf typeDepth) fieldCount firstField) x) (sym is ∙ h .says l x f a) in
+        (k .1, sym (k .0) ∙ row-named i x);
+  }
 
   pub judge-wrong : (e : ℕ) → v ≡ Typed.Wrong → (leads ≡ leadTable → (f : ℕ) → Standing s 1 at f → e ≡ f) → RowSays leads s i at e false
-  judge-wrong e is over = record { says = λ l x f a.
-    (over l f (at-standing a), sym (failed (rowTest i (rowsFrom (typeOf typeDepth) fieldCount firstField) x) f (sym is ∙ h .says l x f a)) ∙ row-named i x) }
+  judge-wrong e is over = record {
+    says = λ l x f a.
+        (over l f (at-standing a), sym (failed (rowTest i (rowsFrom (typeOf typeDepth) fieldCount firstField) x) f (sym is ∙ h .says l x f a)) ∙ row-named i x);
+  }
 
 -- the same by the field's type
 
@@ -112,7 +115,7 @@ note-none leads s places presence typed n p le long = record { says = λ l es e 
     }
     go (entry k x es) c = absurd (omega (arith, c))
 
-pub note-next : (leads s places : List ℕ) (presence : ℕ) (typed : Bool) (n p i q : ℕ) (b : Bool) {key : Part} {after : List ℕ} {next : ℕ} {right : Bool} {r : Fields} → 0 < n → length places ≡ fieldCount → KeyRead leads s p key → i ≡ findRow (take (key .count) (drop (key .at) s)) named → RowSays leads s i (key .at + key .count) q b → after ≡ set places i (key .at + key .count) → next ≡ marked fieldCount presence i → right ≡ (typed && b) → NoteSays leads s after next right (n - 1) q r → NoteSays leads s places presence typed n p r
+pub note-next : (leads s places : List ℕ) (presence : ℕ) (typed : Bool) (n p i q : ℕ) (b : Bool) {key : Part} {after : List ℕ} {next : ℕ} {right : Bool} {r : Fields} → 0 < n → length places ≡ fieldCount → KeyRead leads s p key → ((f : ℕ → FieldType) → i ≡ findRow (take (key .count) (drop (key .at) s)) (rowsFrom f fieldCount firstField)) → RowSays leads s i (key .at + key .count) q b → after ≡ set places i (key .at + key .count) → next ≡ marked fieldCount presence i → right ≡ (typed && b) → NoteSays leads s after next right (n - 1) q r → NoteSays leads s places presence typed n p r
 note-next leads s places presence typed n p i q b {key} {after} {next} {right} {r} pos long read row here put set fit rest = record { says = λ l es e a c. go l es e a c }
   where
     noted : (k : List ℕ) (x : Document) (es : Entries) (e : ℕ) → i ≡ findRow k named → NoKey k es → 0 < key .at + key .count → At s (key .at + key .count) x e → b ≡ rowTest i named x → NotedFrom s after next right es r → NotedFrom s places presence typed (entry k x es) r
@@ -120,17 +123,17 @@ note-next leads s places presence typed n p i q b {key} {after} {next} {right} {
       long = m .long;
       place = λ z lt. place-entry k x es places i (key .at + key .count) e j f long large v z (getD (r .places) z 0) lt (subst (λ (w : List ℕ). PlaceFrom s (getD w z 0) (fieldAt z es) (getD (r .places) z 0)) put (m .place z lt));
       present =
-        let u : bitOr presence (setOf (present named (entry k x es))) ≡ bitOr (marked fieldCount presence i) (setOf (present named es)) = ap (λ (z : ℕ). bitOr presence z) (present-marked k x es named named-distinct ∙ ap (λ (z : ℕ). marked z (setOf (present named es)) (findRow k named)) named-count ∙ ap (λ (z : ℕ). marked fieldCount (setOf (present named es)) z) (sym j)) ∙ or-marked fieldCount presence (setOf (present named es)) i in
-        m .present ∙ ap (λ (z : ℕ). bitOr z (setOf (present named es))) set ∙ sym u;
+          let u : bitOr presence (setOf (present named (entry k x es))) ≡ bitOr (marked fieldCount presence i) (setOf (present named es)) = ap (λ (z : ℕ). bitOr presence z) (present-marked k x es named named-distinct ∙ ap (λ (z : ℕ). marked z (setOf (present named es)) (findRow k named)) named-count ∙ ap (λ (z : ℕ). marked fieldCount (setOf (present named es)) z) (sym j)) ∙ or-marked fieldCount presence (setOf (present named es)) i in
+          m .present ∙ ap (λ (z : ℕ). bitOr z (setOf (present named es))) set ∙ sym u;
       fit =
-        let u : fitting named (entry k x es) ≡ (b && fitting named es) = fitting-entry k x es named named-distinct f ∙ ap (λ (z : ℕ). rowTest z named x && fitting named es) (sym j) ∙ ap (λ (z : Bool). z && fitting named es) (sym t) in
-        m .fit ∙ ap (λ (z : Bool). z && fitting named es) fit ∙ and-assoc typed b (fitting named es) ∙ ap (λ (z : Bool). typed && z) (sym u);
+          let u : fitting named (entry k x es) ≡ (b && fitting named es) = fitting-entry k x es named named-distinct f ∙ ap (λ (z : ℕ). rowTest z named x && fitting named es) (sym j) ∙ ap (λ (z : Bool). z && fitting named es) (sym t) in
+          m .fit ∙ ap (λ (z : Bool). z && fitting named es) fit ∙ and-assoc typed b (fitting named es) ∙ ap (λ (z : Bool). typed && z) (sym u);
     }
 
     go : leads ≡ leadTable → (es : Entries) (e : ℕ) → AtEntries s p es e → size es ≡ n → NotedFrom s places presence typed es r
     go l es e a c =
         let o = first-entry read l es e n a c pos in
-        let j : i ≡ findRow (o .k) named = row ∙ ap (λ (z : List ℕ). findRow z named) (o .name) in
+        let j : i ≡ findRow (o .k) named = row (typeOf typeDepth) ∙ ap (findRow (take (key .count) (drop (key .at) s))) named-is ∙ ap (λ (z : List ℕ). findRow z named) (o .name) in
         let w = here .says l (o .x) (o .end) (o .value) in
         let m = rest .says l (o .others) e (subst (λ (z : ℕ). AtEntries s z (o .others) e) (sym (w .0)) (o .rest)) (o .counts) in
         subst (λ (z : Entries). NotedFrom s places presence typed z r) (sym (o .is)) (noted (o .k) (o .x) (o .others) (o .end) j (o .fresh) (o .positive) (o .value) (w .1) m)

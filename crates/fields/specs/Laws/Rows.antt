@@ -1,28 +1,23 @@
 -- Rows whose names are different, and one entry more, whose key is new.
 -- Assumes nothing.
-use mathlib.Core.Path.{_≡_, refl, sym, ap, ap₂, _∙_}
-use mathlib.Core.Bool.{Bool, true, false, cond, not, _&&_, _||_}
-use mathlib.Core.List.{List, [], _∷_}
-use mathlib.Core.Option.{Option, some, none as nothing}
-use Prim.Native.Nat.{ℕ, zero, suc, _+_, _<_, _≤_}
+use mathlib.Core.Path.{_≡_, refl, sym, ap, _∙_}
+use mathlib.Core.Bool.{Bool, true, false, cond, not, _&&_}
+use mathlib.Core.List.{List, _∷_}
+use mathlib.Core.Option.{some, none as nothing}
+use Prim.Native.Nat.{ℕ, zero, suc, _<_}
 use native.Mathlib.Omega.{arith}
 use lib.Dec.{eqb, eqb·zero-suc, eqb·suc-zero, eqb·suc-suc}
 use lib.ListN.{length, set}
 use Rattle.messagepack.specs.Document.{Document, Entries, empty, entry}
 use Rattle.messagepack.specs.Rules.{NoKey}
 use Rattle.messagepack.specs.Walk.{equal}
-use Rattle.messagepack.specs.Laws.Keys.{equal-true, equal-refl, equal-false}
+use Rattle.messagepack.specs.Laws.Keys.{equal-true, equal-false}
 use Rattle.fields.specs.Types.{Rows, last, row, look}
 use Rattle.fields.specs.Tests.{isThere, onValue, typed, fitting}
 use Rattle.fields.specs.Fields.{valueOf, setOf, present}
-use Rattle.fields.specs.Numbers.{findRow, rowTest, newName, distinctNames, marked}
+use Rattle.fields.specs.Numbers.{findRow, rowTest, newName, distinctNames, marked, rowCount}
 use Rattle.fields.specs.Laws.Types.{clash, and-left, and-right}
 use Rattle.fields.specs.Laws.Sets.{set-marked}
-
--- how many rows there are
-unfoldable pub rowCount : Rows → ℕ
-rowCount last = 0
-rowCount (row k q t rows) = suc (rowCount rows)
 
 pub present-length : (rows : Rows) (es : Entries) → length (present rows es) ≡ rowCount rows
 unfolding present rowCount

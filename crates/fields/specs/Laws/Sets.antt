@@ -1,7 +1,7 @@
 -- Sets as numbers, one bit for each.
 -- Assumes nothing.
 use mathlib.Core.Path.{_≡_, refl, sym, ap, ap₂, _∙_}
-use mathlib.Core.Bool.{Bool, true, false, cond, not, _&&_, _||_}
+use mathlib.Core.Bool.{Bool, true, false, cond, not, _||_}
 use mathlib.Core.List.{List, [], _∷_}
 use Prim.Native.Nat.{ℕ, zero, suc, _+_, _*_, _/_, _%_, _^_, _<_, _≤_, max}
 use native.Mathlib.Omega.{arith}
@@ -16,8 +16,10 @@ use borrow.Author.Tests.{ltb-true, ltb-false}
 use Rattle.messagepack.specs.Document.{Entries, empty}
 use Rattle.fields.specs.Types.{Rows, last, row, look}
 use Rattle.fields.specs.Tests.{isThere, have}
-use Rattle.fields.specs.Fields.{bit, setOf, present}
-use Rattle.fields.specs.Numbers.{covered, marked}
+use Rattle.fields.specs.Table.{named, fieldCount}
+use Rattle.fields.specs.Fields.{bit, setOf, countOf, present, presenceOf, presentCount}
+use Rattle.fields.specs.Numbers.{covered, marked, rowCount}
+use Rattle.fields.specs.Laws.Types.{clash, and-left, and-right}
 
 -- the union of sets
 
@@ -52,9 +54,6 @@ set-odd : (b : Bool) (n : ℕ) → (bit b + n * 2) % 2 ≡ bit b
 set-odd b n = let h = bit-below b in omega arith
 
 -- how many are in it
-unfoldable pub countOf : List Bool → ℕ
-countOf [] = 0
-countOf (b ∷ bs) = bit b + countOf bs
 
 ones-none : ones 0 ≡ 0
 unfolding ones
@@ -64,6 +63,45 @@ pub ones-setOf : (bs : List Bool) → ones (setOf bs) ≡ countOf bs
 unfolding setOf countOf
 ones-setOf [] = ones-none
 ones-setOf (b ∷ bs) = ones-step (bit b + setOf bs * 2) ∙ ap₂ (λ (x y : ℕ). x + ones y) (set-odd b (setOf bs)) (set-half b (setOf bs)) ∙ ap (λ (x : ℕ). bit b + x) (ones-setOf bs)
+
+pub ones-presence : (es : Entries) → ones (presenceOf es) ≡ presentCount es
+unfolding presenceOf presentCount
+ones-presence es = ones-setOf (present named es)
+
+-- at most as many as there are rows, and at least the required ones where they are there
+
+bit-most : (b : Bool) → bit b ≤ 1
+bit-most true = omega arith
+bit-most false = omega arith
+
+count-most : (rows : Rows) (es : Entries) → countOf (present rows es) ≤ rowCount rows
+unfolding present countOf rowCount
+count-most last es = omega arith
+count-most (row k q t rows) es = omega (arith, bit-most (isThere (look k es)), count-most rows es)
+
+requiredCount : Rows → ℕ
+requiredCount last = 0
+requiredCount (row k q t rows) = bit q + requiredCount rows
+
+bit-least : (q b : Bool) → not q || b ≡ true → bit q ≤ bit b
+bit-least true true h = omega arith
+bit-least true false h = clash h
+bit-least false b h = omega arith
+
+count-least : (rows : Rows) (es : Entries) → have rows es ≡ true → requiredCount rows ≤ countOf (present rows es)
+unfolding present countOf have requiredCount
+count-least last es h = omega arith
+count-least (row k q t rows) es h =
+    let here = bit-least q (isThere (look k es)) (and-left (not q || isThere (look k es)) (have rows es) h) in
+    omega (arith, count-least rows es (and-right (not q || isThere (look k es)) (have rows es) h))
+
+pub present-most : (es : Entries) → presentCount es ≤ fieldCount
+unfolding presentCount named rowCount
+present-most es = count-most named es
+
+pub present-least : (es : Entries) → have named es ≡ true → 16 ≤ presentCount es
+unfolding presentCount named requiredCount
+present-least es h = count-least named es h
 
 -- one more in it
 

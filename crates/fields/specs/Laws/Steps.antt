@@ -1,35 +1,36 @@
 -- What stands at a place has a type, by its head and by what stands inside: a law for each way on.
 -- Assumes nothing.
-use mathlib.Core.Path.{_≡_, refl, sym, ap, ap₂, subst, _∙_}
+use mathlib.Core.Path.{_≡_, refl, sym, ap, subst, _∙_}
 use mathlib.Core.Bool.{Bool, true, false, cond, _&&_, and-comm}
-use mathlib.Core.List.{List, [], _∷_}
-use mathlib.Core.Option.{Option, some, none as nothing}
-use Prim.Native.Nat.{ℕ, zero, suc, _+_, _-_, _^_, _<_, _≤_}
+use mathlib.Core.List.{List}
+use Prim.Native.Nat.{ℕ, _+_, _-_, _^_, _<_, _≤_}
 use native.Mathlib.Omega.{arith}
 use native.Mathlib.Nat.{add-zero}
 use lib.Bits.{bitOr, or-zero-r}
-use lib.Dec.{eqb, leb, ltb}
+use lib.Dec.{eqb, leb, ltb, lit≤}
 use lib.ListN.{length, getD, take, drop}
 use borrow.Author.Tests.{eq-eqb, ne-eqb, le-leb}
 use Rattle.heads.specs.Head.{kindAt, headAt}
 use Rattle.heads.specs.Table.{leadTable}
-use Rattle.heads.specs.Laws.Head.{Told}
+use Rattle.heads.specs.Lead.{moreOf}
+use Rattle.heads.specs.Laws.Head.{Told, kind-in, head-held}
+use Rattle.heads.specs.Laws.Table.{low-lead, string-lead}
 use Rattle.heads.specs.declared.Head.{Head}
 use Rattle.heads.specs.declared.Kind.{Kind}
 use Rattle.messagepack.specs.Document.{Document, Documents, Entries, integer, float, string, binary, array, map, none, item, empty, entry, count, size, WritesAll, WritesEntries}
 use Rattle.messagepack.specs.Rules.{NoKey}
 use Rattle.values.specs.Places.{At, AtAll, AtEntries, TextAt}
 use Rattle.values.specs.Standing.{Standing}
-use Rattle.values.specs.Laws.Places.{at-inside, at-standing, OpenArray, open-array, OpenMap, open-map, OpenText, open-string, open-binary, open-float, OpenInteger, unsigned, signed, open-integer, OpenItem, open-item, OpenEntry, open-entry}
+use Rattle.values.specs.Laws.Places.{at-inside, at-standing, open-array, open-map, OpenText, open-string, open-binary, open-float, OpenInteger, unsigned, signed, open-integer, open-item, open-entry}
 use Rattle.values.specs.declared.Part.{Part}
-use Rattle.fields.specs.Types.{FieldType, Rows, plain, arrayOf, exactly, mapWith, last, row, kindNumber}
+use Rattle.fields.specs.Types.{FieldType, Rows, plain, arrayOf, exactly, mapWith, kindNumber}
 use Rattle.fields.specs.Tests.{onArray, onMap, all, have, typed, fitting}
 use Rattle.fields.specs.Fields.{setOf, present}
-use Rattle.fields.specs.Numbers.{codeOf, rowsFrom, findRow, rowTest, covered, marked, distinctNames}
+use Rattle.fields.specs.Numbers.{codeOf, rowsFrom, findRow, rowTest, covered, marked, distinctNames, rowCount}
 use Rattle.fields.specs.Steps.{endsIf, numberOf, plainEnd, ValueSays, ItemsSay, EntriesSay}
 use Rattle.fields.specs.declared.Typed.{Typed}
 use Rattle.fields.specs.Laws.Sets.{or-later, present-none, covered-have}
-use Rattle.fields.specs.Laws.Rows.{rowCount, fitting-none, fitting-entry, present-marked}
+use Rattle.fields.specs.Laws.Rows.{fitting-none, fitting-entry, present-marked}
 use Rattle.fields.specs.Laws.Numbers.{row-typed, row-free}
 
 -- a document's head, and its kind by it
@@ -223,9 +224,34 @@ module _ {leads s : List ℕ} {at n p k : ℕ} (r : HeadRead leads s at n p k) w
 
   pub mapWith-says : (rows : Rows) {v : Typed} → k ≡ 6 → EntriesSay leads s rows 0 n p v → ValueSays leads s (typed (mapWith rows)) at v
   unfolding typed
-  mapWith-says rows q i = record { says = λ le x e a.
-    let o = entries-of s at n p e (r .head le) x (sym (kinds le x a) ∙ q) a in
-    i .says le (o .es) e (o .all) (o .counts) ∙ ap (λ (b : Bool). endsIf b e) (ap (λ (b : Bool). fitting rows (o .es) && b) (covered-have rows (o .es)) ∙ and-comm (fitting rows (o .es)) (have rows (o .es))) ∙ ap (λ (z : Document). endsIf (onMap z (λ es. have rows es && fitting rows es)) e) (sym (o .is)) }
+  mapWith-says rows q i = record {
+    says = λ le x e a.
+        let o = entries-of s at n p e (r .head le) x (sym (kinds le x a) ∙ q) a in
+        i .says le (o .es) e (o .all) (o .counts) ∙ ap (λ (b : Bool). endsIf b e) (ap (λ (b : Bool). fitting rows (o .es) && b) (covered-have rows (o .es)) ∙ and-comm (fitting rows (o .es)) (have rows (o .es))) ∙ ap (λ (z : Document). endsIf (onMap z (λ es. have rows es && fitting rows es)) e) (sym (o .is));
+  }
+
+-- the commonest values, found by their lead byte
+
+module _ (s : List ℕ) (at : ℕ) (inside : at < length s) (leads : List ℕ) where
+  -- an integer in its lead byte
+  pub low-says : getD s at 0 < 0x80 → ValueSays leads s (typed (plain 1)) at (Typed.Ends (at + 1))
+  low-says h =
+      let r = low-lead (getD s at 0) h in
+      let one : 1 ≡ moreOf (getD s at 0) + 1 = rw (r .more) in
+      plain-says (record {
+        head = λ l. sym (head-held s at one refl (omega arith) (sym (r .held)));
+        kind = λ l. ap numberOf (kind-in s at inside ∙ r .kind);
+      }) 1 (lit≤ tt) refl
+
+  -- a short string
+  pub short-says : (n : ℕ) → 0xa0 ≤ getD s at 0 → getD s at 0 < 0xc0 → n ≡ getD s at 0 - 0xa0 → at + 1 + n ≤ length s → ValueSays leads s (typed (plain 3)) at (Typed.Ends (at + 1 + n))
+  short-says n low high e le =
+      let r = string-lead (getD s at 0) low high in
+      let one : 1 ≡ moreOf (getD s at 0) + 1 = rw (r .more) in
+      plain-says (record {
+        head = λ l. sym (head-held s at one refl (omega arith) (e ∙ sym (r .held)));
+        kind = λ l. ap numberOf (kind-in s at inside ∙ r .kind);
+      }) 3 (lit≤ tt) (rw (le-leb (at + 1 + n) (length s) le))
 
 -- the values of an array, one after another
 
