@@ -1,81 +1,72 @@
+-- A file that is no container has its number; in one bioAssemblyList decides.
+use mathlib.Core.Path.{_≡_, sym, ap, subst, _∙_}
+use mathlib.Core.Bool.{true, false}
+use borrow.Author.Tests.{not-true, not-false}
+use Rattle.messagepack.specs.Document.{Document, map}
+use Rattle.values.specs.Laws.Places.{outer-at}
+use Rattle.fields.specs.Types.{FieldType}
+use Rattle.fields.specs.Tests.{typed}
+use Rattle.transforms.specs.Matrix.{assembliesType}
+use Rattle.transforms.specs.Laws.Matrix.{place-none, place-some, no-assemblies, mistyped, answers-as, assemblies-type, no-container, container-answers}
+use Rattle.transforms.specs.Steps.{answer, refusedBy}
 use borrow.Author.Needs.{needs}
 use Rattle.transforms.proofs.find.Statement.{statement}
 use Rattle.transforms.proofs.find.Tie as tie
-use Rattle.transforms.proofs.find.Reads as reads
-use Rattle.transforms.proofs.find.Lts as lts
-use Rattle.fields.proofs.is_typed.Reads as is-typed-reads
-use Rattle.heads.proofs.leads.Reads as leads-reads
-use Rattle.keys.proofs.find.Reads as find-reads
-use Rattle.messagepack.proofs.container.Reads as container-reads
-use Rattle.transforms.proofs.refused.Reads as refused-reads
-use Rattle.transforms.proofs.transform_in.Reads as transform-in-reads
 
--- src/lib.rt:51:9
-container-requires : tie.Need-container-requires
-container-requires c κs = search needs
-
--- src/lib.rt:53:9
-refused-requires : tie.Need-refused-requires
-refused-requires c κs = search needs
-
--- src/lib.rt:53:9
 returns : tie.Need-returns
-returns c = ?
+returns c =
+    let k = c .before .before .container .ensures in
+    let r = no-container (c .before .before .before .before .args .assembly) (c .before .before .before .before .args .transform) (λ z. c .before .if1 .taken (k .0 ∙ z)) (c .refused .ensures ∙ ap refusedBy (k .0)) in
+    (r .number, r .floats)
 
--- src/lib.rt:55:17
-leads-requires : tie.Need-leads-requires
-leads-requires c κs = search needs
-
--- src/lib.rt:56:42
-slice-aggregate-find : tie.Need-slice-aggregate-find
-slice-aggregate-find c = search needs
-
--- src/lib.rt:56:9
-find-requires : tie.Need-find-requires
-find-requires c κs = search needs
-
--- src/lib.rt:58:9
-refused-requires-2 : tie.Need-refused-requires-2
-refused-requires-2 c κs = search needs
-
--- src/lib.rt:58:9
 returns-2 : tie.Need-returns-2
-returns-2 c = ?
+returns-2 c =
+    let k = c .before .before .before .before .before .before .before .container .ensures in
+    let o = k .1 .0 (c .before .before .before .before .before .before .if1 .left) in
+    let z = sym (k .0) ∙ c .before .before .before .before .before .before .if1 .left in
+    let t = c .before .before .before .before .before .leads .ensures in
+    let p = c .before .before .find .ensures t (map (o .entries)) _ (outer-at o) in
+    let r = container-answers (c .before .before .before .before .before .before .before .before .before .args .assembly) (c .before .before .before .before .before .before .before .before .before .args .transform) o z (c .refused2 .ensures ∙ no-assemblies (c .before .before .before .before .before .before .before .before .before .args .assembly) (c .before .before .before .before .before .before .before .before .before .args .transform) (place-none p (c .before .if2 .taken))) in
+    (r .number, r .floats)
 
--- src/lib.rt:60:9
-is-typed-requires : tie.Need-is-typed-requires
-is-typed-requires c κs = search needs
-
--- src/lib.rt:61:9
-refused-requires-3 : tie.Need-refused-requires-3
-refused-requires-3 c κs = search needs
-
--- src/lib.rt:61:9
 returns-3 : tie.Need-returns-3
-returns-3 c = ?
+returns-3 c =
+    let k = c .before .before .before .before .before .before .before .before .before .before .container .ensures in
+    let o = k .1 .0 (c .before .before .before .before .before .before .before .before .before .if1 .left) in
+    let z = sym (k .0) ∙ c .before .before .before .before .before .before .before .before .before .if1 .left in
+    let t = c .before .before .before .before .before .before .before .before .leads .ensures in
+    let p = c .before .before .before .before .before .find .ensures t (map (o .entries)) _ (outer-at o) in
+    let w = place-some p (c .before .before .before .before .if2 .left) in
+    let f : typed assembliesType (w .x) ≡ false = sym (ap (λ (y : FieldType). typed y (w .x)) assemblies-type) ∙ sym (c .before .before .is-typed .ensures t (w .x) (w .end) (w .at)) ∙ not-true _ (c .before .if3 .taken) in
+    let r = container-answers (c .before .before .before .before .before .before .before .before .before .before .before .before .args .assembly) (c .before .before .before .before .before .before .before .before .before .before .before .before .args .transform) o z (c .refused3 .ensures ∙ mistyped (c .before .before .before .before .before .before .before .before .before .before .before .before .args .assembly) (c .before .before .before .before .before .before .before .before .before .before .before .before .args .transform) (w .is) f) in
+    (r .number, r .floats)
 
--- src/lib.rt:63:5
-transform-in-requires : tie.Need-transform-in-requires
-transform-in-requires c κs = search needs
-
--- src/lib.rt:47:1
 returns-4 : tie.Need-returns-4
-returns-4 c = ?
+returns-4 c =
+    let k = c .before .before .before .before .before .before .before .before .before .before .before .container .ensures in
+    let o = k .1 .0 (c .before .before .before .before .before .before .before .before .before .before .if1 .left) in
+    let z = sym (k .0) ∙ c .before .before .before .before .before .before .before .before .before .before .if1 .left in
+    let t = c .before .before .before .before .before .before .before .before .before .leads .ensures in
+    let p = c .before .before .before .before .before .before .find .ensures t (map (o .entries)) _ (outer-at o) in
+    let w = place-some p (c .before .before .before .before .before .if2 .left) in
+    let f : typed assembliesType (w .x) ≡ true = sym (ap (λ (y : FieldType). typed y (w .x)) assemblies-type) ∙ sym (c .before .before .before .is-typed .ensures t (w .x) (w .end) (w .at)) ∙ not-false _ (c .before .before .if3 .left) in
+    let r = container-answers (c .before .before .before .before .before .before .before .before .before .before .before .before .before .args .assembly) (c .before .before .before .before .before .before .before .before .before .before .before .before .before .args .transform) o z (answers-as (c .before .before .before .before .before .before .before .before .before .before .before .before .before .args .assembly) (c .before .before .before .before .before .before .before .before .before .before .before .before .before .args .transform) (w .is) (c .transform-in .ensures t (w .x) (w .end) (w .at) f)) in
+    (r .number, r .floats)
 
 pub find-spec : {M : Type 1} → statement M
 find-spec =
     tie.close
     (tie.spec
-    container-requires
-    refused-requires
+    (λ c κs. search needs)
+    (λ c κs. search needs)
     returns
-    leads-requires
-    slice-aggregate-find
-    find-requires
-    refused-requires-2
+    (λ c κs. search needs)
+    (λ c. search needs)
+    (λ c κs. search needs)
+    (λ c κs. search needs)
     returns-2
-    is-typed-requires
-    refused-requires-3
+    (λ c κs. search needs)
+    (λ c κs. search needs)
     returns-3
-    transform-in-requires
+    (λ c κs. search needs)
     returns-4)

@@ -1,94 +1,58 @@
+-- The assembly is found by its number, its transforms under their key, the transform by its number, and its matrix under its key; the type says that both keys are there.
+use mathlib.Core.Path.{_≡_, refl, sym, ap, _∙_}
+use mathlib.Core.List.{List}
+use lib.Ieee.{Float}
+use Rattle.refusal.specs.Table.{accepted}
+use Rattle.transforms.specs.Laws.Matrix.{found-there, found-absent, place-there, transforms-held, matrix-held, matrix-sixteen, no-assembly, no-transform, matrix-there}
+use Rattle.transforms.specs.declared.Transform.{Transform}
 use borrow.Author.Needs.{needs}
 use Rattle.transforms.proofs.transform_in.Statement.{statement}
 use Rattle.transforms.proofs.transform_in.Tie as tie
-use Rattle.transforms.proofs.transform_in.Reads as reads
-use Rattle.transforms.proofs.transform_in.Lts as lts
-use Rattle.keys.proofs.find.Reads as find-reads
-use Rattle.transforms.proofs.floats_at.Reads as floats-at-reads
-use Rattle.transforms.proofs.item.Reads as item-reads
-use Rattle.transforms.proofs.refused.Reads as refused-reads
 
--- src/lib.rt:106:24
-item-requires : tie.Need-item-requires
-item-requires c κs = search needs
-
--- src/lib.rt:106:19
-enum-known-a : tie.Need-enum-known-a
-enum-known-a c = search needs
-
--- src/lib.rt:107:9
-enum-told : tie.Need-enum-told
-enum-told c = search needs
-
--- src/lib.rt:107:9
-refused-requires : tie.Need-refused-requires
-refused-requires c κs = search needs
-
--- src/lib.rt:107:9
 returns : tie.Need-returns
-returns c = ?
+returns c =
+    λ t x e d h.
+    let n = found-absent (c .before .before .before .item .ensures t x e d) (c .before .enum-told .given .1) in
+    c .refused .ensures ∙ no-assembly (c .before .before .before .before .before .args .assembly) (c .before .before .before .before .before .args .transform) x h n
 
--- src/lib.rt:109:43
-slice-aggregate-find : tie.Need-slice-aggregate-find
-slice-aggregate-find c = search needs
-
--- src/lib.rt:109:9
-find-requires : tie.Need-find-requires
-find-requires c κs = search needs
-
--- src/lib.rt:110:24
-item-requires-2 : tie.Need-item-requires-2
-item-requires-2 c κs = search needs
-
--- src/lib.rt:110:19
-enum-known-t : tie.Need-enum-known-t
-enum-known-t c = search needs
-
--- src/lib.rt:111:9
-enum-told-2 : tie.Need-enum-told-2
-enum-told-2 c = search needs
-
--- src/lib.rt:111:9
-refused-requires-2 : tie.Need-refused-requires-2
-refused-requires-2 c κs = search needs
-
--- src/lib.rt:111:9
 returns-2 : tie.Need-returns-2
-returns-2 c = ?
+returns-2 c =
+    λ t x e d h.
+    let u = found-there (c .before .before .before .before .before .before .before .before .before .item .ensures t x e d) (c .before .before .before .before .before .before .before .a .given .1) in
+    let v = transforms-held x (c .before .before .before .before .before .before .before .before .before .before .before .args .assembly) h (u .is) in
+    let z = place-there (c .before .before .before .before .find .ensures t (u .x) (u .end) (u .at)) (v .is) in
+    let n = found-absent (c .before .before .before .item2 .ensures t (v .x) (z .end) (z .at)) (c .before .enum-told2 .given .1) in
+    c .refused2 .ensures ∙ no-transform (c .before .before .before .before .before .before .before .before .before .before .before .args .assembly) (c .before .before .before .before .before .before .before .before .before .before .before .args .transform) x h (u .is) (v .is) n
 
--- src/lib.rt:113:68
-slice-aggregate-find-2 : tie.Need-slice-aggregate-find-2
-slice-aggregate-find-2 c = search needs
-
--- src/lib.rt:113:41
-find-requires-2 : tie.Need-find-requires-2
-find-requires-2 c κs = search needs
-
--- src/lib.rt:113:9
-floats-at-requires : tie.Need-floats-at-requires
-floats-at-requires c κs = search needs
-
--- src/lib.rt:103:1
 returns-3 : tie.Need-returns-3
-returns-3 c = ?
+returns-3 c =
+    λ t x e d h.
+    let u = found-there (c .before .before .before .before .before .before .before .before .before .before .before .before .item .ensures t x e d) (c .before .before .before .before .before .before .before .before .before .before .a .given .1) in
+    let v = transforms-held x (c .before .before .before .before .before .before .before .before .before .before .before .before .before .before .args .assembly) h (u .is) in
+    let z = place-there (c .before .before .before .before .before .before .before .find .ensures t (u .x) (u .end) (u .at)) (v .is) in
+    let w = found-there (c .before .before .before .before .before .before .item2 .ensures t (v .x) (z .end) (z .at)) (c .before .before .before .before .t .given .1) in
+    let m = matrix-held (v .x) (c .before .before .before .before .before .before .before .before .before .before .before .before .before .before .args .transform) (v .typed) (w .is) in
+    let p = place-there (c .before .find2 .ensures t (w .x) (w .end) (w .at)) (m .is) in
+    let f = c .floats-at .ensures t (m .x) (p .end) (p .at) (matrix-sixteen (m .x) (m .typed)) in
+    ap (λ (fs : List Float). record { refusal = accepted; floats = fs }) f ∙ matrix-there (c .before .before .before .before .before .before .before .before .before .before .before .before .before .before .args .assembly) (c .before .before .before .before .before .before .before .before .before .before .before .before .before .before .args .transform) x h (u .is) (v .is) (w .is) (m .is)
 
 pub transform-in-spec : {M : Type 1} → statement M
 transform-in-spec =
     tie.close
     (tie.spec
-    item-requires
-    enum-known-a
-    enum-told
-    refused-requires
+    (λ c κs. search needs)
+    (λ c. search needs)
+    (λ c. search needs)
+    (λ c κs. search needs)
     returns
-    slice-aggregate-find
-    find-requires
-    item-requires-2
-    enum-known-t
-    enum-told-2
-    refused-requires-2
+    (λ c. search needs)
+    (λ c κs. search needs)
+    (λ c κs. search needs)
+    (λ c. search needs)
+    (λ c. search needs)
+    (λ c κs. search needs)
     returns-2
-    slice-aggregate-find-2
-    find-requires-2
-    floats-at-requires
+    (λ c. search needs)
+    (λ c κs. search needs)
+    (λ c κs. search needs)
     returns-3)

@@ -22,10 +22,19 @@ use Rattle.messagepack.specs.Document.{Document, Documents, Entries, integer, f
 use Rattle.values.specs.Parts.{bitsOf, itemsOf, entriesOf}
 use Rattle.values.specs.Places.{At, AtAll}
 use Rattle.values.specs.Laws.Places.{heads, isFloat, read-heads, open-float, open-item}
-use Rattle.fields.specs.Laws.Types.{clash}
-use Rattle.transforms.specs.Matrix.{nth, floatOf, floatsOf, zeros}
-use Rattle.transforms.specs.Steps.{FoundSays, absent, there}
+use Rattle.messagepack.specs.Rules.{Container}
+use Rattle.messagepack.specs.Walk.{containerNumber}
+use Rattle.messagepack.specs.Laws.Unique.{documentOf-is}
+use Rattle.fields.specs.Types.{FieldType, Rows, arrayOf, exactly, mapWith, aFloat, bytesIn, look, Each, Has, HasType, Fits}
+use Rattle.fields.specs.Table.{transformRows, assemblyRows, named}
+use Rattle.fields.specs.Tests.{typed}
+use Rattle.fields.specs.Fields.{typeIn, fieldTypeOf}
+use Rattle.fields.specs.Noted.{PlaceSays, gone, there as stands}
+use Rattle.fields.specs.Laws.Types.{clash, typed-exactly}
+use Rattle.transforms.specs.Matrix.{nth, assembliesType, assembliesOf, transformIn, assembliesNumber, matrixNumber, floatOf, floatsOf, matrixIn, handed, matrixFloats}
+use Rattle.transforms.specs.Steps.{FoundSays, absent, there, refusedBy, answer}
 use Rattle.transforms.specs.declared.Found.{Found}
+use Rattle.transforms.specs.declared.Transform.{Transform}
 
 -- a float's bits
 
@@ -175,3 +184,130 @@ four (a ∷ b ∷ []) zero l = absurd (omega arith)
 four (a ∷ b ∷ c ∷ []) zero l = absurd (omega arith)
 four (a ∷ b ∷ c ∷ d ∷ fs) zero l = refl
 four (a ∷ fs) (suc i) l = rw (suc-add i 1, suc-add i 2, suc-add i 3) (four fs i (omega arith))
+
+-- a value that was found stands at its place; one that is absent is not there
+
+pub record Stands (s : List ℕ) (p : ℕ) (o : Option Document) : Type 0 where
+  pub x : Document
+  pub end : ℕ
+  pub is : o ≡ some x
+  pub at : At s p x end
+
+pub found-there : {s : List ℕ} {p : ℕ} {r : Found} {o : Option Document} → FoundSays s r o → r ≡ Found.At p → Stands s p o
+found-there {s} {p} {r} {o} f q = go (subst (λ (y : Found). FoundSays s y o) q f)
+  where
+    go : {u : Option Document} → FoundSays s (Found.At p) u → Stands s p u
+    go (there {e = e} {x = x} a) = record { x = x; end = e; is = refl; at = a }
+
+pub found-absent : {s : List ℕ} {r : Found} {o : Option Document} → FoundSays s r o → r ≡ Found.Absent → o ≡ nothing
+found-absent {s} {r} {o} f q = go (subst (λ (y : Found). FoundSays s y o) q f)
+  where
+    go : {u : Option Document} → FoundSays s Found.Absent u → u ≡ nothing
+    go absent = refl
+
+pub place-none : {s : List ℕ} {p : ℕ} {o : Option Document} → PlaceSays s p o → p ≡ 0 → o ≡ nothing
+place-none gone q = refl
+place-none (stands l a) q = absurd (omega arith)
+
+pub place-some : {s : List ℕ} {p : ℕ} {o : Option Document} → PlaceSays s p o → (p ≡ 0 → ⊥) → Stands s p o
+place-some gone n = absurd (n refl)
+place-some (stands {e = e} {x = x} l a) n = record { x = x; end = e; is = refl; at = a }
+
+pub place-there : {s : List ℕ} {p : ℕ} {o : Option Document} {x : Document} → PlaceSays s p o → o ≡ some x → record { end : ℕ; at : At s p x end }
+place-there {s} {p} {o} {x} f q = go (subst (PlaceSays s p) q f)
+  where
+    go : PlaceSays s p (some x) → record { end : ℕ; at : At s p x end }
+    go (stands {e = e} l a) = record { end = e; at = a }
+
+-- what a bioAssemblyList of its type holds
+
+nth-each : (P : Document → Type 0) (ds : Documents) (i : ℕ) {y : Document} → Each P ds → nth i ds ≡ some y → P y
+unfolding nth Each
+nth-each P none i h q = let z : _≡_ {A = ℕ} 0 1 = cc in absurd (omega arith)
+nth-each P (item d ds) zero {y} h q = let e : d ≡ y = cc in subst P e (h .0)
+nth-each P (item d ds) (suc i) h q = nth-each P ds i (h .1) q
+
+-- a value under a key, of a type
+pub record Held (k : List ℕ) (t : FieldType) (y : Document) : Type 0 where
+  pub x : Document
+  pub is : look k (entriesOf y) ≡ some x
+  pub typed : HasType t x
+
+-- each value of an array of maps has the maps' keys, each with its type
+map-rows : (rows : Rows) (x : Document) {y : Document} (i : ℕ) → HasType (arrayOf (mapWith rows)) x → nth i (itemsOf x) ≡ some y → Has rows (entriesOf y) × Fits rows (entriesOf y)
+unfolding HasType
+map-rows rows x {y} i h q =
+    let m = nth-each (HasType (mapWith rows)) (h .values) i (h .each) (sym (ap (λ (z : Document). nth i (itemsOf z)) (h .is)) ∙ q) in
+    let e : entriesOf y ≡ m .entries = ap entriesOf (m .is) in
+    (subst (Has rows) (sym e) (m .has), subst (Fits rows) (sym e) (m .fits))
+
+pub transforms-held : (x : Document) {y : Document} (a : ℕ) → typed assembliesType x ≡ true → nth a (itemsOf x) ≡ some y → Held (bytesIn "transformList") (arrayOf (mapWith transformRows)) y
+unfolding assemblyRows Has Fits
+transforms-held x a h q =
+    let m = map-rows assemblyRows x a (typed-exactly assembliesType x .0 h) q in
+    let v = m .0 .1 .0 in
+    record { x = v .x; is = v .is; typed = m .1 .1 .0 (v .x) (v .is) }
+
+pub matrix-held : (z : Document) {w : Document} (t : ℕ) → HasType (arrayOf (mapWith transformRows)) z → nth t (itemsOf z) ≡ some w → Held (bytesIn "matrix") (exactly 16 aFloat) w
+unfolding transformRows Has Fits
+matrix-held z t h q =
+    let m = map-rows transformRows z t h q in
+    let v = m .0 .1 .0 in
+    record { x = v .x; is = v .is; typed = m .1 .1 .0 (v .x) (v .is) }
+
+-- a matrix has sixteen values
+pub matrix-sixteen : (x : Document) → HasType (exactly 16 aFloat) x → count (itemsOf x) ≡ 16
+unfolding HasType
+matrix-sixteen x h = ap (λ (z : Document). count (itemsOf z)) (h .is) ∙ h .many
+
+-- the answer by bioAssemblyList
+
+module _ (a t : ℕ) (x : Document) (h : typed assembliesType x ≡ true) where
+  pub no-assembly : nth a (itemsOf x) ≡ nothing → refusedBy noSuchEntry ≡ answer (assembliesNumber a t (some x)) (matrixIn (transformIn a t (some x)))
+  no-assembly q = rw (h, q)
+
+  module _ {y z : Document} (p : nth a (itemsOf x) ≡ some y) (q : look (bytesIn "transformList") (entriesOf y) ≡ some z) where
+    pub no-transform : nth t (itemsOf z) ≡ nothing → refusedBy noSuchEntry ≡ answer (assembliesNumber a t (some x)) (matrixIn (transformIn a t (some x)))
+    no-transform n = rw (h, p, q, n)
+
+    pub matrix-there : {w m : Document} → nth t (itemsOf z) ≡ some w → look (bytesIn "matrix") (entriesOf w) ≡ some m → record { refusal = accepted; floats = floatsOf (itemsOf m) } ≡ answer (assembliesNumber a t (some x)) (matrixIn (transformIn a t (some x)))
+    matrix-there u v = rw (h, p, q, u, v)
+
+pub no-assemblies : (a t : ℕ) {o : Option Document} → o ≡ nothing → refusedBy noSuchField ≡ answer (assembliesNumber a t o) (matrixIn (transformIn a t o))
+no-assemblies a t q = rw q
+
+pub mistyped : (a t : ℕ) {o : Option Document} {x : Document} → o ≡ some x → typed assembliesType x ≡ false → refusedBy fieldType ≡ answer (assembliesNumber a t o) (matrixIn (transformIn a t o))
+mistyped a t q f = rw (q, f)
+
+pub answers-as : (a t : ℕ) {o : Option Document} {x : Document} {r : Transform} → o ≡ some x → r ≡ answer (assembliesNumber a t (some x)) (matrixIn (transformIn a t (some x))) → r ≡ answer (assembliesNumber a t o) (matrixIn (transformIn a t o))
+answers-as a t q e = rw q e
+
+-- the type of field 37 is that of bioAssemblyList
+pub assemblies-type : fieldTypeOf 37 ≡ assembliesType
+unfolding fieldTypeOf typeIn named
+assemblies-type = refl
+
+-- the answer for a file
+pub record Answers (s : List ℕ) (a t : ℕ) (r : Transform) : Type 0 where
+  pub number : r .refusal ≡ matrixNumber s a t
+  pub floats : r .floats ≡ matrixFloats s a t
+
+answers-by : {s : List ℕ} {a t n : ℕ} {fs : List Float} {r : Transform} → matrixNumber s a t ≡ n → matrixIn (transformIn a t (assembliesOf s)) ≡ fs → r ≡ answer n fs → Answers s a t r
+unfolding matrixFloats
+answers-by p q e = record {
+  number = ap (λ (y : Transform). y .refusal) e ∙ sym p;
+  floats = ap (λ (y : Transform). y .floats) e ∙ sym (ap₂ handed p q);
+}
+
+-- a file that is no container has its number
+pub no-container : {s : List ℕ} (a t : ℕ) {r : Transform} → (containerNumber s ≡ 0 → ⊥) → r ≡ refusedBy (containerNumber s) → Answers s a t r
+unfolding matrixNumber
+no-container {s} a t {r} n e =
+    answers-by {n = containerNumber s} (rw (ne-eqb (containerNumber s) accepted n)) refl (e ∙ rw (ne-eqb (containerNumber s) accepted n))
+
+-- in a container bioAssemblyList decides
+pub container-answers : {s : List ℕ} (a t : ℕ) {r : Transform} (c : Container s) → containerNumber s ≡ 0 → r ≡ answer (assembliesNumber a t (look (bytesIn "bioAssemblyList") (c .entries))) (matrixIn (transformIn a t (look (bytesIn "bioAssemblyList") (c .entries)))) → Answers s a t r
+unfolding matrixNumber
+container-answers {s} a t {r} c z e =
+    let d : assembliesOf s ≡ look (bytesIn "bioAssemblyList") (c .entries) = ap (λ (x : Document). look (bytesIn "bioAssemblyList") (entriesOf x)) (documentOf-is (map (c .entries)) s (c .writes) (c .nested)) in
+    answers-by (rw (eq-eqb (containerNumber s) accepted z) (ap (assembliesNumber a t) d)) (ap (λ (o : Option Document). matrixIn (transformIn a t o)) d) e
