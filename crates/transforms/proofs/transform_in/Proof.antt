@@ -1,10 +1,6 @@
 -- The assembly is found by its number, its transforms under their key, the transform by its number, and its matrix under its key; the type says that both keys are there.
-use mathlib.Core.Path.{_≡_, refl, sym, ap, _∙_}
-use mathlib.Core.List.{List}
-use lib.Ieee.{Float}
-use Rattle.refusal.specs.Table.{accepted}
+use mathlib.Core.Path.{_∙_}
 use Rattle.transforms.specs.Laws.Matrix.{found-there, found-absent, place-there, transforms-held, matrix-held, matrix-sixteen, no-assembly, no-transform, matrix-there}
-use Rattle.transforms.specs.declared.Transform.{Transform}
 use borrow.Author.Needs.{needs}
 use Rattle.transforms.proofs.transform_in.Statement.{statement}
 use Rattle.transforms.proofs.transform_in.Tie as tie
@@ -34,7 +30,7 @@ returns-3 c =
     let m = matrix-held (v .x) (c .before .before .before .before .before .before .before .before .before .before .before .before .before .before .args .transform) (v .typed) (w .is) in
     let p = place-there (c .before .find2 .ensures t (w .x) (w .end) (w .at)) (m .is) in
     let f = c .floats-at .ensures t (m .x) (p .end) (p .at) (matrix-sixteen (m .x) (m .typed)) in
-    ap (λ (fs : List Float). record { refusal = accepted; floats = fs }) f ∙ matrix-there (c .before .before .before .before .before .before .before .before .before .before .before .before .before .before .args .assembly) (c .before .before .before .before .before .before .before .before .before .before .before .before .before .before .args .transform) x h (u .is) (v .is) (w .is) (m .is)
+    matrix-there (c .before .before .before .before .before .before .before .before .before .before .before .before .before .before .args .assembly) (c .before .before .before .before .before .before .before .before .before .before .before .before .before .before .args .transform) x h (u .is) (v .is) (w .is) (m .is) f
 
 pub transform-in-spec : {M : Type 1} → statement M
 transform-in-spec =

@@ -7,8 +7,8 @@ use mathlib.Core.Option.{Option, some, none as nothing}
 use Prim.Native.Nat.{ℕ, zero, suc, _+_, _-_, _%_, _^_, _≤_, _<_}
 use native.Mathlib.Omega.{arith}
 use native.Mathlib.Nat.{mod-eq-of-lt, suc-add}
-use borrow.Author.Tests.{eq-eqb, ne-eqb}
-use lib.Dec.{eqb}
+use borrow.Author.Tests.{eq-eqb, ne-eqb, lt-ltb, le-ltb, ltb-true, ltb-false}
+use lib.Dec.{ltb}
 use lib.Ieee.{Float, nan, binary32, ofBits}
 use lib.ListN.{length, getD, set, take, drop, length-set}
 use lib.Seq.{take-suc, take-all, getD-set-same}
@@ -27,7 +27,7 @@ use Rattle.messagepack.specs.Walk.{containerNumber}
 use Rattle.messagepack.specs.Laws.Unique.{documentOf-is}
 use Rattle.fields.specs.Types.{FieldType, Rows, arrayOf, exactly, mapWith, aFloat, bytesIn, look, Each, Has, HasType, Fits}
 use Rattle.fields.specs.Table.{transformRows, assemblyRows, named}
-use Rattle.fields.specs.Tests.{typed}
+use Rattle.fields.specs.Tests.{isThere, typed}
 use Rattle.fields.specs.Fields.{typeIn, fieldTypeOf}
 use Rattle.fields.specs.Noted.{PlaceSays, gone, there as stands}
 use Rattle.fields.specs.Laws.Types.{clash, typed-exactly}
@@ -136,6 +136,17 @@ unfolding nth count
 nth-past n none l = refl
 nth-past zero (item d ds) l = absurd (omega arith)
 nth-past (suc n) (item d ds) l = nth-past n ds (omega arith)
+
+-- there is a value exactly for the numbers below the count
+pub nth-there : (n : ℕ) (ds : Documents) → isThere (nth n ds) ≡ ltb n (count ds)
+unfolding nth count
+nth-there n none = sym (le-ltb n 0 (omega arith))
+nth-there zero (item d ds) = sym (lt-ltb 0 (suc (count ds)) (omega arith))
+nth-there (suc n) (item d ds) = nth-there n ds ∙ go (ltb n (count ds)) refl
+  where
+    go : (b : Bool) → ltb n (count ds) ≡ b → b ≡ ltb (suc n) (suc (count ds))
+    go true e = sym (lt-ltb (suc n) (suc (count ds)) (omega (arith, ltb-true n (count ds) e)))
+    go false e = sym (le-ltb (suc n) (suc (count ds)) (omega (arith, ltb-false n (count ds) e)))
 
 -- the floats of ds are read one after another: those before i stand in a list of sixteen
 pub record Reading (s : List ℕ) (ds : Documents) (i p e : ℕ) (floats : List Float) : Type 0 where
@@ -270,8 +281,8 @@ module _ (a t : ℕ) (x : Document) (h : typed assembliesType x ≡ true) where
     pub no-transform : nth t (itemsOf z) ≡ nothing → refusedBy noSuchEntry ≡ answer (assembliesNumber a t (some x)) (matrixIn (transformIn a t (some x)))
     no-transform n = rw (h, p, q, n)
 
-    pub matrix-there : {w m : Document} → nth t (itemsOf z) ≡ some w → look (bytesIn "matrix") (entriesOf w) ≡ some m → record { refusal = accepted; floats = floatsOf (itemsOf m) } ≡ answer (assembliesNumber a t (some x)) (matrixIn (transformIn a t (some x)))
-    matrix-there u v = rw (h, p, q, u, v)
+    pub matrix-there : {w m : Document} {floats : List Float} → nth t (itemsOf z) ≡ some w → look (bytesIn "matrix") (entriesOf w) ≡ some m → floats ≡ floatsOf (itemsOf m) → record { refusal = accepted; floats = floats } ≡ answer (assembliesNumber a t (some x)) (matrixIn (transformIn a t (some x)))
+    matrix-there u v f = rw (h, p, q, u, v, f)
 
 pub no-assemblies : (a t : ℕ) {o : Option Document} → o ≡ nothing → refusedBy noSuchField ≡ answer (assembliesNumber a t o) (matrixIn (transformIn a t o))
 no-assemblies a t q = rw q
