@@ -100,7 +100,13 @@ fn no_floats() -> [f32; 16]
 }
 
 // The transform of an assembly in bioAssemblyList, which is at a place and has its type.
-fn transform_in(leads: &[u8; 256], file: &[u8], at: usize, assembly: u64, transform: u64) -> Transform
+fn transform_in(
+    leads: &[u8; 256],
+    file: &[u8],
+    at: usize,
+    assembly: u64,
+    transform: u64,
+) -> Transform
     ensures { λ r. ⌜ (now (leads .entry) ≡ leadTable → (x : Document) (e : ℕ) → At (now (file .entry)) at x e → typed assembliesType x ≡ true → r ≡ answer (assembliesNumber assembly transform (some x)) (matrixIn (transformIn assembly transform (some x)))) ⌝ }
 {
     let Found::At(a) = item(leads, file, at, assembly) else {

@@ -23,9 +23,11 @@ loop-holds : tie.Need-loop-holds Inv-loop μ-loop
 loop-holds c = (ap length (c .no-floats .ensures), λ t ds e a k. reading-start a k)
 
 loop-again : tie.Need-loop-again Inv-loop μ-loop
-loop-again c =
-    (length-set (c .before .before .before .before .loop .floats) (c .before .before .before .before .loop .i) (c .before .of-bits .result) ∙ c .before .before .before .before .loop .inv .0, λ t ds e a k.
-    reading-more (c .before .of-bits .result) (c .before .before .before .before .loop .inv .0) (c .before .before .before .before .loop .inv .1 t ds e a k) (c .before .before .before .loop-test .taken) (λ x f d. (c .before .of-bits .ensures ∙ ap (ofBits binary32) (c .before .before .bits-at .ensures t x f d), c .skip .ensures t f (at-standing d))))
+loop-again c = (
+  length-set (c .before .before .before .before .loop .floats) (c .before .before .before .before .loop .i) (c .before .of-bits .result) ∙ c .before .before .before .before .loop .inv .0,
+  λ t ds e a k.
+      reading-more (c .before .of-bits .result) (c .before .before .before .before .loop .inv .0) (c .before .before .before .before .loop .inv .1 t ds e a k) (c .before .before .before .loop-test .taken) (λ x f d. (c .before .of-bits .ensures ∙ ap (ofBits binary32) (c .before .before .bits-at .ensures t x f d), c .skip .ensures t f (at-standing d))),
+)
 
 returns : tie.Need-returns Inv-loop μ-loop
 returns c = λ t ds e a k. reading-end (c .before .loop .inv .0) (c .before .loop .inv .1 t ds e a k) (omega (arith, c .loop-test .left))
