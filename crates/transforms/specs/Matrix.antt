@@ -1,6 +1,6 @@
 -- A transform's matrix of a file, and the number of its refusal (paper 01, "Views and the receipt"), from the file's document. No place and no
 -- lemma stands here: the laws are in Laws/Matrix.antt. Assumes nothing.
-use mathlib.Core.Bool.{Bool, cond}
+use mathlib.Core.Bool.{cond}
 use mathlib.Core.List.{List, [], _∷_}
 use mathlib.Core.Option.{Option, some, none as nothing}
 use Prim.Native.Nat.{ℕ, zero, suc}

@@ -4,7 +4,7 @@ ghost use mathlib.Core.Path.{_≡_};
 ghost use mathlib.Core.Bool.{true};
 ghost use mathlib.Core.Option.{some};
 ghost use Prim.Native.Nat.{ℕ, _+_, _≤_, _<_};
-ghost use lib.ListN.{length, take, drop};
+ghost use lib.ListN.{take, drop};
 ghost use Rattle.heads.specs.Table.{leadTable};
 ghost use Rattle.messagepack.specs.Document.{Document, Documents, count};
 ghost use Rattle.values.specs.Parts.{bitsOf, itemsOf};
@@ -43,7 +43,7 @@ pub fn matrix_refusal(file: &[u8], assembly: u64, transform: u64) -> u8
     find(file, assembly, transform).refusal
 }
 
-// Both in one pass over the file.
+// The refusal and the floats of a transform's matrix, from one reading of the file.
 pub fn find(file: &[u8], assembly: u64, transform: u64) -> Transform
     ensures number { λ r. ⌜ r .refusal ≡ matrixNumber (now (file .entry)) assembly transform ⌝ }
     ensures floats { λ r. ⌜ r .floats ≡ matrixFloats (now (file .entry)) assembly transform ⌝ }
@@ -93,6 +93,7 @@ fn refused(number: u8) -> Transform
     }
 }
 
+// Sixteen zeros.
 fn no_floats() -> [f32; 16]
     ensures { λ r. ⌜ r ≡ zeros ⌝ }
 {

@@ -1,5 +1,5 @@
 -- A float is its head; another head holds no bits of a float.
-use mathlib.Core.Path.{_≡_, refl, sym, ap, ap₂, subst, _∙_}
+use mathlib.Core.Path.{_≡_, refl, sym, _∙_}
 use Rattle.transforms.specs.Laws.Matrix.{read-bits, no-bits}
 use Rattle.values.specs.Laws.Places.{isFloat, at-head}
 use mathlib.Core.Bool.{false}

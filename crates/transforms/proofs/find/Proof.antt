@@ -1,14 +1,14 @@
 -- A file that is no container has its number; in one bioAssemblyList decides.
-use mathlib.Core.Path.{_≡_, sym, ap, subst, _∙_}
+use mathlib.Core.Path.{_≡_, sym, ap, _∙_}
 use mathlib.Core.Bool.{true, false}
 use borrow.Author.Tests.{not-true, not-false}
-use Rattle.messagepack.specs.Document.{Document, map}
+use Rattle.messagepack.specs.Document.{map}
 use Rattle.values.specs.Laws.Places.{outer-at}
 use Rattle.fields.specs.Types.{FieldType}
 use Rattle.fields.specs.Tests.{typed}
 use Rattle.transforms.specs.Matrix.{assembliesType}
 use Rattle.transforms.specs.Laws.Matrix.{place-none, place-some, no-assemblies, mistyped, answers-as, assemblies-type, no-container, container-answers}
-use Rattle.transforms.specs.Steps.{answer, refusedBy}
+use Rattle.transforms.specs.Steps.{refusedBy}
 use borrow.Author.Needs.{needs}
 use Rattle.transforms.proofs.find.Statement.{statement}
 use Rattle.transforms.proofs.find.Tie as tie

@@ -1,5 +1,4 @@
 -- The values of the array are those that are read.
-use mathlib.Core.Path.{sym, _∙_}
 use Rattle.values.specs.Parts.{itemsOf}
 use borrow.Author.Needs.{needs}
 use Rattle.transforms.proofs.floats_at.Statement.{statement}

@@ -1,13 +1,13 @@
 -- The floats before this one stand in their places, and those from here on are left.
-use mathlib.Core.Path.{_≡_, refl, sym, ap, ap₂, subst, _∙_}
+use mathlib.Core.Path.{_≡_, ap, _∙_}
 use native.Mathlib.Omega.{arith}
-use Prim.Native.Nat.{ℕ, _-_, _<_}
+use Prim.Native.Nat.{ℕ, _-_}
 use Rattle.heads.specs.Table.{leadTable}
-use Rattle.messagepack.specs.Document.{Document, Documents, count}
-use Rattle.values.specs.Places.{At, AtAll}
+use Rattle.messagepack.specs.Document.{Documents, count}
+use Rattle.values.specs.Places.{AtAll}
 use Rattle.values.specs.Laws.Places.{at-standing}
 use lib.ListN.{length, length-set}
-use lib.Ieee.{Float, binary32, ofBits}
+use lib.Ieee.{binary32, ofBits}
 use Rattle.transforms.specs.Laws.Matrix.{Reading, reading-start, reading-more, reading-end}
 use borrow.Author.Needs.{needs}
 use Rattle.transforms.proofs.floats_from.Statement.{statement}

@@ -1,6 +1,6 @@
 -- A number below the count is that of a value.
 use mathlib.Core.Path.{sym, subst}
-use Prim.Native.Nat.{ℕ, _<_}
+use Prim.Native.Nat.{_<_}
 use native.Mathlib.Omega.{arith}
 use Rattle.messagepack.specs.Document.{count}
 use Rattle.values.specs.Parts.{itemsOf}

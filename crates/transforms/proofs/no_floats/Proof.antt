@@ -1,6 +1,5 @@
 -- A float of no bits is zero.
 use mathlib.Core.Path.{refl}
-use borrow.Author.Needs.{needs}
 use Rattle.transforms.proofs.no_floats.Statement.{statement}
 use Rattle.transforms.proofs.no_floats.Tie as tie
 

@@ -1,10 +1,10 @@
 -- Of the values from here on the one that is sought has the number that is left.
-use mathlib.Core.Path.{_≡_, refl, sym, ap, ap₂, subst, _∙_}
+use mathlib.Core.Path.{_≡_}
 use native.Mathlib.Omega.{arith}
-use Prim.Native.Nat.{ℕ, _-_, _<_}
+use Prim.Native.Nat.{ℕ, _<_}
 use Rattle.heads.specs.Table.{leadTable}
-use Rattle.messagepack.specs.Document.{Document, Documents, count}
-use Rattle.values.specs.Places.{At, AtAll}
+use Rattle.messagepack.specs.Document.{Documents, count}
+use Rattle.values.specs.Places.{AtAll}
 use Rattle.values.specs.Laws.Places.{at-standing}
 use Rattle.transforms.specs.Laws.Matrix.{Going, going-start, going-more, going-end}
 use borrow.Author.Needs.{needs}

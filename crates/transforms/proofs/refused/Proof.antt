@@ -1,8 +1,7 @@
 -- The floats are zeros.
-use mathlib.Core.Path.{_≡_, refl, sym, ap, ap₂, subst, _∙_}
+use mathlib.Core.Path.{ap}
 use lib.Ieee.{Float}
 use mathlib.Core.List.{List}
-use Rattle.transforms.specs.declared.Transform.{Transform}
 use borrow.Author.Needs.{needs}
 use Rattle.transforms.proofs.refused.Statement.{statement}
 use Rattle.transforms.proofs.refused.Tie as tie

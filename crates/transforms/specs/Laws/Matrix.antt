@@ -1,24 +1,24 @@
 -- A transform's matrix: values by their numbers, floats one after another, what a typed bioAssemblyList holds, and the answer case by case.
 -- Assumes nothing.
 use mathlib.Core.Path.{_≡_, refl, sym, ap, ap₂, subst, _∙_}
-use mathlib.Core.Bool.{Bool, true, false, cond}
+use mathlib.Core.Bool.{Bool, true, false}
 use mathlib.Core.List.{List, [], _∷_, _++_, append-assoc, append-nil}
 use mathlib.Core.Option.{Option, some, none as nothing}
-use Prim.Native.Nat.{ℕ, zero, suc, _+_, _-_, _%_, _^_, _≤_, _<_}
+use Prim.Native.Nat.{ℕ, zero, suc, _+_, _-_, _%_, _≤_, _<_}
 use native.Mathlib.Omega.{arith}
 use native.Mathlib.Nat.{mod-eq-of-lt, suc-add}
 use borrow.Author.Tests.{eq-eqb, ne-eqb, lt-ltb, le-ltb, ltb-true, ltb-false}
 use lib.Dec.{ltb}
-use lib.Ieee.{Float, nan, binary32, ofBits}
+use lib.Ieee.{Float, nan}
 use lib.ListN.{length, getD, set, take, drop, length-set}
 use lib.Seq.{take-suc, take-all, getD-set-same}
 use Rattle.refusal.specs.Table.{accepted, fieldType, noSuchField, noSuchEntry}
 use Rattle.heads.specs.Lead.{moreOf, heldBy}
-use Rattle.heads.specs.Head.{HeadOf, Holds, kindAt, headAt}
+use Rattle.heads.specs.Head.{Holds, kindAt, headAt}
 use Rattle.heads.specs.declared.Kind.{Kind}
 use Rattle.heads.specs.declared.Head.{Head}
 use Rattle.heads.specs.Laws.Table.{moreOf-bound}
-use Rattle.messagepack.specs.Document.{Document, Documents, Entries, integer, float, string, binary, array, map, none, item, count, Writes}
+use Rattle.messagepack.specs.Document.{Document, Documents, integer, float, string, binary, array, map, none, item, count, Writes}
 use Rattle.values.specs.Parts.{bitsOf, itemsOf, entriesOf}
 use Rattle.values.specs.Places.{At, AtAll}
 use Rattle.values.specs.Laws.Places.{heads, isFloat, read-heads, open-float, open-item}
