@@ -1,7 +1,8 @@
 /*
  * libmmtf.a: an MMTF reader whose calls are proved to meet their contracts.
  *
- * Today: the check of a file's container, views by name, and columns: decoded, encoded, and one cell alone. For x86-64 Linux.
+ * Today: the check of a file's container, views by name, matrices of transforms, and columns:
+ * decoded, encoded, and one cell alone. For x86-64 Linux.
  *
  * Every call takes any bytes and any numbers, and ends with an answer. It keeps nothing between calls, allocates nothing and
  * writes to nothing but its buffer and its out parameters, so threads may call at the same time. The answer is a refusal
@@ -87,6 +88,17 @@ uint8_t mmtf_container(const uint8_t *file, size_t n);
  * container first: it relies on no earlier call.
  */
 uint8_t mmtf_view(const uint8_t *file, size_t n, const uint8_t *name, size_t m, uint64_t *start, uint64_t *length);
+
+/*
+ * Hands over the matrix of a transform of the file of n bytes: the transform with that number, from 0 on, in the assembly with
+ * that number, from 0 on, in bioAssemblyList.
+ *
+ * Answers MMTF_ACCEPTED, with the matrix's sixteen floats in the order of the file, rows[0] the first four. A float that is a
+ * NaN comes as a NaN, and which one is left open. Else the answer is the container's number, 1 to 11; MMTF_NO_SUCH_FIELD where
+ * there is no bioAssemblyList; MMTF_FIELD_TYPE where it has not its type, in whichever assembly; or MMTF_NO_SUCH_ENTRY where
+ * there is no such assembly, or no such transform in it; and the rows are as they were. No other field is looked at.
+ */
+uint8_t mmtf_matrix(const uint8_t *file, size_t n, uint64_t assembly, uint64_t transform, float rows[4][4]);
 
 /*
  * Columns. A column is the body of a binary field, as mmtf_view shows it: codec, length and parameter, 32 bits each with a

@@ -1,7 +1,9 @@
 -- What a C call answers and leaves in its out parameters. No lemma stands here. Assumes nothing.
 use mathlib.Core.Path.{_≡_}
+use mathlib.Core.Bool.{cond}
 use mathlib.Core.List.{List}
 use Prim.Native.Nat.{ℕ, _<_}
+use lib.Dec.{eqb}
 use lib.ListN.{length}
 use lib.IntN.{ℤ, pos}
 use lib.Ieee.{Float}
@@ -22,6 +24,10 @@ use Rattle.encoding.specs.declared.Encoded.the-variants as encoded
 pub data ViewCall (file name : List ℕ) (start size : ℕ) : ℕ → ℕ → ℕ → Type 0 where
   shows : (v : Viewable file name) → ViewCall file name start size accepted (startOf v) (length (shown (v .x) (v .w)))
   refuses : {n : ℕ} → 0 < n → n ≡ viewNumber file name → (Viewable file name → ⊥) → ViewCall file name start size n start size
+
+-- a matrix: the rows afterwards, as they were on refusal
+abbrev pub matrixRows : ℕ → List (List Float) → List (List Float) → List (List Float)
+matrixRows number rows old = cond (eqb number accepted) rows old
 
 -- a decoder: its number, and its count afterwards
 abbrev pub decodedNumber : Decoded → ℕ

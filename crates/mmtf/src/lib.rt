@@ -9,13 +9,14 @@ ghost use mir.Syntax.{w32};
 ghost use mir.Val.{toZ, ofZ};
 ghost use Rattle.messagepack.specs.Rules.{Container};
 ghost use Rattle.messagepack.specs.Walk.{containerNumber};
+ghost use Rattle.transforms.specs.Matrix.{matrixNumber, matrixOf};
 ghost use Rattle.columns.specs.Decode.{decode};
 ghost use Rattle.columns.specs.Encode.{encode};
 ghost use Rattle.decoding.specs.Calls as decoding;
 ghost use Rattle.floats.specs.Calls as floats;
 ghost use Rattle.cells.specs.Calls.{cellOf};
 ghost use Rattle.encoding.specs.Calls as encoding;
-ghost use Rattle.mmtf.specs.Calls.{ViewCall, decodedNumber, decodedCount, fixedNumber, fixedCount, fixedDivisor, floatsNumber, floatsCount, cellNumber, cellKind, cellInteger, cellReal, encodedNumber, encodedCount};
+ghost use Rattle.mmtf.specs.Calls.{ViewCall, matrixRows, decodedNumber, decodedCount, fixedNumber, fixedCount, fixedDivisor, floatsNumber, floatsCount, cellNumber, cellKind, cellInteger, cellReal, encodedNumber, encodedCount};
 use cells::Cell;
 use columns::Kind;
 use columns::Wanted;
@@ -47,6 +48,26 @@ pub extern "C" fn mmtf_view(file: &[u8], name: &[u8], start: &mut u64, length: &
             refusal::ACCEPTED
         }
     }
+}
+
+// The matrix of a transform, by its assembly's number and its own: four rows of four floats; or the refusal, 1 to 11, 26, 13 or 28.
+#[no_mangle]
+pub extern "C" fn mmtf_matrix(
+    file: &[u8],
+    assembly: u64,
+    transform: u64,
+    rows: &mut [[f32; 4]; 4],
+) -> u8
+    ensures answer { λ r. ⌜ r ≡ matrixNumber (now (file .entry)) assembly transform ⌝ }
+    ensures rows { λ r. ⌜ now (rows .exit) ≡ matrixRows (matrixNumber (now (file .entry)) assembly transform) (matrixOf (now (file .entry)) assembly transform) (now (rows .entry)) ⌝ }
+{
+    let found = transforms::find(file, assembly, transform);
+    if found.refusal != refusal::ACCEPTED {
+        return found.refusal;
+    }
+    let floats = found.floats;
+    *rows = transforms::rows(floats);
+    refusal::ACCEPTED
 }
 
 // The integers of an int32 column (codecs 4, 7, 8, 14, 15).
