@@ -19,7 +19,8 @@ use Rattle.columns.specs.declared.Wanted.{Wanted}
 use Rattle.columns.specs.declared.Wanted.the-variants.{Only}
 use Rattle.survey.specs.Cells.{allBetween, allBelow, total}
 use Rattle.lists.specs.Integers.{integersOf, noneNegative, sum}
-use Rattle.groups.specs.Group.{under, itemsIn, integersIn, listIn, bondsAgree, pairs, ordersRight, atomsOf, bondsOf, groupNumber, orElse, groupsNumber, each}
+use Rattle.groups.specs.Group.{itemsIn, integersIn, listIn, bondsAgree, pairs, ordersRight, atomsOf, bondsOf, groupNumber, orElse, groupsNumber, each}
+use Rattle.indices.specs.Indices.{chainsInside, transformsInside}
 use Rattle.counts.specs.Columns.{field, columns, cellsIn, allLong}
 
 -- the most group types
@@ -115,12 +116,6 @@ valuesRight es =
     && allBetween (negsuc 0) (pos 2147483647) (listIn (cells "sequenceIdList" (Only Int32) es))
 
 -- 11: the chains that an entity or a transform lists are inside the chains
-abbrev pub chainsInside : ℕ → Document → Bool
-chainsInside n x = allBelow n (listIn (integersIn (under "chainIndexList" x)))
-
-abbrev pub transformsInside : ℕ → Document → Bool
-transformsInside n x = all (chainsInside n) (itemsIn (under "transformList" x))
-
 abbrev pub indicesInside : Entries → Bool
 indicesInside es =
     all (chainsInside (natural "numChains" es)) (itemsIn (field "entityList" es))

@@ -1,0 +1,17 @@
+-- The list under its key is judged.
+use Rattle.groups.specs.Group.{under}
+use borrow.Author.Needs.{needs}
+use Rattle.indices.proofs.chains_inside.Statement.{statement}
+use Rattle.indices.proofs.chains_inside.Tie as tie
+
+returns : tie.Need-returns
+returns c = λ t l x e a. c .inside .ensures t (under "chainIndexList" x) (c .before .find .ensures t x e a) l
+
+pub chains-inside-spec : {M : Type 1} → statement M
+chains-inside-spec =
+    tie.close
+    (tie.spec
+    (λ c. search needs)
+    (λ c κs. search needs)
+    (λ c κs. search needs)
+    returns)

@@ -1,0 +1,17 @@
+-- The transforms under their key are judged.
+use Rattle.groups.specs.Group.{under}
+use borrow.Author.Needs.{needs}
+use Rattle.indices.proofs.transforms_inside.Statement.{statement}
+use Rattle.indices.proofs.transforms_inside.Tie as tie
+
+returns : tie.Need-returns
+returns c = λ t l x e a. c .all-inside .ensures t l (under "transformList" x) (c .before .find .ensures t x e a)
+
+pub transforms-inside-spec : {M : Type 1} → statement M
+transforms-inside-spec =
+    tie.close
+    (tie.spec
+    (λ c. search needs)
+    (λ c κs. search needs)
+    (λ c κs. search needs)
+    returns)
