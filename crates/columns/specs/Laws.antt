@@ -5,4 +5,3 @@ pub mod Encode
 pub mod Decode
 pub mod Form
 pub mod RoundTrip
-pub mod Worked

@@ -7,4 +7,3 @@ pub mod Refused
 pub mod Container
 pub mod Tables
 pub mod Quick
-pub mod Worked

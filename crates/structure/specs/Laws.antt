@@ -2,3 +2,4 @@ pub mod Columns
 pub mod Counts
 pub mod Accepted
 pub mod Steps
+pub mod Worked

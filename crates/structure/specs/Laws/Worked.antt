@@ -1,11 +1,22 @@
--- The worked lines of paper 01 that are to be proved and speak of columns, as one table shown by one claim. Assumes nothing.
+-- The worked lines of paper 01 that are marked P, in its order: the paper's table, shown by one claim.
+-- Assumes nothing.
 use mathlib.Core.Path.{_≡_, refl}
 use mathlib.Core.List.{List, [], _∷_, _++_}
 use Prim.Native.Nat.{ℕ}
 use lib.ListN.{length}
 use lib.IntN.{ℤ, pos, negℤ}
-use Rattle.refusal.specs.Table.{numberNotAllowed}
+use Rattle.refusal.specs.Table.{cutShort, unsignedTooLarge, fieldMissing, numberNotAllowed}
 use Rattle.numbers.specs.BigEndian.{numberOf, bytesOf, unsignedAt}
+use Rattle.heads.specs.Lead.{kindOf, moreOf, heldBy}
+use Rattle.heads.specs.Head.{kindAt, headAt}
+use Rattle.messagepack.specs.Limits.{nestingLimit}
+use Rattle.messagepack.specs.Walk.{entriesFrom, entriesAt, valueAt, containerNumber}
+use Rattle.messagepack.specs.Read.{documentOf, readValue, readEntries}
+use Rattle.messagepack.specs.declared.Walk.{Walk}
+use Rattle.fields.specs.Types.{look}
+use Rattle.fields.specs.Tests.{have}
+use Rattle.fields.specs.Table.{named}
+use Rattle.fields.specs.Fields.{fieldsNumber}
 use Rattle.codecs.specs.declared.Size.{Size}
 use Rattle.codecs.specs.declared.Size.the-variants.{One, Two, Four}
 use Rattle.codecs.specs.Numbers.{firstNumbers, numbersIn, bytesFor}
@@ -13,22 +24,25 @@ use Rattle.codecs.specs.RunLength.{expand}
 use Rattle.codecs.specs.Delta.{sumsFrom}
 use Rattle.codecs.specs.Packing.{unpackFrom, packOne, packAll}
 use Rattle.codecs.specs.Payload.{valuesIn, numbersFor, allIn}
 use Rattle.columns.specs.declared.Kind.the-variants as kind
 use Rattle.columns.specs.declared.Wanted.the-variants.{Any}
 use Rattle.columns.specs.Table.{codecOf}
 use Rattle.columns.specs.Header.{headerOf, headerBytes}
 use Rattle.columns.specs.Decode.{Decoding, column, decode}
 use Rattle.columns.specs.Encode.{bytes, payloadOf, encode}
+use Rattle.structure.specs.Accepted.{verdictOf}
 
 -- A codec, the size of its payload's numbers, and: numbers and the cells they give; cells and the numbers written for them; numbers
--- and what refuses them. Or deltas and their sums.
+-- and what refuses them. Or deltas and their sums. Or bytes, as a value or as a whole file, and the number that refuses them.
 pub data Line : Type 0 where
   reads : ℕ → Size → List ℤ → List ℤ → Line
   sums : List ℤ → List ℤ → Line
   writes : ℕ → Size → List ℤ → List ℤ → Line
   refuses : ℕ → Size → List ℤ → ℕ → Line
+  value : List ℕ → ℕ → Line
+  file : List ℕ → ℕ → Line
 
--- the lines, in the paper's order
+-- the table, in the paper's order
 abbrev pub lines : List Line
 lines =
     reads 8 Four (pos 1 ∷ pos 10 ∷ pos 2 ∷ pos 1 ∷ pos 1 ∷ pos 4 ∷ [])
@@ -42,6 +56,9 @@ lines =
     ∷ writes 14 Two (negℤ (pos 32768) ∷ []) (negℤ (pos 32768) ∷ pos 0 ∷ [])
     ∷ writes 15 One (pos 127 ∷ []) (pos 127 ∷ pos 0 ∷ [])
     ∷ refuses 14 Two (pos 32767 ∷ []) numberNotAllowed
+    ∷ value (0xce ∷ 0x80 ∷ 0x00 ∷ 0x00 ∷ 0x00 ∷ []) unsignedTooLarge
+    ∷ file [] cutShort
+    ∷ file (0x80 ∷ []) fieldMissing
     ∷ []
 
 -- a column of n results by the codec c, whose payload is numbers of a size
@@ -54,6 +71,8 @@ Says (reads c z numbers cells) = decode Any (columnOf c (length cells) z numbers
 Says (sums deltas cells) = sumsFrom (pos 0) deltas ≡ cells
 Says (writes c z cells numbers) = encode Any c 0 cells ≡ bytes (columnOf c (length cells) z numbers)
 Says (refuses c z numbers r) = decode Any (columnOf c (length numbers) z numbers) ≡ Decoding.refused r
+Says (value v n) = valueAt v nestingLimit 0 ≡ Walk.Refused n
+Says (file f n) = verdictOf f ≡ n
 
 abbrev pub SayAll : List Line → Type 0
 SayAll [] = Unit {0}
@@ -61,5 +80,5 @@ SayAll (l ∷ ls) = Says l × SayAll ls
 
 -- every line holds
 pub worked : SayAll lines
-unfolding decode headerOf codecOf unsignedAt numberOf bytesOf numbersIn firstNumbers valuesIn expand sumsFrom unpackFrom allIn encode payloadOf numbersFor bytesFor packAll packOne
-worked = (refl, (refl, (refl, (refl, (refl, (refl, (refl, (refl, (refl, tt)))))))))
+unfolding decode headerOf codecOf unsignedAt numberOf bytesOf numbersIn firstNumbers valuesIn expand sumsFrom unpackFrom allIn encode payloadOf numbersFor bytesFor packAll packOne verdictOf containerNumber valueAt entriesAt entriesFrom kindAt headAt kindOf moreOf heldBy documentOf readValue readEntries fieldsNumber have look named
+worked = (refl, (refl, (refl, (refl, (refl, (refl, (refl, (refl, (refl, (refl, (refl, (refl, tt))))))))))))
