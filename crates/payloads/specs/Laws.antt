@@ -5,3 +5,4 @@ pub mod Plain
 pub mod Writing
 pub mod Judged
 pub mod Packed
+pub mod Totals
