@@ -6,3 +6,4 @@ pub mod Writing
 pub mod Judged
 pub mod Packed
 pub mod Totals
+pub mod Runs

@@ -36,7 +36,7 @@ unfolding resultsFrom sumsFrom
 results-sums a [] = refl
 results-sums a (v ∷ l) = ap (λ (t : List ℤ). plusDelta a v ∷ t) (results-sums (plusDelta a v) l)
 
-results-plain : (a : ℤ) (l : List ℤ) → resultsFrom false a l ≡ l
+pub results-plain : (a : ℤ) (l : List ℤ) → resultsFrom false a l ≡ l
 unfolding resultsFrom
 results-plain a [] = refl
 results-plain a (v ∷ l) = ap (λ (t : List ℤ). v ∷ t) (results-plain v l)

@@ -2,11 +2,12 @@
 -- few limits cannot lead a sum out of 32 bits. Assumes nothing.
 use mathlib.Core.Path.{_≡_, refl, sym, ap, subst, _∙_}
 use mathlib.Core.Bool.{Bool, true, false, cond, _&&_}
-use mathlib.Core.List.{List}
+use mathlib.Core.Option.{some}
+use mathlib.Core.List.{List, [], _∷_, _++_, map}
 use Prim.Native.Nat.{ℕ, suc, _+_, _-_, _*_, _%_, _<_, _≤_}
 use native.Mathlib.Nat.{mod-lt}
 use native.Mathlib.Omega.{arith}
-use lib.ListN.{length, drop, getD, List·getD-eq-default}
+use lib.ListN.{length, drop, set, getD, replicate, List·getD-eq-default}
 use lib.IntN.{ℤ, pos, negsuc, _+ℤ_}
 use lib.Signed.{mag}
 use lib.Dec.{ltb}
@@ -19,20 +20,22 @@ use Rattle.numbers.specs.BigEndian.{Bytes, signedAt}
 use Rattle.codecs.specs.declared.Size.the-variants.{Two}
 use Rattle.codecs.specs.declared.Form.the-variants.{Packed}
 use Rattle.codecs.specs.declared.Turn.the-variants.{More, Done}
-use Rattle.codecs.specs.Delta.{plusDelta}
+use Rattle.codecs.specs.Delta.{plusDelta, sumsIf}
 use Rattle.codecs.specs.Packing.{isLimit}
 use Rattle.codecs.specs.Steps.{turnOf}
 use Rattle.codecs.specs.Fits.{Every}
 use Rattle.codecs.specs.Laws.Numbers.{numbers-step}
 use Rattle.codecs.specs.Laws.NumbersBack.{drop-bytes, numbersIn-fit}
-use Rattle.codecs.specs.Laws.Packing.{mag-add, turn-inside}
+use Rattle.codecs.specs.Laws.Packing.{mag-add, turn-inside, turn-outside}
 use Rattle.payloads.specs.declared.Outcome.the-variants.{Fine, Refused}
-use Rattle.payloads.specs.Held.{exact}
-use Rattle.payloads.specs.Results.{advance, resultsFrom}
+use Rattle.payloads.specs.Held.{exact, allExact}
+use Rattle.payloads.specs.Results.{advance, resultsFrom, HasRoom}
 use Rattle.payloads.specs.Scan.{scanOf}
 use Rattle.payloads.specs.Items.{readIn}
 use Rattle.payloads.specs.Laws.Scan.{length-results}
-use Rattle.payloads.specs.Laws.Packed.{Unpacked, unpacked-start, unpacked-more, unpacked-done, unpacked-unfinished, unpacked-other, unpacked-all}
+use Rattle.payloads.specs.Laws.Items.{from}
+use Rattle.payloads.specs.Laws.Writing.{written-exact}
+use Rattle.payloads.specs.Laws.Packed.{step, WrittenPacked, packed-written-start, packed-written-length, packed-written-more, packed-written-room, packed-written-done, packed-written-wrong, packed-written-end, Unpacked, unpacked-start, unpacked-more, unpacked-done, unpacked-unfinished, unpacked-other, unpacked-all}
 
 -- The total
 
@@ -70,6 +73,11 @@ total-start true a f =
     let e : (ofZ w32 a + 0) % 4294967296 ≡ ofZ w32 a = omega arith in
     sym (ap (toZ w32) e ∙ toZ-ofZ {w = w32} f)
 
+-- before the first number
+at-first : (d : Bool) → pos 0 ≡ advance d (pos 0) (pos 0)
+at-first true = refl
+at-first false = refl
+
 -- Numbers with few limits
 
 pub two-fits : (s : List ℕ) (at : ℕ) → Bytes s → at + 2 ≤ length s → SFits w16 (signedAt w16 s at)
@@ -82,11 +90,7 @@ Totalled d i s at limits begun total ok =
     (part : ℤ) × (count : ℕ) × (sum : ℤ) × (cell : ℤ) × Unpacked Two d i s at part begun count sum ok cell × (at ≡ 2 * (count + limits)) × (mag part ≤ 32768 * limits) × (total ≡ advance d sum part)
 
 pub totalled-start : (d : Bool) (i : ℕ) (s : List ℕ) → Totalled d i s 0 0 false (pos 0) true
-totalled-start d i s = (pos 0, 0, pos 0, pos 0, unpacked-start Two d i s, omega arith, omega arith, start d)
-  where
-    start : (d : Bool) → pos 0 ≡ advance d (pos 0) (pos 0)
-    start true = refl
-    start false = refl
+totalled-start d i s = (pos 0, 0, pos 0, pos 0, unpacked-start Two d i s, omega arith, omega arith, at-first d)
 
 module _ (d : Bool) (n i : ℕ) (s : List ℕ) (at limits : ℕ) (begun : Bool) (total : ℤ) (ok : Bool) (w : Totalled d i s at limits begun total ok) where
   module _ (few : limits ≤ 65534) (h : at + 2 ≤ length s) (x : ℤ) (f : SFits w16 x) (q : signedAt w16 s at ≡ x) where
@@ -139,3 +143,61 @@ module _ (d : Bool) (n i : ℕ) (s : List ℕ) (at limits : ℕ) (begun : Bool) 
           let c = u .2 in
           let z : w .3 ≡ pos 0 = u .5 ∙ List·getD-eq-default (resultsFrom d (pos 0) (u .0)) (pos 0) {n = i} (omega (arith, length-results d (pos 0) (u .0))) in
           ap (Fine ok) (sym z) ∙ unpacked-all Two d n i s at (w .0) begun (w .1) (w .2) ok (w .3) (w .4) h e q
+
+-- Writing
+
+module _ {B : Type 0} (g : ℤ → B) (d : Bool) (s : List ℕ) (old : List B) (room : HasRoom (Packed Two) s (length old)) where
+  -- the results before the place stand at the buffer's start, and `total` is the total
+  abbrev pub WrittenTotal : ℕ → ℤ → ℕ → List B → Type 0
+  WrittenTotal at total o new = (part : ℤ) × (x : ℤ) × SFits w32 part × WrittenPacked g Two d s old room at part o new x × (total ≡ advance d x part)
+
+  pub total-written-start : WrittenTotal 0 (pos 0) 0 old
+  total-written-start = (pos 0, pos 0, record { sfits = omega arith }, packed-written-start g Two d s old room, at-first d)
+
+  module _ (at : ℕ) (total : ℤ) (o : ℕ) (new : List B) (w : WrittenTotal at total o new) where
+    pub total-written-length : length new ≡ length old
+    total-written-length = packed-written-length g Two d s old room at (w .0) o new (w .1) (w .3)
+
+    pub total-written-end : length s - at < 2 → (l : List ℤ) → readIn (Packed Two) s ≡ some l → new ≡ map g (sumsIf d l) ++ drop (length l) old
+    total-written-end h = packed-written-end g Two d s old room at (w .0) o new (w .1) (w .3) h
+
+    module _ (h : at + 2 ≤ length s) (f : SFits w16 (signedAt w16 s at)) where
+      within-32 : mag (w .0 +ℤ signedAt w16 s at) < 2147483648
+      within-32 = by (ltb (mag (w .0 +ℤ signedAt w16 s at)) 2147483648) refl
+        where
+          by : (t : Bool) → ltb (mag (w .0 +ℤ signedAt w16 s at)) 2147483648 ≡ t → mag (w .0 +ℤ signedAt w16 s at) < 2147483648
+          by true e = ltb-true (mag (w .0 +ℤ signedAt w16 s at)) 2147483648 e
+          by false e = packed-written-wrong g Two d s old room at (w .0) o new (w .1) (w .3) h (turn-outside Two (w .0) (signedAt w16 s at) (ltb-false (mag (w .0 +ℤ signedAt w16 s at)) 2147483648 e))
+
+      module _ (y : ℤ) (e : y ≡ plusDelta total (signedAt w16 s at)) where
+        next : y ≡ advance d (w .1) (w .0 +ℤ signedAt w16 s at)
+        next = e ∙ ap (λ (t : ℤ). plusDelta t (signedAt w16 s at)) (w .4) ∙ total-more d (w .1) (w .0) (signedAt w16 s at) (w .2) (record { sfits = let k = f .sfits in omega arith }) within-32
+
+        -- a limit
+        pub total-written-more : isLimit 32767 32768 (signedAt w16 s at) ≡ true → WrittenTotal (at + 2) y o new
+        total-written-more l =
+            let t : turnOf Two (w .0) (signedAt w16 s at) ≡ More (w .0 +ℤ signedAt w16 s at) = turn-inside Two (w .0) (signedAt w16 s at) within-32 ∙ rw l in
+            (w .0 +ℤ signedAt w16 s at, w .1, record { sfits = within-32 }, packed-written-more g Two d s old room at (w .0) o new (w .1) (w .3) h (w .0 +ℤ signedAt w16 s at) t, next)
+
+        -- the end of a result
+        module _ (l : isLimit 32767 32768 (signedAt w16 s at) ≡ false) where
+          ends : turnOf Two (w .0) (signedAt w16 s at) ≡ Done (w .0 +ℤ signedAt w16 s at)
+          ends = turn-inside Two (w .0) (signedAt w16 s at) within-32 ∙ rw l
+
+          pub total-written-room : o + 1 ≤ length new
+          total-written-room = packed-written-room g Two d s old room at (w .0) o new (w .1) (w .3) h (w .0 +ℤ signedAt w16 s at) ends
+
+          pub total-written-exact : ((l : List ℤ) → readIn (Packed Two) s ≡ some l → allExact (resultsFrom d (pos 0) l) ≡ true) → exact y ≡ true
+          unfolding allExact resultsFrom
+          total-written-exact all =
+              let u : allExact (resultsFrom d (w .1) (replicate 1 (w .0 +ℤ signedAt w16 s at))) ≡ true =
+              written-exact g (Packed Two) d s old room (from Two s (w .0) (w .3 .0) at) o new (w .1) (w .3 .1) (w .0 +ℤ signedAt w16 s at) 1 (from Two s (pos 0) false (at + 2)) (step g Two d s old room at (w .0) o new (w .1) (w .3) h (Done (w .0 +ℤ signedAt w16 s at)) ends) all in
+              by (exact y) refl (ap (λ (z : ℤ). exact z && true) next ∙ u)
+            where
+              by : (t : Bool) → exact y ≡ t → (t && true) ≡ true → exact y ≡ true
+              by true a b = a
+              by false a b = let z : _≡_ {A = ℕ} 0 1 = cc in absurd (omega arith)
+
+          pub total-written-done : SFits w32 y → (b c : B) → b ≡ g y → WrittenTotal (at + 2) (cond d y (pos 0)) (o + 1) (set new o b)
+          total-written-done k b c q =
+              (pos 0, y, record { sfits = omega arith }, packed-written-done g Two d s old room at (w .0) o new (w .1) (w .3) h (w .0 +ℤ signedAt w16 s at) ends y b c next q, total-start d y k)
