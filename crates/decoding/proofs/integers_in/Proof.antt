@@ -21,7 +21,7 @@ returns : tie.Need-returns
 returns c =
     let a = c .before .before .before .before .before in
     let t = c .before .enum-told .given in
-    let g = fine-one (a .args .n) (a .args .m) (a .args .kind) (a .args .form) (a .args .delta) 0 (a .args .payload .now) (a .pre) (t .0 .0) (t .0 .1 .0) (sym (c .before .before .before .scan .ensures) ∙ t .1) in
+    let g = fine-one (a .args .n) (a .args .m) (a .args .kind) (a .args .form) (a .args .delta) (a .args .n) (a .args .payload .now) (a .pre) (t .0 .0) (t .0 .1 .0) (sym (c .before .before .before .scan .ensures) ∙ t .1) in
     let l = g .0 in
     let size = g .2 in
     answers-small asNumber (judgedValues (a .args .n) (a .args .m) (a .args .kind) (a .args .form) (a .args .delta) (valuesIn (a .args .form) (a .args .payload .now))) (a .args .buffer .now) (a .args .kind) (a .args .m) (a .args .delta) (g .0) (g .3) (omega arith)
@@ -30,28 +30,29 @@ put-integers-requires : tie.Need-put-integers-requires
 put-integers-requires c κs =
     let a = c .before .before .before .before .before .before in
     let t = c .before .before .enum-told .given in
-    let g = fine-one (a .args .n) (a .args .m) (a .args .kind) (a .args .form) (a .args .delta) 0 (a .args .payload .now) (a .pre) (t .0 .0) (t .0 .1 .0) (sym (c .before .before .before .before .scan .ensures) ∙ t .1) in
+    let g = fine-one (a .args .n) (a .args .m) (a .args .kind) (a .args .form) (a .args .delta) (a .args .n) (a .args .payload .now) (a .pre) (t .0 .0) (t .0 .1 .0) (sym (c .before .before .before .before .scan .ensures) ∙ t .1) in
     let l = g .0 in
     let size = g .2 in
-    held-room (a .args .form) (a .args .payload .now) (g .0) (a .args .n) (length (a .args .buffer .now)) (bytes-of (a .args .payload .now) (λ i. omega (arith, c .before .before .before .before .before .shared-slice-known .given i))) (g .1) size (omega arith)
+    let b = bytes-of (a .args .payload .now) (λ i. omega (arith, c .before .before .before .before .before .shared-slice-known .given i)) in
+    (held-room (a .args .form) (a .args .payload .now) (g .0) (a .args .n) (length (a .args .buffer .now)) b (g .1) size (omega arith), (g .0, sym (held-read (a .args .form) (a .args .payload .now) b) ∙ g .1, size), omega arith)
 
 returns-2 : tie.Need-returns-2
 returns-2 c =
     let a = c .before .before .before .before .before in
     let t = c .before .r .given in
-    answers-refused asNumber (judgedValues (a .args .n) (a .args .m) (a .args .kind) (a .args .form) (a .args .delta) (valuesIn (a .args .form) (a .args .payload .now))) (a .args .buffer .now) (t .0 .0) (refused-one (a .args .n) (a .args .m) (a .args .kind) (a .args .form) (a .args .delta) 0 (a .args .payload .now) (a .pre) (t .0 .0) (sym (c .before .before .before .scan .ensures) ∙ t .1))
+    answers-refused asNumber (judgedValues (a .args .n) (a .args .m) (a .args .kind) (a .args .form) (a .args .delta) (valuesIn (a .args .form) (a .args .payload .now))) (a .args .buffer .now) (t .0 .0) (refused-one (a .args .n) (a .args .m) (a .args .kind) (a .args .form) (a .args .delta) (a .args .n) (a .args .payload .now) (a .pre) (t .0 .0) (sym (c .before .before .before .scan .ensures) ∙ t .1))
 
 returns-3 : tie.Need-returns-3
 returns-3 c =
     let a = c .before .before .before .before .before .before .before .before .before in
     let t = c .before .before .before .before .before .enum-told .given in
-    let g = fine-one (a .args .n) (a .args .m) (a .args .kind) (a .args .form) (a .args .delta) 0 (a .args .payload .now) (a .pre) (t .0 .0) (t .0 .1 .0) (sym (c .before .before .before .before .before .before .before .scan .ensures) ∙ t .1) in
+    let g = fine-one (a .args .n) (a .args .m) (a .args .kind) (a .args .form) (a .args .delta) (a .args .n) (a .args .payload .now) (a .pre) (t .0 .0) (t .0 .1 .0) (sym (c .before .before .before .before .before .before .before .scan .ensures) ∙ t .1) in
     let l = g .0 in
     let size = g .2 in
     let b = bytes-of (a .args .payload .now) (λ i. omega (arith, c .before .before .before .before .before .before .before .before .shared-slice-known .given i)) in
     let w = c .before .before .put-integers .ensures (g .0) (sym (held-read (a .args .form) (a .args .payload .now) b) ∙ g .1) in
     let m = toZ-ofZ {w = w32} (record { sfits = c .to-i32 .ok }) ∙ c .to-i32 .ensures in
-    let r = answers-done asNumber (judgedValues (a .args .n) (a .args .m) (a .args .kind) (a .args .form) (a .args .delta) (valuesIn (a .args .form) (a .args .payload .now))) (a .args .buffer .now) (a .args .kind) (a .args .m) (a .args .delta) (g .0) (g .3) (omega arith) (c .before .before .put-integers .last .1 .1 .1 .0) w in
+    let r = answers-done asNumber (judgedValues (a .args .n) (a .args .m) (a .args .kind) (a .args .form) (a .args .delta) (valuesIn (a .args .form) (a .args .payload .now))) (a .args .buffer .now) (a .args .kind) (a .args .m) (a .args .delta) (g .0) (g .3) (omega arith) (c .before .before .put-integers .last .1 .1 .1 .1 .0) w in
     (ap₂ Column (sym size) m ∙ r .0, r .1)
 
 pub integers-in-spec : {M : Type 1} → statement M
