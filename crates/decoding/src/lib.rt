@@ -1,12 +1,11 @@
 // Decoders of columns of numbers, characters and strings into a lent buffer, for any bytes and any buffer: one pass to check, one to
 // write. On success the buffer begins with the column and everything beyond is unchanged; on refusal nothing has changed.
 ghost use mathlib.Core.Path.{_≡_};
-ghost use mathlib.Core.Bool.{true, false, _&&_};
+ghost use mathlib.Core.Bool.{true, false};
 ghost use mathlib.Core.List.{_++_};
 ghost use Prim.Native.Nat.{_+_, _%_, _<_, _≤_};
 ghost use lib.ListN.{length, drop};
 ghost use lib.IntN.{pos};
-ghost use lib.Dec.{leb};
 ghost use Rattle.codecs.specs.Numbers.{numbersIn};
 ghost use Rattle.codecs.specs.Payload.{paddedFrom};
 ghost use Rattle.columns.specs.Table.{suits};
@@ -276,7 +275,7 @@ fn write_run(buffer: &mut [i32], from: usize, count: usize, value: i32, left: us
     requires { ⌜ (count ≤ left) × (from + left ≤ length (now buffer)) ⌝ }
     ensures { λ r. ⌜ Covered value (now (buffer .entry)) from count left (now (buffer .exit)) ⌝ }
 {
-    if is_short(count, left) {
+    if payloads::is_short(count, left) {
         buffer[from] = value;
         buffer[from + 1] = value;
         buffer[from + 2] = value;
@@ -284,16 +283,6 @@ fn write_run(buffer: &mut [i32], from: usize, count: usize, value: i32, left: us
         return;
     }
     fill_integers(buffer, from, count, 0, value, false);
-}
-
-// Whether a run is written as four cells.
-fn is_short(count: usize, left: usize) -> bool
-    ensures { λ r. ⌜ r ≡ (leb count 4 && leb 4 left) ⌝ }
-{
-    if count <= 4 {
-        return 4 <= left;
-    }
-    false
 }
 
 // Writes the results of a run from a place on, and gives the last.

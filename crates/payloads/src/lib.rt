@@ -5,7 +5,7 @@ ghost use mathlib.Core.Bool.{true, false, cond, not, _&&_, _||_};
 ghost use Prim.Native.Nat.{_-_, _≤_, _<_};
 ghost use lib.ListN.{length};
 ghost use lib.IntN.{pos};
-ghost use lib.Dec.{eqb};
+ghost use lib.Dec.{eqb, leb};
 ghost use Rattle.refusal.specs.Table.{lengthDiffers};
 ghost use Rattle.payloads.specs.Held.{heldIn, exact};
 ghost use Rattle.payloads.specs.Scan.{scanOf, judgesExact};
@@ -244,6 +244,16 @@ pub fn total_after(result: i32, delta: bool) -> i32
     ensures { λ r. ⌜ r ≡ cond delta result (pos 0) ⌝ }
 {
     if delta { result } else { 0 }
+}
+
+// Whether a run is short, and four results are left to be written: so many are then written for it.
+pub fn is_short(count: usize, left: usize) -> bool
+    ensures { λ r. ⌜ r ≡ (leb count 4 && leb 4 left) ⌝ }
+{
+    if count <= 4 {
+        return 4 <= left;
+    }
+    false
 }
 
 // Runs, with no cell asked for.

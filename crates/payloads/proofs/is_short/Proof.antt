@@ -3,8 +3,8 @@ use mathlib.Core.Path.{sym, ap, _∙_}
 use mathlib.Core.Bool.{Bool, _&&_}
 use lib.Dec.{leb}
 use borrow.Author.Tests.{le-leb, lt-leb}
-use Rattle.decoding.proofs.is_short.Statement.{statement}
-use Rattle.decoding.proofs.is_short.Tie as tie
+use Rattle.payloads.proofs.is_short.Statement.{statement}
+use Rattle.payloads.proofs.is_short.Tie as tie
 
 returns : tie.Need-returns
 returns c = rw (le-leb (c .before .args .count) 4 (c .if1 .taken))
