@@ -141,16 +141,15 @@ fn integers_in(
     ensures answer { λ r. ⌜ r ≡ toldFixed (judgedPayload (Header.Good n m kind form delta) (now (payload .entry))) (length (now (buffer .entry))) ⌝ }
     ensures buffer { λ r. ⌜ now (buffer .exit) ≡ left asNumber (judgedPayload (Header.Good n m kind form delta) (now (payload .entry))) (now (buffer .entry)) ⌝ }
 {
-    match payloads::scan(payload, form, delta, n, n) {
-        Outcome::Refused(r) => Fixed::Refused(r),
-        Outcome::Fine(_, _) => {
-            if buffer.len() < n {
-                return Fixed::Refused(refusal::BUFFER_TOO_SMALL);
-            }
-            put_integers(payload, form, delta, n, buffer);
-            Fixed::Column(n, numbers::to_i32(m))
-        }
+    let refused = payloads::refusal_of(payload, form, n);
+    if refused != refusal::ACCEPTED {
+        return Fixed::Refused(refused);
     }
+    if buffer.len() < n {
+        return Fixed::Refused(refusal::BUFFER_TOO_SMALL);
+    }
+    put_integers(payload, form, delta, n, buffer);
+    Fixed::Column(n, numbers::to_i32(m))
 }
 
 // Writes the results of a payload, by a loop of its form's own.

@@ -7,3 +7,4 @@ pub mod Judged
 pub mod Packed
 pub mod Totals
 pub mod Runs
+pub mod Refusal

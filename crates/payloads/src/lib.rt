@@ -8,9 +8,9 @@ ghost use lib.IntN.{pos};
 ghost use lib.Dec.{eqb, leb};
 ghost use Rattle.refusal.specs.Table.{lengthDiffers};
 ghost use Rattle.payloads.specs.Held.{heldIn, exact};
-ghost use Rattle.payloads.specs.Scan.{scanOf, judgesExact};
+ghost use Rattle.payloads.specs.Scan.{scanOf, judgesExact, refusalOf};
 ghost use Rattle.payloads.specs.Results.{advance};
-ghost use Rattle.payloads.specs.Items.{readIn, Gives, plusTimes, afterRun, cellAfter, passRun, finished};
+ghost use Rattle.payloads.specs.Items.{readIn, Gives, told, plusTimes, afterRun, cellAfter, passRun, finished};
 use codecs::Form;
 use codecs::Range;
 use codecs::Size;
@@ -59,6 +59,21 @@ pub fn scan(payload: &[u8], form: Form, delta: bool, length: usize, index: usize
         },
         Form::Runs(range) => scan_runs(payload, range, delta, length, index),
         Form::Names => scan_items(payload, Form::Names, delta, length, index),
+    }
+}
+
+// The refusal of a payload that should have `length` results, or 0: what a scan says to one who asks for nothing else.
+pub fn refusal_of(payload: &[u8], form: Form, length: usize) -> u8
+    ensures { λ r. ⌜ r ≡ refusalOf length (heldIn form (now (payload .entry))) ⌝ }
+{
+    match form {
+        Form::Packed(size) => match size {
+            Size::One => refusal_in(scan_packed(payload, Size::One, false, length, length)),
+            Size::Two => count_two(payload, length),
+            Size::Four => refusal_in(scan_packed(payload, Size::Four, false, length, length)),
+        },
+        Form::Runs(range) => count_runs(payload, range, length),
+        _ => refusal_in(scan(payload, form, false, length, length)),
     }
 }
 
@@ -239,6 +254,42 @@ fn judge_two(payload: &[u8], delta: bool, length: usize, index: usize) -> Outcom
     Outcome::Fine(exact, 0)
 }
 
+// The refusal that a scan answers, or 0.
+fn refusal_in(outcome: Outcome) -> u8
+    ensures { λ r. ⌜ r ≡ told outcome ⌝ }
+{
+    match outcome {
+        Outcome::Refused(r) => r,
+        Outcome::Fine(_, _) => refusal::ACCEPTED,
+    }
+}
+
+// The refusal of packed numbers of two bytes, or 0.
+fn count_two(payload: &[u8], length: usize) -> u8
+    ensures { λ r. ⌜ r ≡ refusalOf length (readIn (Form.Packed Size.Two) (now (payload .entry))) ⌝ }
+{
+    let mut i: usize = 0;
+    let mut limits: usize = 0;
+    let mut last = false;
+    while 2 <= payload.len() - i {
+        last = codecs::is_limit(codecs::number_at(payload, i, Size::Two), Size::Two);
+        i += 2;
+        if last {
+            limits += 1;
+        }
+    }
+    if 65534 < limits {
+        return refusal_in(scan_packed(payload, Size::Two, false, length, length));
+    }
+    if last {
+        return refusal::NUMBER_NOT_ALLOWED;
+    }
+    if i / 2 - limits != length {
+        return refusal::LENGTH_DIFFERS;
+    }
+    refusal::ACCEPTED
+}
+
 // The total after a result: with delta it goes on.
 pub fn total_after(result: i32, delta: bool) -> i32
     ensures { λ r. ⌜ r ≡ cond delta result (pos 0) ⌝ }
@@ -278,6 +329,30 @@ fn judge_runs(payload: &[u8], range: Range, delta: bool, length: usize, index: u
             }
             Item::End => {
                 return judged(over, left, exact);
+            }
+        }
+    }
+}
+
+// The refusal of runs, or 0.
+fn count_runs(payload: &[u8], range: Range, length: usize) -> u8
+    ensures { λ r. ⌜ r ≡ refusalOf length (readIn (Form.Runs range) (now (payload .entry))) ⌝ }
+{
+    let mut at: usize = 0;
+    let mut left = length;
+    let mut over = false;
+    loop {
+        match run_item(payload, at, range) {
+            Item::Run(_, count, next) => {
+                over = either(over, left < count);
+                left = less(left, count);
+                at = next;
+            }
+            Item::Wrong => {
+                return refusal::NUMBER_NOT_ALLOWED;
+            }
+            Item::End => {
+                return refusal_in(judged(over, left, false));
             }
         }
     }

@@ -59,9 +59,11 @@ put-quotients-requires : tie.Need-put-quotients-requires
 put-quotients-requires c κs =
     let a = c .before .before .before .before .before .before .before .before .before .before .before in
     let h = held (c .before .before .before .before .before .before) in (
-      ((h .0, h .1, omega (arith, h .2)),
-      all-results (a .args .n) (a .args .m) kind.FixedPoint (a .args .form) (a .args .delta) (a .args .n) (a .args .payload .now) (exact-names (a .args .form) (a .args .delta) (a .pre .0)) (c .before .before .before .before .before .before .exact .given .0 .0) (c .before .before .before .before .before .before .exact .given .0 .1 .0) h (parts (c .before .before .before) .0),
-      divisor-positive (a .args .m) (parts (c .before .before .before) .1) (a .pre .1)),
+      (
+        (h .0, h .1, omega (arith, h .2)),
+        all-results (a .args .n) (a .args .m) kind.FixedPoint (a .args .form) (a .args .delta) (a .args .n) (a .args .payload .now) (exact-names (a .args .form) (a .args .delta) (a .pre .0)) (c .before .before .before .before .before .before .exact .given .0 .0) (c .before .before .before .before .before .before .exact .given .0 .1 .0) h (parts (c .before .before .before) .0),
+        divisor-positive (a .args .m) (parts (c .before .before .before) .1) (a .pre .1),
+      ),
       ((h .0, h .1, h .2), c .before .before .if2 .left, a .pre .0),
     )
 

@@ -317,12 +317,12 @@ module _ (r : Range) (d : Bool) (n i : ℕ) (s : List ℕ) (at left : ℕ) (over
   pub kept-run : (v : ℤ) (k e : ℕ) → 1 ≤ k → readIn (Runs r) (drop at s) ≡ Option·map (λ (l : List ℤ). replicate k v ++ l) (readIn (Runs r) (drop e s))
       → Kept r d n i s e (left - k) (over || ltb left k) (ok && exact v)
   kept-run v k e h q = (
-      passRun d (w .0) v k,
-      passed-run (Runs r) d n i s at (w .0) (w .1) v k e h (λ x. let y : _≡_ {A = ℕ} 0 1 = cc in absurd (omega arith)) q,
-      ap (λ (m : ℕ). m - k) (w .2),
-      ap₂ (λ (b : Bool) (m : ℕ). b || ltb m k) (w .3) (w .2),
-      ap (λ (b : Bool). b && exact v) (w .4) ∙ by d refl,
-    )
+    passRun d (w .0) v k,
+    passed-run (Runs r) d n i s at (w .0) (w .1) v k e h (λ x. let y : _≡_ {A = ℕ} 0 1 = cc in absurd (omega arith)) q,
+    ap (λ (m : ℕ). m - k) (w .2),
+    ap₂ (λ (b : Bool) (m : ℕ). b || ltb m k) (w .3) (w .2),
+    ap (λ (b : Bool). b && exact v) (w .4) ∙ by d refl,
+  )
     where
       by : (b : Bool) → d ≡ b → ((w .0) .exact && exact v) ≡ ((w .0) .exact && exact (afterRun d ((w .0) .sum) v k))
       by false e = rw e

@@ -42,6 +42,9 @@ use Rattle.payloads.specs.Laws.Packed.{step, WrittenPacked, packed-writt
 wrapped : (n : ℕ) → Fits w32 (n % 4294967296)
 wrapped n = record { fits = mod-lt n (omega arith) }
 
+pub plus-fits : (a d : ℤ) → SFits w32 (plusDelta a d)
+plus-fits a d = sfits-toZ {w = w32} (wrapped (ofZ w32 a + ofZ w32 d))
+
 -- the bits of a sum that has 32
 sum-bits : (a b : ℤ) → SFits w32 a → SFits w32 b → mag (a +ℤ b) < 2147483648 → ofZ w32 (a +ℤ b) ≡ (ofZ w32 a + ofZ w32 b) % 4294967296
 sum-bits (pos a) (pos b) f g h = omega arith
