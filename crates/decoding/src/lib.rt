@@ -11,9 +11,10 @@ ghost use Rattle.codecs.specs.Payload.{paddedFrom};
 ghost use Rattle.columns.specs.Table.{suits};
 ghost use Rattle.columns.specs.Decode.{decode, judgedPayload};
 ghost use Rattle.payloads.specs.Items.{isNames};
-ghost use Rattle.payloads.specs.Results.{Filled, HasRoom};
+ghost use Rattle.payloads.specs.Results.{Filled, HasRoom, HasResults, Covered};
 ghost use Rattle.decoding.specs.Calls.{told, toldFixed, left, asNumber, asByte, countOf, Wrote, mayFollow};
 use codecs::Form;
+use codecs::Range;
 use codecs::Size;
 use codecs::Turn;
 use columns::Header;
@@ -140,21 +141,20 @@ fn integers_in(
     ensures answer { λ r. ⌜ r ≡ toldFixed (judgedPayload (Header.Good n m kind form delta) (now (payload .entry))) (length (now (buffer .entry))) ⌝ }
     ensures buffer { λ r. ⌜ now (buffer .exit) ≡ left asNumber (judgedPayload (Header.Good n m kind form delta) (now (payload .entry))) (now (buffer .entry)) ⌝ }
 {
-    match payloads::scan(payload, form, delta, n, 0) {
-        Outcome::Refused(r) => Fixed::Refused(r),
-        Outcome::Fine(_, _) => {
-            if buffer.len() < n {
-                return Fixed::Refused(refusal::BUFFER_TOO_SMALL);
-            }
-            put_integers(payload, form, delta, buffer);
-            Fixed::Column(n, numbers::to_i32(m))
-        }
+    let refused = payloads::refusal_of(payload, form, n);
+    if refused != refusal::ACCEPTED {
+        return Fixed::Refused(refused);
     }
+    if buffer.len() < n {
+        return Fixed::Refused(refusal::BUFFER_TOO_SMALL);
+    }
+    put_integers(payload, form, delta, n, buffer);
+    Fixed::Column(n, numbers::to_i32(m))
 }
 
 // Writes the results of a payload, by a loop of its form's own.
-fn put_integers(payload: &[u8], form: Form, delta: bool, buffer: &mut [i32])
-    requires { ⌜ HasRoom form (now payload) (length (now buffer)) ⌝ }
+fn put_integers(payload: &[u8], form: Form, delta: bool, n: usize, buffer: &mut [i32])
+    requires { ⌜ HasRoom form (now payload) (length (now buffer)) × HasResults form (now payload) n × (n ≤ length (now buffer)) ⌝ }
     ensures { λ r. ⌜ Wrote asNumber form delta (now (payload .entry)) (now (buffer .entry)) (now (buffer .exit)) ⌝ }
 {
     match form {
@@ -165,10 +165,15 @@ fn put_integers(payload: &[u8], form: Form, delta: bool, buffer: &mut [i32])
         },
         Form::Packed(size) => match size {
             Size::One => write_packed(payload, Size::One, delta, buffer),
-            Size::Two => write_packed(payload, Size::Two, delta, buffer),
+            Size::Two => write_two(payload, delta, buffer),
             Size::Four => write_packed(payload, Size::Four, delta, buffer),
         },
-        Form::Runs(range) => write_integers(payload, Form::Runs(range), delta, buffer),
+        Form::Runs(range) => {
+            if delta {
+                return write_integers(payload, Form::Runs(range), delta, buffer);
+            }
+            write_runs(payload, range, n, buffer)
+        }
         Form::Names => write_integers(payload, Form::Names, delta, buffer),
     }
 }
@@ -228,6 +233,57 @@ fn write_packed(payload: &[u8], size: Size, delta: bool, buffer: &mut [i32])
     }
 }
 
+// Writes the results of packed numbers of two bytes, by one total: of the result that has begun, and with delta of those before it too.
+fn write_two(payload: &[u8], delta: bool, buffer: &mut [i32])
+    requires { ⌜ HasRoom (Form.Packed Size.Two) (now payload) (length (now buffer)) ⌝ }
+    ensures { λ r. ⌜ Wrote asNumber (Form.Packed Size.Two) delta (now (payload .entry)) (now (buffer .entry)) (now (buffer .exit)) ⌝ }
+{
+    let mut i: usize = 0;
+    let mut o: usize = 0;
+    let mut total: i32 = 0;
+    while 2 <= payload.len() - i {
+        let number = codecs::number_at(payload, i, Size::Two);
+        i += 2;
+        total = codecs::add_delta(total, number);
+        if !codecs::is_limit(number, Size::Two) {
+            buffer[o] = total;
+            o += 1;
+            total = payloads::total_after(total, delta);
+        }
+    }
+}
+
+// Writes the values of n results in runs.
+fn write_runs(payload: &[u8], range: Range, n: usize, buffer: &mut [i32])
+    requires { ⌜ HasResults (Form.Runs range) (now payload) n × (n ≤ length (now buffer)) ⌝ }
+    ensures { λ r. ⌜ Wrote asNumber (Form.Runs range) false (now (payload .entry)) (now (buffer .entry)) (now (buffer .exit)) ⌝ }
+{
+    let mut at: usize = 0;
+    let mut o: usize = 0;
+    while 8 <= payload.len() - at {
+        let value = numbers::read_i32(payload, at);
+        let count = numbers::to_u32(numbers::read_i32(payload, at + 4)) as usize;
+        at += 8;
+        write_run(buffer, o, count, value, n - o);
+        o += count;
+    }
+}
+
+// Writes a run from a place on. A short one is written as four cells, where so many are left: the next run is written over them.
+fn write_run(buffer: &mut [i32], from: usize, count: usize, value: i32, left: usize)
+    requires { ⌜ (count ≤ left) × (from + left ≤ length (now buffer)) ⌝ }
+    ensures { λ r. ⌜ Covered value (now (buffer .entry)) from count left (now (buffer .exit)) ⌝ }
+{
+    if payloads::is_short(count, left) {
+        buffer[from] = value;
+        buffer[from + 1] = value;
+        buffer[from + 2] = value;
+        buffer[from + 3] = value;
+        return;
+    }
+    fill_integers(buffer, from, count, 0, value, false);
+}
+
 // Writes the results of a run from a place on, and gives the last.
 fn fill_integers(
     buffer: &mut [i32],
@@ -264,7 +320,7 @@ fn chars_in(
     ensures answer { λ r. ⌜ r ≡ toldFixed (judgedPayload (Header.Good n m kind form delta) (now (payload .entry))) (length (now (buffer .entry))) ⌝ }
     ensures buffer { λ r. ⌜ now (buffer .exit) ≡ left asByte (judgedPayload (Header.Good n m kind form delta) (now (payload .entry))) (now (buffer .entry)) ⌝ }
 {
-    match payloads::scan(payload, form, delta, n, 0) {
+    match payloads::scan(payload, form, delta, n, n) {
         Outcome::Refused(r) => Fixed::Refused(r),
         Outcome::Fine(_, _) => {
             if buffer.len() < n {

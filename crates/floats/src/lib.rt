@@ -12,9 +12,10 @@ ghost use lib.Ieee.Positive.{positive};
 ghost use Rattle.columns.specs.Decode.{decode, judgedPayload};
 ghost use Rattle.payloads.specs.Held.{exact, allExact};
 ghost use Rattle.payloads.specs.Scan.{judgesExact};
-ghost use Rattle.payloads.specs.Results.{resultsFrom, Filled, HasRoom};
+ghost use Rattle.payloads.specs.Results.{resultsFrom, Filled, HasRoom, HasResults, Covered};
 ghost use Rattle.floats.specs.Calls.{kept, bitsBy, exactly, told, left, Wrote, ResultsExact};
 use codecs::Form;
+use codecs::Range;
 use codecs::Size;
 use columns::Header;
 use columns::Kind;
@@ -107,7 +108,7 @@ fn quotients_in(
     ensures answer { λ r. ⌜ r ≡ told (exactly (judgedPayload (Header.Good n m Kind.FixedPoint form delta) (now (payload .entry)))) (length (now (buffer .entry))) ⌝ }
     ensures buffer { λ r. ⌜ now (buffer .exit) ≡ left (exactly (judgedPayload (Header.Good n m Kind.FixedPoint form delta) (now (payload .entry)))) (now (buffer .entry)) ⌝ }
 {
-    match payloads::scan(payload, form, delta, n, 0) {
+    match payloads::scan(payload, form, delta, n, n) {
         Outcome::Refused(r) => Floats::Refused(r),
         Outcome::Fine(exact, _) => {
             let fine = are_exact(exact, m);
@@ -117,22 +118,30 @@ fn quotients_in(
             if buffer.len() < n {
                 return Floats::Refused(refusal::BUFFER_TOO_SMALL);
             }
-            put_quotients(payload, form, delta, m as f32, buffer);
+            put_quotients(payload, form, delta, m as f32, n, buffer);
             Floats::Count(n)
         }
     }
 }
 
 // Writes the quotients of a payload, by a loop of its form's own.
-fn put_quotients(payload: &[u8], form: Form, delta: bool, divisor: f32, buffer: &mut [u32])
+fn put_quotients(
+    payload: &[u8],
+    form: Form,
+    delta: bool,
+    divisor: f32,
+    n: usize,
+    buffer: &mut [u32],
+)
     requires { ⌜ HasRoom form (now payload) (length (now buffer)) × ResultsExact form delta (now payload) × T (positive divisor) ⌝ }
+    requires { ⌜ HasResults form (now payload) n × (n ≤ length (now buffer)) × (judgesExact form delta ≡ true) ⌝ }
     ensures { λ r. ⌜ Wrote (bitsBy divisor) form delta (now (payload .entry)) (now (buffer .entry)) (now (buffer .exit)) ⌝ }
 {
     match form {
         Form::Plain(size) => write_quotients(payload, Form::Plain(size), delta, divisor, buffer),
         Form::Packed(size) => match size {
             Size::One => write_quotients(payload, Form::Packed(Size::One), delta, divisor, buffer),
-            Size::Two => write_quotients(payload, Form::Packed(Size::Two), delta, divisor, buffer),
+            Size::Two => write_two(payload, delta, divisor, buffer),
             Size::Four => write_quotients(
                 payload,
                 Form::Packed(Size::Four),
@@ -141,8 +150,72 @@ fn put_quotients(payload: &[u8], form: Form, delta: bool, divisor: f32, buffer: 
                 buffer,
             ),
         },
-        Form::Runs(range) => write_quotients(payload, Form::Runs(range), delta, divisor, buffer),
+        Form::Runs(range) => write_runs(payload, range, divisor, n, buffer),
         Form::Names => write_quotients(payload, Form::Names, delta, divisor, buffer),
+    }
+}
+
+// Writes the quotients of packed numbers of two bytes, by one total: of the result that has begun, and with delta of those before it
+// too.
+fn write_two(payload: &[u8], delta: bool, divisor: f32, buffer: &mut [u32])
+    requires { ⌜ HasRoom (Form.Packed Size.Two) (now payload) (length (now buffer)) × ResultsExact (Form.Packed Size.Two) delta (now payload) × T (positive divisor) ⌝ }
+    ensures { λ r. ⌜ Wrote (bitsBy divisor) (Form.Packed Size.Two) delta (now (payload .entry)) (now (buffer .entry)) (now (buffer .exit)) ⌝ }
+{
+    let mut i: usize = 0;
+    let mut o: usize = 0;
+    let mut total: i32 = 0;
+    while 2 <= payload.len() - i {
+        let number = codecs::number_at(payload, i, Size::Two);
+        i += 2;
+        total = codecs::add_delta(total, number);
+        if !codecs::is_limit(number, Size::Two) {
+            buffer[o] = quotient_bits(total, divisor);
+            o += 1;
+            total = payloads::total_after(total, delta);
+        }
+    }
+}
+
+// Writes the quotients of n results in runs, with one division for each run.
+fn write_runs(payload: &[u8], range: Range, divisor: f32, n: usize, buffer: &mut [u32])
+    requires { ⌜ HasResults (Form.Runs range) (now payload) n × (n ≤ length (now buffer)) × ResultsExact (Form.Runs range) false (now payload) × T (positive divisor) ⌝ }
+    ensures { λ r. ⌜ Wrote (bitsBy divisor) (Form.Runs range) false (now (payload .entry)) (now (buffer .entry)) (now (buffer .exit)) ⌝ }
+{
+    let mut at: usize = 0;
+    let mut o: usize = 0;
+    while 8 <= payload.len() - at {
+        let bits = quotient_bits(numbers::read_i32(payload, at), divisor);
+        let count = numbers::to_u32(numbers::read_i32(payload, at + 4)) as usize;
+        at += 8;
+        write_run(buffer, o, count, bits, n - o);
+        o += count;
+    }
+}
+
+// Writes a run of floats from a place on. A short one is written as four, where so many are left: the next run is written over them.
+fn write_run(buffer: &mut [u32], from: usize, count: usize, bits: u32, left: usize)
+    requires { ⌜ (count ≤ left) × (from + left ≤ length (now buffer)) ⌝ }
+    ensures { λ r. ⌜ Covered bits (now (buffer .entry)) from count left (now (buffer .exit)) ⌝ }
+{
+    if payloads::is_short(count, left) {
+        buffer[from] = bits;
+        buffer[from + 1] = bits;
+        buffer[from + 2] = bits;
+        buffer[from + 3] = bits;
+        return;
+    }
+    fill_bits(buffer, from, count, bits);
+}
+
+// Writes the same float many times.
+fn fill_bits(buffer: &mut [u32], from: usize, count: usize, bits: u32)
+    requires { ⌜ from + count ≤ length (now buffer) ⌝ }
+    ensures { λ r. ⌜ Covered bits (now (buffer .entry)) from count count (now (buffer .exit)) ⌝ }
+{
+    let mut n: usize = 0;
+    while n < count {
+        buffer[from + n] = bits;
+        n += 1;
     }
 }
 

@@ -83,3 +83,8 @@ passRun d t v k =
 -- what a tally says at the payload's end
 abbrev pub finished : Tally → Outcome
 finished t = cond (t .over || not (eqb (t .left) 0)) (Refused lengthDiffers) (Fine (t .exact) (t .cell))
+
+-- the refusal that a scan answers, or 0
+abbrev pub told : Outcome → ℕ
+told (Fine e x) = 0
+told (Refused r) = r

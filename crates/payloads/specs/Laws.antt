@@ -5,3 +5,6 @@ pub mod Plain
 pub mod Writing
 pub mod Judged
 pub mod Packed
+pub mod Totals
+pub mod Runs
+pub mod Refusal

@@ -36,3 +36,11 @@ Filled g d a v old from n new x = (new ≡ paste old from (map g (resultsFrom d 
 -- whether a payload's results have room
 abbrev pub HasRoom : Form → List ℕ → ℕ → Type 0
 HasRoom f s room = (l : List ℤ) × (readIn f s ≡ some l) × (length l ≤ room)
+
+-- whether a payload has so many results
+abbrev pub HasResults : Form → List ℕ → ℕ → Type 0
+HasResults f s n = (l : List ℤ) × (readIn f s ≡ some l) × (length l ≡ n)
+
+-- n elements b, or more up to a bound, are written from a place on
+abbrev pub Covered : {B : Type 0} → B → List B → ℕ → ℕ → ℕ → List B → Type 0
+Covered b old from n bound new = (m : ℕ) × (n ≤ m) × (m ≤ bound) × (new ≡ paste old from (replicate m b))

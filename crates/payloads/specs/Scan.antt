@@ -31,3 +31,8 @@ abbrev pub scanOf : Form → Bool → ℕ → ℕ → Option (List ℤ) → Outc
 scanOf f d n i none = Refused numberNotAllowed
 scanOf f d n i (some l) =
     cond (eqb (length l) n) (Fine (judgesExact f d && allExact (sumsIf d l)) (getD (sumsIf d l) i (pos 0))) (Refused lengthDiffers)
+
+-- the refusal of n results, or 0
+abbrev pub refusalOf : ℕ → Option (List ℤ) → ℕ
+refusalOf n none = numberNotAllowed
+refusalOf n (some l) = cond (eqb (length l) n) 0 lengthDiffers

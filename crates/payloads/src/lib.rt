@@ -1,13 +1,16 @@
 // A column's payload, read in one pass: whether its numbers are allowed (18) and as many as the header says (19), whether its results
 // are exact in single precision, and one result of it. A run of any length costs one turn, so that time is linear in the bytes.
 ghost use mathlib.Core.Path.{_≡_};
-ghost use mathlib.Core.Bool.{true, false, cond, _&&_, _||_};
+ghost use mathlib.Core.Bool.{true, false, cond, not, _&&_, _||_};
 ghost use Prim.Native.Nat.{_-_, _≤_, _<_};
 ghost use lib.ListN.{length};
+ghost use lib.IntN.{pos};
+ghost use lib.Dec.{eqb, leb};
+ghost use Rattle.refusal.specs.Table.{lengthDiffers};
 ghost use Rattle.payloads.specs.Held.{heldIn, exact};
-ghost use Rattle.payloads.specs.Scan.{scanOf, judgesExact};
+ghost use Rattle.payloads.specs.Scan.{scanOf, judgesExact, refusalOf};
 ghost use Rattle.payloads.specs.Results.{advance};
-ghost use Rattle.payloads.specs.Items.{readIn, Gives, plusTimes, afterRun, cellAfter, passRun, finished};
+ghost use Rattle.payloads.specs.Items.{readIn, Gives, told, plusTimes, afterRun, cellAfter, passRun, finished};
 use codecs::Form;
 use codecs::Range;
 use codecs::Size;
@@ -51,11 +54,26 @@ pub fn scan(payload: &[u8], form: Form, delta: bool, length: usize, index: usize
         }
         Form::Packed(size) => match size {
             Size::One => scan_packed(payload, Size::One, delta, length, index),
-            Size::Two => scan_packed(payload, Size::Two, delta, length, index),
+            Size::Two => scan_two(payload, delta, length, index),
             Size::Four => scan_packed(payload, Size::Four, delta, length, index),
         },
-        Form::Runs(range) => scan_items(payload, Form::Runs(range), delta, length, index),
+        Form::Runs(range) => scan_runs(payload, range, delta, length, index),
         Form::Names => scan_items(payload, Form::Names, delta, length, index),
+    }
+}
+
+// The refusal of a payload that should have `length` results, or 0: what a scan says to one who asks for nothing else.
+pub fn refusal_of(payload: &[u8], form: Form, length: usize) -> u8
+    ensures { λ r. ⌜ r ≡ refusalOf length (heldIn form (now (payload .entry))) ⌝ }
+{
+    match form {
+        Form::Packed(size) => match size {
+            Size::One => refusal_in(scan_packed(payload, Size::One, false, length, length)),
+            Size::Two => count_two(payload, length),
+            Size::Four => refusal_in(scan_packed(payload, Size::Four, false, length, length)),
+        },
+        Form::Runs(range) => count_runs(payload, range, length),
+        _ => refusal_in(scan(payload, form, false, length, length)),
     }
 }
 
@@ -179,6 +197,178 @@ fn scan_packed(payload: &[u8], size: Size, delta: bool, length: usize, index: us
         return Outcome::Refused(refusal::LENGTH_DIFFERS);
     }
     Outcome::Fine(exact, cell)
+}
+
+// The same for packed numbers of two bytes, by a loop without the cell where there is none.
+fn scan_two(payload: &[u8], delta: bool, length: usize, index: usize) -> Outcome
+    ensures { λ r. ⌜ r ≡ scanOf (Form.Packed Size.Two) delta length index (readIn (Form.Packed Size.Two) (now (payload .entry))) ⌝ }
+{
+    if index < length {
+        return scan_packed(payload, Size::Two, delta, length, index);
+    }
+    judge_two(payload, delta, length, index)
+}
+
+// The same for runs.
+fn scan_runs(payload: &[u8], range: Range, delta: bool, length: usize, index: usize) -> Outcome
+    ensures { λ r. ⌜ r ≡ scanOf (Form.Runs range) delta length index (readIn (Form.Runs range) (now (payload .entry))) ⌝ }
+{
+    if index < length {
+        return scan_items(payload, Form::Runs(range), delta, length, index);
+    }
+    judge_runs(payload, range, delta, length, index)
+}
+
+// Packed numbers of two bytes, with no cell asked for. So few limits cannot lead a sum out of 32 bits, so that one running total does:
+// of the result that has begun, and with delta of those before it too.
+fn judge_two(payload: &[u8], delta: bool, length: usize, index: usize) -> Outcome
+    requires { ⌜ length ≤ index ⌝ }
+    ensures { λ r. ⌜ r ≡ scanOf (Form.Packed Size.Two) delta length index (readIn (Form.Packed Size.Two) (now (payload .entry))) ⌝ }
+{
+    let mut i: usize = 0;
+    let mut limits: usize = 0;
+    let mut last = false;
+    let mut total: i32 = 0;
+    let mut exact = true;
+    while 2 <= payload.len() - i {
+        let number = codecs::number_at(payload, i, Size::Two);
+        i += 2;
+        total = codecs::add_delta(total, number);
+        last = codecs::is_limit(number, Size::Two);
+        if last {
+            limits += 1;
+        } else {
+            exact = both(exact, is_exact(total));
+            total = total_after(total, delta);
+        }
+    }
+    if 65534 < limits {
+        return scan_packed(payload, Size::Two, delta, length, index);
+    }
+    if last {
+        return Outcome::Refused(refusal::NUMBER_NOT_ALLOWED);
+    }
+    if i / 2 - limits != length {
+        return Outcome::Refused(refusal::LENGTH_DIFFERS);
+    }
+    Outcome::Fine(exact, 0)
+}
+
+// The refusal that a scan answers, or 0.
+fn refusal_in(outcome: Outcome) -> u8
+    ensures { λ r. ⌜ r ≡ told outcome ⌝ }
+{
+    match outcome {
+        Outcome::Refused(r) => r,
+        Outcome::Fine(_, _) => refusal::ACCEPTED,
+    }
+}
+
+// The refusal of packed numbers of two bytes, or 0.
+fn count_two(payload: &[u8], length: usize) -> u8
+    ensures { λ r. ⌜ r ≡ refusalOf length (readIn (Form.Packed Size.Two) (now (payload .entry))) ⌝ }
+{
+    let mut i: usize = 0;
+    let mut limits: usize = 0;
+    let mut last = false;
+    while 2 <= payload.len() - i {
+        last = codecs::is_limit(codecs::number_at(payload, i, Size::Two), Size::Two);
+        i += 2;
+        if last {
+            limits += 1;
+        }
+    }
+    if 65534 < limits {
+        return refusal_in(scan_packed(payload, Size::Two, false, length, length));
+    }
+    if last {
+        return refusal::NUMBER_NOT_ALLOWED;
+    }
+    if i / 2 - limits != length {
+        return refusal::LENGTH_DIFFERS;
+    }
+    refusal::ACCEPTED
+}
+
+// The total after a result: with delta it goes on.
+pub fn total_after(result: i32, delta: bool) -> i32
+    ensures { λ r. ⌜ r ≡ cond delta result (pos 0) ⌝ }
+{
+    if delta { result } else { 0 }
+}
+
+// Whether a run is short, and four results are left to be written: so many are then written for it.
+pub fn is_short(count: usize, left: usize) -> bool
+    ensures { λ r. ⌜ r ≡ (leb count 4 && leb 4 left) ⌝ }
+{
+    if count <= 4 {
+        return 4 <= left;
+    }
+    false
+}
+
+// Runs, with no cell asked for.
+fn judge_runs(payload: &[u8], range: Range, delta: bool, length: usize, index: usize) -> Outcome
+    requires { ⌜ length ≤ index ⌝ }
+    ensures { λ r. ⌜ r ≡ scanOf (Form.Runs range) delta length index (readIn (Form.Runs range) (now (payload .entry))) ⌝ }
+{
+    let mut at: usize = 0;
+    let mut left = length;
+    let mut over = false;
+    let mut exact = !delta;
+    loop {
+        match run_item(payload, at, range) {
+            Item::Run(value, count, next) => {
+                over = either(over, left < count);
+                left = less(left, count);
+                exact = both(exact, is_exact(value));
+                at = next;
+            }
+            Item::Wrong => {
+                return Outcome::Refused(refusal::NUMBER_NOT_ALLOWED);
+            }
+            Item::End => {
+                return judged(over, left, exact);
+            }
+        }
+    }
+}
+
+// The refusal of runs, or 0.
+fn count_runs(payload: &[u8], range: Range, length: usize) -> u8
+    ensures { λ r. ⌜ r ≡ refusalOf length (readIn (Form.Runs range) (now (payload .entry))) ⌝ }
+{
+    let mut at: usize = 0;
+    let mut left = length;
+    let mut over = false;
+    loop {
+        match run_item(payload, at, range) {
+            Item::Run(_, count, next) => {
+                over = either(over, left < count);
+                left = less(left, count);
+                at = next;
+            }
+            Item::Wrong => {
+                return refusal::NUMBER_NOT_ALLOWED;
+            }
+            Item::End => {
+                return refusal_in(judged(over, left, false));
+            }
+        }
+    }
+}
+
+// What is left of the results and whether there were too many, at the payload's end.
+fn judged(over: bool, left: usize, exact: bool) -> Outcome
+    ensures { λ r. ⌜ r ≡ cond (over || not (eqb left 0)) (Outcome.Refused lengthDiffers) (Outcome.Fine exact (pos 0)) ⌝ }
+{
+    if over {
+        return Outcome::Refused(refusal::LENGTH_DIFFERS);
+    }
+    if left != 0 {
+        return Outcome::Refused(refusal::LENGTH_DIFFERS);
+    }
+    Outcome::Fine(exact, 0)
 }
 
 fn choose(test: bool, a: i32, b: i32) -> i32

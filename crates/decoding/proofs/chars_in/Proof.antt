@@ -21,7 +21,7 @@ returns : tie.Need-returns
 returns c =
     let a = c .before .before .before .before .before .before in
     let t = c .before .enum-told .given in
-    let g = fine-one (a .args .n) (a .args .m) (a .args .kind) (a .args .form) (a .args .delta) 0 (a .args .payload .now) (a .pre) (t .0 .0) (t .0 .1 .0) (sym (c .before .before .before .scan .ensures) ∙ t .1) in
+    let g = fine-one (a .args .n) (a .args .m) (a .args .kind) (a .args .form) (a .args .delta) (a .args .n) (a .args .payload .now) (a .pre) (t .0 .0) (t .0 .1 .0) (sym (c .before .before .before .scan .ensures) ∙ t .1) in
     let l = g .0 in
     let size = g .2 in
     answers-small asByte (judgedValues (a .args .n) (a .args .m) (a .args .kind) (a .args .form) (a .args .delta) (valuesIn (a .args .form) (a .args .payload .now))) (a .args .buffer .now) (a .args .kind) (a .args .m) (a .args .delta) (g .0) (g .3) (omega arith)
@@ -30,7 +30,7 @@ write-bytes-requires : tie.Need-write-bytes-requires
 write-bytes-requires c κs =
     let a = c .before .before .before .before .before .before .before in
     let t = c .before .before .enum-told .given in
-    let g = fine-one (a .args .n) (a .args .m) (a .args .kind) (a .args .form) (a .args .delta) 0 (a .args .payload .now) (a .pre) (t .0 .0) (t .0 .1 .0) (sym (c .before .before .before .before .scan .ensures) ∙ t .1) in
+    let g = fine-one (a .args .n) (a .args .m) (a .args .kind) (a .args .form) (a .args .delta) (a .args .n) (a .args .payload .now) (a .pre) (t .0 .0) (t .0 .1 .0) (sym (c .before .before .before .before .scan .ensures) ∙ t .1) in
     let l = g .0 in
     let size = g .2 in
     held-room (a .args .form) (a .args .payload .now) (g .0) (a .args .n) (length (a .args .buffer .now)) (bytes-of (a .args .payload .now) (λ i. omega (arith, c .before .before .before .before .before .before .shared-slice-known .given i))) (g .1) size (omega arith)
@@ -39,13 +39,13 @@ returns-2 : tie.Need-returns-2
 returns-2 c =
     let a = c .before .before .before .before .before .before in
     let t = c .before .r .given in
-    answers-refused asByte (judgedValues (a .args .n) (a .args .m) (a .args .kind) (a .args .form) (a .args .delta) (valuesIn (a .args .form) (a .args .payload .now))) (a .args .buffer .now) (t .0 .0) (refused-one (a .args .n) (a .args .m) (a .args .kind) (a .args .form) (a .args .delta) 0 (a .args .payload .now) (a .pre) (t .0 .0) (sym (c .before .before .before .scan .ensures) ∙ t .1))
+    answers-refused asByte (judgedValues (a .args .n) (a .args .m) (a .args .kind) (a .args .form) (a .args .delta) (valuesIn (a .args .form) (a .args .payload .now))) (a .args .buffer .now) (t .0 .0) (refused-one (a .args .n) (a .args .m) (a .args .kind) (a .args .form) (a .args .delta) (a .args .n) (a .args .payload .now) (a .pre) (t .0 .0) (sym (c .before .before .before .scan .ensures) ∙ t .1))
 
 returns-3 : tie.Need-returns-3
 returns-3 c =
     let a = c .before .before .before .before .before .before .before .before .before .before .before in
     let t = c .before .before .before .before .before .before .enum-told .given in
-    let g = fine-one (a .args .n) (a .args .m) (a .args .kind) (a .args .form) (a .args .delta) 0 (a .args .payload .now) (a .pre) (t .0 .0) (t .0 .1 .0) (sym (c .before .before .before .before .before .before .before .before .scan .ensures) ∙ t .1) in
+    let g = fine-one (a .args .n) (a .args .m) (a .args .kind) (a .args .form) (a .args .delta) (a .args .n) (a .args .payload .now) (a .pre) (t .0 .0) (t .0 .1 .0) (sym (c .before .before .before .before .before .before .before .before .scan .ensures) ∙ t .1) in
     let l = g .0 in
     let size = g .2 in
     let b = bytes-of (a .args .payload .now) (λ i. omega (arith, c .before .before .before .before .before .before .before .before .before .before .shared-slice-known .given i)) in

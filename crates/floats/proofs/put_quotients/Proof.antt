@@ -1,6 +1,6 @@
 -- Each arm is the loop of its form (`puts`).
 use mathlib.Core.Path.{_≡_, sym, ap, subst, _∙_}
-use mathlib.Core.Bool.{Bool}
+use mathlib.Core.Bool.{Bool, true, false}
 use mathlib.Core.List.{List}
 use Prim.Native.Nat.{ℕ}
 use lib.ListN.{length}
@@ -9,10 +9,13 @@ use lib.Ieee.{Float}
 use lib.Ieee.Positive.{positive}
 use borrow.Author.Needs.{needs}
 use Rattle.codecs.specs.declared.Size.the-variants.{One, Two, Four}
+use Rattle.codecs.specs.declared.Range.{Range}
 use Rattle.codecs.specs.declared.Form.{Form}
 use Rattle.codecs.specs.declared.Form.the-variants.{Plain, Packed, Runs, Names}
-use Rattle.payloads.specs.Results.{HasRoom}
+use Rattle.payloads.specs.Results.{HasRoom, HasResults}
+use Rattle.payloads.specs.Scan.{judgesExact}
 use Rattle.floats.specs.Calls.{bitsBy, Wrote, ResultsExact}
+use Rattle.floats.specs.Laws.Tests.{not-true}
 use Rattle.floats.proofs.put_quotients.Statement.{statement}
 use Rattle.floats.proofs.put_quotients.Tie as tie
 
@@ -27,32 +30,39 @@ puts f g d s old new x e w = subst (λ (h : Form). Wrote (bitsBy x) h d s old ne
 write-quotients-requires : tie.Need-write-quotients-requires
 write-quotients-requires c κs =
     let a = c .before .before .before .before .before .before in
-    asks (a .args .form) (Plain (c .before .before .form .given .0 .0)) (a .args .delta) (a .args .payload .now) (length (a .args .buffer .now)) (a .args .divisor) (c .before .before .form .given .1) (a .pre)
+    asks (a .args .form) (Plain (c .before .before .form .given .0 .0)) (a .args .delta) (a .args .payload .now) (length (a .args .buffer .now)) (a .args .divisor) (c .before .before .form .given .1) (a .pre .0)
 
 write-quotients-requires-2 : tie.Need-write-quotients-requires-2
 write-quotients-requires-2 c κs =
     let a = c .before .before .before .before .before .before .before .before in
-    asks (a .args .form) (Packed One) (a .args .delta) (a .args .payload .now) (length (a .args .buffer .now)) (a .args .divisor) (c .before .before .before .before .form2 .given .1 ∙ ap Packed (c .before .enum-told .given .1)) (a .pre)
+    asks (a .args .form) (Packed One) (a .args .delta) (a .args .payload .now) (length (a .args .buffer .now)) (a .args .divisor) (c .before .before .before .before .form2 .given .1 ∙ ap Packed (c .before .enum-told .given .1)) (a .pre .0)
+
+write-two-requires : tie.Need-write-two-requires
+write-two-requires c κs =
+    let a = c .before .before .before .before .before .before .before .before in
+    asks (a .args .form) (Packed Two) (a .args .delta) (a .args .payload .now) (length (a .args .buffer .now)) (a .args .divisor) (c .before .before .before .before .form2 .given .1 ∙ ap Packed (c .before .enum-told2 .given .1)) (a .pre .0)
 
 write-quotients-requires-3 : tie.Need-write-quotients-requires-3
 write-quotients-requires-3 c κs =
     let a = c .before .before .before .before .before .before .before .before in
-    asks (a .args .form) (Packed Two) (a .args .delta) (a .args .payload .now) (length (a .args .buffer .now)) (a .args .divisor) (c .before .before .before .before .form2 .given .1 ∙ ap Packed (c .before .enum-told2 .given .1)) (a .pre)
+    asks (a .args .form) (Packed Four) (a .args .delta) (a .args .payload .now) (length (a .args .buffer .now)) (a .args .divisor) (c .before .before .before .before .form2 .given .1 ∙ ap Packed (c .before .enum-told3 .given .1)) (a .pre .0)
+
+-- runs whose results are judged have no delta
+no-delta : (r : Range) (f : Form) (d : Bool) → f ≡ Runs r → judgesExact f d ≡ true → d ≡ false
+no-delta r f d e j = not-true d (subst (λ (h : Form). judgesExact h d ≡ true) e j)
+
+write-runs-requires : tie.Need-write-runs-requires
+write-runs-requires c κs =
+    let a = c .before .before .before .before .before .before in
+    let e = c .before .before .form3 .given .1 in
+    let d = no-delta (c .before .before .form3 .given .0 .0) (a .args .form) (a .args .delta) e (a .pre .1 .2) in
+    let p = asks (a .args .form) (Runs (c .before .before .form3 .given .0 .0)) (a .args .delta) (a .args .payload .now) (length (a .args .buffer .now)) (a .args .divisor) e (a .pre .0) in
+    (subst (λ (h : Form). HasResults h (a .args .payload .now) (a .args .n)) e (a .pre .1 .0), a .pre .1 .1, rw d at (p .1), a .pre .0 .2)
 
 write-quotients-requires-4 : tie.Need-write-quotients-requires-4
 write-quotients-requires-4 c κs =
-    let a = c .before .before .before .before .before .before .before .before in
-    asks (a .args .form) (Packed Four) (a .args .delta) (a .args .payload .now) (length (a .args .buffer .now)) (a .args .divisor) (c .before .before .before .before .form2 .given .1 ∙ ap Packed (c .before .enum-told3 .given .1)) (a .pre)
-
-write-quotients-requires-5 : tie.Need-write-quotients-requires-5
-write-quotients-requires-5 c κs =
-    let a = c .before .before .before .before .before .before in
-    asks (a .args .form) (Runs (c .before .before .form3 .given .0 .0)) (a .args .delta) (a .args .payload .now) (length (a .args .buffer .now)) (a .args .divisor) (c .before .before .form3 .given .1) (a .pre)
-
-write-quotients-requires-6 : tie.Need-write-quotients-requires-6
-write-quotients-requires-6 c κs =
     let a = c .before .before .before .before .before in
-    asks (a .args .form) (Names) (a .args .delta) (a .args .payload .now) (length (a .args .buffer .now)) (a .args .divisor) (c .before .enum-told4 .given .1) (a .pre)
+    asks (a .args .form) (Names) (a .args .delta) (a .args .payload .now) (length (a .args .buffer .now)) (a .args .divisor) (c .before .enum-told4 .given .1) (a .pre .0)
 
 returns : tie.Need-returns
 returns c =
@@ -67,22 +77,25 @@ returns-2 c =
 returns-3 : tie.Need-returns-3
 returns-3 c =
     let a = c .before .before .before .before .before .before .before .before .before .before .before in
-    puts (a .args .form) (Packed Two) (a .args .delta) (a .args .payload .now) (a .args .buffer .now) (c .before .before .write-quotients3 .last .1 .1 .1 .1 .0) (a .args .divisor) (c .before .before .before .before .before .before .before .form2 .given .1 ∙ ap Packed (c .before .before .before .before .enum-told2 .given .1)) (c .before .before .write-quotients3 .ensures)
+    puts (a .args .form) (Packed Two) (a .args .delta) (a .args .payload .now) (a .args .buffer .now) (c .before .before .write-two .last .1 .1 .1 .0) (a .args .divisor) (c .before .before .before .before .before .before .before .form2 .given .1 ∙ ap Packed (c .before .before .before .before .enum-told2 .given .1)) (c .before .before .write-two .ensures)
 
 returns-4 : tie.Need-returns-4
 returns-4 c =
     let a = c .before .before .before .before .before .before .before .before .before .before .before in
-    puts (a .args .form) (Packed Four) (a .args .delta) (a .args .payload .now) (a .args .buffer .now) (c .before .before .write-quotients4 .last .1 .1 .1 .1 .0) (a .args .divisor) (c .before .before .before .before .before .before .before .form2 .given .1 ∙ ap Packed (c .before .before .before .before .enum-told3 .given .1)) (c .before .before .write-quotients4 .ensures)
+    puts (a .args .form) (Packed Four) (a .args .delta) (a .args .payload .now) (a .args .buffer .now) (c .before .before .write-quotients3 .last .1 .1 .1 .1 .0) (a .args .divisor) (c .before .before .before .before .before .before .before .form2 .given .1 ∙ ap Packed (c .before .before .before .before .enum-told3 .given .1)) (c .before .before .write-quotients3 .ensures)
 
 returns-5 : tie.Need-returns-5
 returns-5 c =
     let a = c .before .before .before .before .before .before .before .before .before in
-    puts (a .args .form) (Runs (c .before .before .before .before .before .form3 .given .0 .0)) (a .args .delta) (a .args .payload .now) (a .args .buffer .now) (c .before .before .write-quotients5 .last .1 .1 .1 .1 .0) (a .args .divisor) (c .before .before .before .before .before .form3 .given .1) (c .before .before .write-quotients5 .ensures)
+    let e = c .before .before .before .before .before .form3 .given .1 in
+    let d = no-delta (c .before .before .before .before .before .form3 .given .0 .0) (a .args .form) (a .args .delta) e (a .pre .1 .2) in
+    puts (a .args .form) (Runs (c .before .before .before .before .before .form3 .given .0 .0)) (a .args .delta) (a .args .payload .now) (a .args .buffer .now) (c .before .before .write-runs .last .1 .1 .1 .1 .0) (a .args .divisor) e
+    (subst (λ (t : Bool). Wrote (bitsBy (a .args .divisor)) (Runs (c .before .before .before .before .before .form3 .given .0 .0)) t (a .args .payload .now) (a .args .buffer .now) (c .before .before .write-runs .last .1 .1 .1 .1 .0)) (sym d) (c .before .before .write-runs .ensures))
 
 returns-6 : tie.Need-returns-6
 returns-6 c =
     let a = c .before .before .before .before .before .before .before .before in
-    puts (a .args .form) (Names) (a .args .delta) (a .args .payload .now) (a .args .buffer .now) (c .before .before .write-quotients6 .last .1 .1 .1 .1 .0) (a .args .divisor) (c .before .before .before .before .enum-told4 .given .1) (c .before .before .write-quotients6 .ensures)
+    puts (a .args .form) (Names) (a .args .delta) (a .args .payload .now) (a .args .buffer .now) (c .before .before .write-quotients4 .last .1 .1 .1 .1 .0) (a .args .divisor) (c .before .before .before .before .enum-told4 .given .1) (c .before .before .write-quotients4 .ensures)
 
 pub put-quotients-spec : {M : Type 1} → statement M
 put-quotients-spec =
@@ -94,13 +107,13 @@ put-quotients-spec =
     (λ c. search needs)
     write-quotients-requires-2
     (λ c. search needs)
+    write-two-requires
+    (λ c. search needs)
     write-quotients-requires-3
     (λ c. search needs)
+    write-runs-requires
+    (λ c. search needs)
     write-quotients-requires-4
-    (λ c. search needs)
-    write-quotients-requires-5
-    (λ c. search needs)
-    write-quotients-requires-6
     (λ c. search needs)
     returns
     (λ c. search needs)

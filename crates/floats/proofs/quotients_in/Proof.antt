@@ -19,15 +19,15 @@ use Rattle.floats.proofs.quotients_in.Tie as tie
 
 -- the column that the scan found
 held : (c : tie.After-exact)
-    → Holds (c .before .before .before .before .before .args .n) (c .before .before .before .before .before .args .m) kind.FixedPoint (c .before .before .before .before .before .args .form) (c .before .before .before .before .before .args .delta) 0 (c .before .before .before .before .before .args .payload .now) (exact-names (c .before .before .before .before .before .args .form) (c .before .before .before .before .before .args .delta) (c .before .before .before .before .before .pre .0)) (c .exact .given .0 .0) (c .exact .given .0 .1 .0)
+    → Holds (c .before .before .before .before .before .args .n) (c .before .before .before .before .before .args .m) kind.FixedPoint (c .before .before .before .before .before .args .form) (c .before .before .before .before .before .args .delta) (c .before .before .before .before .before .args .n) (c .before .before .before .before .before .args .payload .now) (exact-names (c .before .before .before .before .before .args .form) (c .before .before .before .before .before .args .delta) (c .before .before .before .before .before .pre .0)) (c .exact .given .0 .0) (c .exact .given .0 .1 .0)
 held c =
     let a = c .before .before .before .before .before in
     let b = bytes-of (a .args .payload .now) (λ i. omega (arith, c .before .before .before .before .shared-slice-known .given i)) in
-    scan-fine (a .args .n) (a .args .m) kind.FixedPoint (a .args .form) (a .args .delta) 0 (a .args .payload .now) (exact-names (a .args .form) (a .args .delta) (a .pre .0)) b (c .exact .given .0 .0) (c .exact .given .0 .1 .0) (sym (c .before .before .scan .ensures) ∙ c .exact .given .1)
+    scan-fine (a .args .n) (a .args .m) kind.FixedPoint (a .args .form) (a .args .delta) (a .args .n) (a .args .payload .now) (exact-names (a .args .form) (a .args .delta) (a .pre .0)) b (c .exact .given .0 .0) (c .exact .given .0 .1 .0) (sym (c .before .before .scan .ensures) ∙ c .exact .given .1)
 
 -- its cells are exact as the scan says
 cells : (c : tie.After-exact) → allExact (sumsIf (c .before .before .before .before .before .args .delta) (held c .0)) ≡ c .exact .given .0 .0
-cells c = let a = c .before .before .before .before .before in holds-exact (a .args .n) (a .args .m) kind.FixedPoint (a .args .form) (a .args .delta) 0 (a .args .payload .now) (exact-names (a .args .form) (a .args .delta) (a .pre .0)) (c .exact .given .0 .0) (c .exact .given .0 .1 .0) (held c) (a .pre .0)
+cells c = let a = c .before .before .before .before .before in holds-exact (a .args .n) (a .args .m) kind.FixedPoint (a .args .form) (a .args .delta) (a .args .n) (a .args .payload .now) (exact-names (a .args .form) (a .args .delta) (a .pre .0)) (c .exact .given .0 .0) (c .exact .given .0 .1 .0) (held c) (a .pre .0)
 
 -- and so are cells and divisor
 both : (c : tie.After-are-exact) → (allExact (sumsIf (c .before .before .before .before .before .before .before .args .delta) (held (c .before .before) .0)) && exact (pos (c .before .before .before .before .before .before .before .args .m))) ≡ c .are-exact .result
@@ -44,13 +44,13 @@ returns : tie.Need-returns
 returns c =
     let a = c .before .before .before .before .before .before .before .before in
     let k = c .before .before .before .exact .given .0 in
-    answer-inexact (a .args .n) (a .args .m) kind.FixedPoint (a .args .form) (a .args .delta) 0 (a .args .payload .now) (exact-names (a .args .form) (a .args .delta) (a .pre .0)) (k .0) (k .1 .0) (held (c .before .before .before)) (a .args .buffer .now) refl (both (c .before) ∙ not-true _ (c .if1 .taken))
+    answer-inexact (a .args .n) (a .args .m) kind.FixedPoint (a .args .form) (a .args .delta) (a .args .n) (a .args .payload .now) (exact-names (a .args .form) (a .args .delta) (a .pre .0)) (k .0) (k .1 .0) (held (c .before .before .before)) (a .args .buffer .now) refl (both (c .before) ∙ not-true _ (c .if1 .taken))
 
 returns-2 : tie.Need-returns-2
 returns-2 c =
     let a = c .before .before .before .before .before .before .before .before .before in
     let k = c .before .before .before .before .exact .given .0 in
-    answer-short (a .args .n) (a .args .m) kind.FixedPoint (a .args .form) (a .args .delta) 0 (a .args .payload .now) (exact-names (a .args .form) (a .args .delta) (a .pre .0)) (k .0) (k .1 .0) (held (c .before .before .before .before)) (a .args .buffer .now) (fine (c .before)) (c .if2 .taken)
+    answer-short (a .args .n) (a .args .m) kind.FixedPoint (a .args .form) (a .args .delta) (a .args .n) (a .args .payload .now) (exact-names (a .args .form) (a .args .delta) (a .pre .0)) (k .0) (k .1 .0) (held (c .before .before .before .before)) (a .args .buffer .now) (fine (c .before)) (c .if2 .taken)
 
 int-to-float-put-quotients : tie.Need-int-to-float-put-quotients
 int-to-float-put-quotients c = exact-in (pos (c .before .before .before .before .before .before .before .before .before .before .args .m)) (parts (c .before .before) .1)
@@ -59,22 +59,25 @@ put-quotients-requires : tie.Need-put-quotients-requires
 put-quotients-requires c κs =
     let a = c .before .before .before .before .before .before .before .before .before .before .before in
     let h = held (c .before .before .before .before .before .before) in (
-      (h .0, h .1, omega (arith, h .2)),
-      all-results (a .args .n) (a .args .m) kind.FixedPoint (a .args .form) (a .args .delta) 0 (a .args .payload .now) (exact-names (a .args .form) (a .args .delta) (a .pre .0)) (c .before .before .before .before .before .before .exact .given .0 .0) (c .before .before .before .before .before .before .exact .given .0 .1 .0) h (parts (c .before .before .before) .0),
-      divisor-positive (a .args .m) (parts (c .before .before .before) .1) (a .pre .1),
+      (
+        (h .0, h .1, omega (arith, h .2)),
+        all-results (a .args .n) (a .args .m) kind.FixedPoint (a .args .form) (a .args .delta) (a .args .n) (a .args .payload .now) (exact-names (a .args .form) (a .args .delta) (a .pre .0)) (c .before .before .before .before .before .before .exact .given .0 .0) (c .before .before .before .before .before .before .exact .given .0 .1 .0) h (parts (c .before .before .before) .0),
+        divisor-positive (a .args .m) (parts (c .before .before .before) .1) (a .pre .1),
+      ),
+      ((h .0, h .1, h .2), c .before .before .if2 .left, a .pre .0),
     )
 
 returns-3 : tie.Need-returns-3
 returns-3 c =
     let a = c .before .before .before .before .before .before in
     answer-refused (judgedValues (a .args .n) (a .args .m) kind.FixedPoint (a .args .form) (a .args .delta) (valuesIn (a .args .form) (a .args .payload .now))) (c .before .r .given .0 .0) (a .args .buffer .now)
-    (scan-refused (a .args .n) (a .args .m) kind.FixedPoint (a .args .form) (a .args .delta) 0 (a .args .payload .now) (exact-names (a .args .form) (a .args .delta) (a .pre .0)) (c .before .r .given .0 .0) (sym (c .before .before .before .scan .ensures) ∙ c .before .r .given .1))
+    (scan-refused (a .args .n) (a .args .m) kind.FixedPoint (a .args .form) (a .args .delta) (a .args .n) (a .args .payload .now) (exact-names (a .args .form) (a .args .delta) (a .pre .0)) (c .before .r .given .0 .0) (sym (c .before .before .before .scan .ensures) ∙ c .before .r .given .1))
 
 returns-4 : tie.Need-returns-4
 returns-4 c =
     let a = c .before .before .before .before .before .before .before .before .before .before .before .before .before .before in
     let k = c .before .before .before .before .before .before .before .before .before .exact .given .0 in
-    answer-count (a .args .n) (a .args .m) kind.FixedPoint (a .args .form) (a .args .delta) 0 (a .args .payload .now) (exact-names (a .args .form) (a .args .delta) (a .pre .0)) (k .0) (k .1 .0) (held (c .before .before .before .before .before .before .before .before .before)) (a .args .buffer .now) (fine (c .before .before .before .before .before .before)) (c .before .before .put-quotients .last .1 .1 .1 .1 .0) (c .before .before .before .before .before .if2 .left) (c .before .before .put-quotients .ensures)
+    answer-count (a .args .n) (a .args .m) kind.FixedPoint (a .args .form) (a .args .delta) (a .args .n) (a .args .payload .now) (exact-names (a .args .form) (a .args .delta) (a .pre .0)) (k .0) (k .1 .0) (held (c .before .before .before .before .before .before .before .before .before)) (a .args .buffer .now) (fine (c .before .before .before .before .before .before)) (c .before .before .put-quotients .last .1 .1 .1 .1 .1 .0) (c .before .before .before .before .before .if2 .left) (c .before .before .put-quotients .ensures)
 
 pub quotients-in-spec : {M : Type 1} → statement M
 quotients-in-spec =

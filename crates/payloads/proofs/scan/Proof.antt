@@ -34,25 +34,25 @@ returns-4 : tie.Need-returns-4
 returns-4 c =
     let a = c .before .before .before .before .before .before .before .args in
     let b = bytes-of (a .payload .now) (λ i. omega (arith, c .before .before .before .before .before .before .shared-slice-known .given i)) in
-    scan-held (Packed Two) (a .form) (a .delta) (a .length) (a .index) (a .payload .now) (c .scan-packed2 .result) b (c .before .before .before .before .form2 .given .1 ∙ ap Packed (c .before .enum-told2 .given .1)) (c .scan-packed2 .ensures)
+    scan-held (Packed Two) (a .form) (a .delta) (a .length) (a .index) (a .payload .now) (c .scan-two .result) b (c .before .before .before .before .form2 .given .1 ∙ ap Packed (c .before .enum-told2 .given .1)) (c .scan-two .ensures)
 
 returns-5 : tie.Need-returns-5
 returns-5 c =
     let a = c .before .before .before .before .before .before .before .args in
     let b = bytes-of (a .payload .now) (λ i. omega (arith, c .before .before .before .before .before .before .shared-slice-known .given i)) in
-    scan-held (Packed Four) (a .form) (a .delta) (a .length) (a .index) (a .payload .now) (c .scan-packed3 .result) b (c .before .before .before .before .form2 .given .1 ∙ ap Packed (c .before .enum-told3 .given .1)) (c .scan-packed3 .ensures)
+    scan-held (Packed Four) (a .form) (a .delta) (a .length) (a .index) (a .payload .now) (c .scan-packed2 .result) b (c .before .before .before .before .form2 .given .1 ∙ ap Packed (c .before .enum-told3 .given .1)) (c .scan-packed2 .ensures)
 
 returns-6 : tie.Need-returns-6
 returns-6 c =
     let a = c .before .before .before .before .before .args in
     let b = bytes-of (a .payload .now) (λ i. omega (arith, c .before .before .before .before .shared-slice-known .given i)) in
-    scan-held (Runs (c .before .before .form3 .given .0 .0)) (a .form) (a .delta) (a .length) (a .index) (a .payload .now) (c .scan-items2 .result) b (c .before .before .form3 .given .1) (c .scan-items2 .ensures)
+    scan-held (Runs (c .before .before .form3 .given .0 .0)) (a .form) (a .delta) (a .length) (a .index) (a .payload .now) (c .scan-runs .result) b (c .before .before .form3 .given .1) (c .scan-runs .ensures)
 
 returns-7 : tie.Need-returns-7
 returns-7 c =
     let a = c .before .before .before .before .args in
     let b = bytes-of (a .payload .now) (λ i. omega (arith, c .before .before .before .shared-slice-known .given i)) in
-    scan-held Names (a .form) (a .delta) (a .length) (a .index) (a .payload .now) (c .scan-items3 .result) b (c .before .enum-told4 .given .1) (c .scan-items3 .ensures)
+    scan-held Names (a .form) (a .delta) (a .length) (a .index) (a .payload .now) (c .scan-items2 .result) b (c .before .enum-told4 .given .1) (c .scan-items2 .ensures)
 
 pub scan-spec : {M : Type 1} → statement M
 scan-spec =

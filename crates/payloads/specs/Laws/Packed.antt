@@ -143,7 +143,7 @@ module _ {B : Type 0} (g : ℤ → B) (z : Size) (d : Bool) (s : List ℕ) (old 
     packed-written-length = written-length g (Packed z) d s old room (from z s part (w .0) at) o new x (w .1)
 
     module _ (h : at + sizeOf z ≤ length s) where
-      step : (u : Turn) → turnOf z part (signedAt (widthOf z) s at) ≡ u → from z s part (w .0) at ≡ after z u s (at + sizeOf z)
+      pub step : (u : Turn) → turnOf z part (signedAt (widthOf z) s at) ≡ u → from z s part (w .0) at ≡ after z u s (at + sizeOf z)
       step u e = from-turn z part (w .0) s at h ∙ ap (λ (v : Turn). after z v s (at + sizeOf z)) e
 
       pub packed-written-more : (a : ℤ) → turnOf z part (signedAt (widthOf z) s at) ≡ More a → WrittenPacked (at + sizeOf z) a o new x

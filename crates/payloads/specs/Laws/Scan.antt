@@ -16,6 +16,7 @@ use borrow.Author.Tests.{eq-eqb, ne-eqb, eqb-true, eqb-false, lt-ltb, le-ltb, lt
 use Rattle.refusal.specs.Table.{numberNotAllowed, lengthDiffers}
 use Rattle.numbers.specs.BigEndian.{Bytes}
 use Rattle.codecs.specs.declared.Size.the-variants.{One, Two, Four}
+use Rattle.codecs.specs.declared.Range.{Range}
 use Rattle.codecs.specs.declared.Form.{Form}
 use Rattle.codecs.specs.declared.Form.the-variants.{Plain, Packed, Runs, Names}
 use Rattle.codecs.specs.Delta.{plusDelta, sumsFrom, sumsIf}
@@ -35,7 +36,7 @@ unfolding resultsFrom sumsFrom
 results-sums a [] = refl
 results-sums a (v ∷ l) = ap (λ (t : List ℤ). plusDelta a v ∷ t) (results-sums (plusDelta a v) l)
 
-results-plain : (a : ℤ) (l : List ℤ) → resultsFrom false a l ≡ l
+pub results-plain : (a : ℤ) (l : List ℤ) → resultsFrom false a l ≡ l
 unfolding resultsFrom
 results-plain a [] = refl
 results-plain a (v ∷ l) = ap (λ (t : List ℤ). v ∷ t) (results-plain v l)
@@ -296,6 +297,48 @@ module _ (f : Form) (d : Bool) (n i : ℕ) (s : List ℕ) (at : ℕ) (t : Tally)
   passed-end q =
       let whole : readIn f s ≡ some (w .0) = w .1 ∙ ap (Option·map (λ (l : List ℤ). w .0 ++ l)) q ∙ ap some (append-nil (w .0)) in
       tells-finished f d n i (w .0) t (w .2) ∙ sym (ap (scanOf f d n i) whole)
+
+  -- past the end there is no cell
+  pub passed-none : n ≤ i → t .over ≡ false → t .cell ≡ pos 0
+  passed-none h o =
+      let p = w .0 in
+      let l = ltb-false n (length p) (sym (w .2 .1) ∙ o) in
+      w .2 .6 ∙ List·getD-eq-default (resultsFrom d (pos 0) (w .0)) (pos 0) {n = i} (omega (arith, length-results d (pos 0) (w .0)))
+
+-- Runs with no cell asked for: what is kept of a tally
+
+abbrev pub Kept : Range → Bool → ℕ → ℕ → List ℕ → ℕ → ℕ → Bool → Bool → Type 0
+Kept r d n i s at left over ok = (t : Tally) × Passed (Runs r) d n i s at t × (left ≡ t .left) × (over ≡ t .over) × (ok ≡ t .exact)
+
+pub kept-start : (r : Range) (d : Bool) (n i : ℕ) (s : List ℕ) → Kept r d n i s 0 n false (not d)
+kept-start r d n i s = (record { left = n; over = false; wait = i; found = false; sum = pos 0; exact = not d; cell = pos 0 }, passed-start (Runs r) d n i s, refl, refl, refl)
+
+module _ (r : Range) (d : Bool) (n i : ℕ) (s : List ℕ) (at left : ℕ) (over ok : Bool) (w : Kept r d n i s at left over ok) where
+  pub kept-run : (v : ℤ) (k e : ℕ) → 1 ≤ k → readIn (Runs r) (drop at s) ≡ Option·map (λ (l : List ℤ). replicate k v ++ l) (readIn (Runs r) (drop e s))
+      → Kept r d n i s e (left - k) (over || ltb left k) (ok && exact v)
+  kept-run v k e h q = (
+    passRun d (w .0) v k,
+    passed-run (Runs r) d n i s at (w .0) (w .1) v k e h (λ x. let y : _≡_ {A = ℕ} 0 1 = cc in absurd (omega arith)) q,
+    ap (λ (m : ℕ). m - k) (w .2),
+    ap₂ (λ (b : Bool) (m : ℕ). b || ltb m k) (w .3) (w .2),
+    ap (λ (b : Bool). b && exact v) (w .4) ∙ by d refl,
+  )
+    where
+      by : (b : Bool) → d ≡ b → ((w .0) .exact && exact v) ≡ ((w .0) .exact && exact (afterRun d ((w .0) .sum) v k))
+      by false e = rw e
+      by true e =
+          let z : (w .0) .exact ≡ false = w .1 .2 .5 ∙ ap (λ (b : Bool). not b && allExact (resultsFrom d (pos 0) (w .1 .0))) e in
+          rw z
+
+  pub kept-wrong : readIn (Runs r) (drop at s) ≡ none → Refused numberNotAllowed ≡ scanOf (Runs r) d n i (readIn (Runs r) s)
+  kept-wrong q = passed-wrong (Runs r) d n i s at (w .0) (w .1) q
+
+  pub kept-end : n ≤ i → readIn (Runs r) (drop at s) ≡ some [] → cond (over || not (eqb left 0)) (Refused lengthDiffers) (Fine ok (pos 0)) ≡ scanOf (Runs r) d n i (readIn (Runs r) s)
+  kept-end h q = ap₂ (λ (b : Bool) (m : ℕ). cond (b || not (eqb m 0)) (Refused lengthDiffers) (Fine ok (pos 0))) (w .3) (w .2) ∙ by ((w .0) .over) refl ∙ passed-end (Runs r) d n i s at (w .0) (w .1) q
+    where
+      by : (b : Bool) → (w .0) .over ≡ b → cond (b || not (eqb ((w .0) .left) 0)) (Refused lengthDiffers) (Fine ok (pos 0)) ≡ finished (w .0)
+      by true e = rw e
+      by false e = rw (e, w .4, passed-none (Runs r) d n i s at (w .0) (w .1) h e)
 
 -- A count may be taken modulo 2 ^ 32
 

@@ -1,6 +1,6 @@
 -- Laws of writing a payload's results into a buffer, once over the elements' type: a run of them, and run after run. Assumes nothing.
 use mathlib.Core.Path.{_≡_, refl, sym, ap, ap₂, subst, _∙_}
-use mathlib.Core.Bool.{Bool}
+use mathlib.Core.Bool.{Bool, true, false, _&&_}
 use mathlib.Core.Option.{Option, none, some, Option·map}
 use mathlib.Core.List.{List, [], _∷_, _++_, append-nil, append-assoc, map}
 use Prim.Native.Nat.{ℕ, zero, suc, _+_, _-_, _<_, _≤_}
@@ -11,9 +11,10 @@ use lib.Seq.{drop-cons, drop-drop, set-at, length-take-le, take-at, drop-at}
 use lib.IntN.{ℤ, pos}
 use Rattle.codecs.specs.declared.Form.{Form}
 use Rattle.codecs.specs.Delta.{sumsIf}
+use Rattle.payloads.specs.Held.{allExact}
 use Rattle.payloads.specs.Items.{readIn}
 use Rattle.payloads.specs.Results.{advance, resultsFrom, lastFrom, paste, Filled, HasRoom}
-use Rattle.payloads.specs.Laws.Scan.{results-if, length-results, results-append, last-append, map-id, map-both}
+use Rattle.payloads.specs.Laws.Scan.{results-if, length-results, results-append, last-append, exact-append, map-id, map-both}
 
 -- Lists
 
@@ -99,6 +100,14 @@ module _ {B : Type 0} (g : ℤ → B) (d : Bool) (a v : ℤ) (old : List B) (fro
   filled-next n new x y b e h w q z = rw (add-one n, z) (filled-more n new x y e h w q)
 
 -- Run after run
+
+exact-parts : (p q : List ℤ) → allExact (p ++ q) ≡ true → (allExact p ≡ true) × (allExact q ≡ true)
+exact-parts p q e = by (allExact p) refl (allExact q) refl (sym (exact-append p q) ∙ e)
+  where
+    by : (a : Bool) → allExact p ≡ a → (b : Bool) → allExact q ≡ b → (a && b) ≡ true → (allExact p ≡ true) × (allExact q ≡ true)
+    by true x true y z = (x, y)
+    by true x false y z = let y : _≡_ {A = ℕ} 0 1 = cc in absurd (omega arith)
+    by false x b y z = let y : _≡_ {A = ℕ} 0 1 = cc in absurd (omega arith)
 
 module _ {B : Type 0} (g : ℤ → B) (f : Form) (d : Bool) (s : List ℕ) (old : List B) (room : HasRoom f s (length old)) where
   -- the values p are read before those that are left, and their results stand at the buffer's start
@@ -201,6 +210,19 @@ module _ {B : Type 0} (g : ℤ → B) (f : Form) (d : Bool) (s : List ℕ) (old 
           pasted =
               ap₂ (λ (l : List B) (i : ℕ). paste l i Q) (w .4 ∙ ap (λ (i : ℕ). P ++ drop i old) (sym size)) (w .2 ∙ sym size)
               ∙ paste-front old P Q fits ∙ ap₂ (λ (l : List B) (i : ℕ). l ++ drop i old) whole all
+
+      -- the results of a run are exact where all are
+      pub written-exact : ((l : List ℤ) → readIn f s ≡ some l → allExact (resultsFrom d (pos 0) l) ≡ true) → allExact (resultsFrom d x (replicate k v)) ≡ true
+      written-exact h = by left′ refl
+        where
+          by : (y : Option (List ℤ)) → left′ ≡ y → allExact (resultsFrom d x (replicate k v)) ≡ true
+          by none e =
+              let z : none ≡ some (rest .0) = sym (ap (Option·map (λ (l : List ℤ). replicate k v ++ l)) e) ∙ sym q ∙ rest .1 in
+              let y : _≡_ {A = ℕ} 0 1 = cc in absurd (omega arith)
+          by (some t) e =
+              let a : readIn f s ≡ some (w .0 ++ (replicate k v ++ t)) = w .1 ∙ ap (Option·map (λ (l : List ℤ). w .0 ++ l)) (q ∙ ap (Option·map (λ (l : List ℤ). replicate k v ++ l)) e) in
+              let b = exact-parts (resultsFrom d (pos 0) (w .0)) (resultsFrom d (lastFrom d (pos 0) (w .0)) (replicate k v ++ t)) (rw results-append at (h (w .0 ++ (replicate k v ++ t)) a)) .1 in
+              rw (w .3) (exact-parts (resultsFrom d (lastFrom d (pos 0) (w .0)) (replicate k v)) (resultsFrom d (lastFrom d (lastFrom d (pos 0) (w .0)) (replicate k v)) t) (rw results-append at b) .0)
 
       -- one value more
       pub written-one : k ≡ 1 → (y : ℤ) (b e : B) → y ≡ advance d x v → b ≡ g y → WrittenTo left′ (o + 1) (set new o b) y

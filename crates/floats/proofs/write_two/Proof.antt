@@ -1,0 +1,114 @@
+-- The quotients of the results before the place stand at the buffer's start, and the total is that of the one that has begun
+-- (`total-written-done`); each result is exact since all are.
+use mathlib.Core.Path.{_≡_, refl, sym, ap, _∙_}
+use mathlib.Core.Bool.{true}
+use mathlib.Core.Option.{some}
+use mathlib.Core.List.{List}
+use Prim.Native.Nat.{_+_, _-_, _≤_}
+use native.Mathlib.Omega.{arith}
+use lib.ListN.{length}
+use lib.IntN.{ℤ, pos}
+use mir.Syntax.{w16, w32}
+use mir.Val.{toZ, ofZ, SFits}
+use mir.Facts.{toZ-ofZ}
+use borrow.Author.Needs.{needs}
+use Rattle.numbers.specs.BigEndian.{signedAt}
+use Rattle.numbers.specs.Laws.BigEndian.{bytes-of}
+use Rattle.codecs.specs.declared.Size.the-variants.{Two}
+use Rattle.codecs.specs.declared.Form.the-variants.{Packed}
+use Rattle.codecs.specs.Delta.{plusDelta}
+use Rattle.codecs.specs.Packing.{isLimit}
+use Rattle.payloads.specs.Held.{exact, allExact}
+use Rattle.payloads.specs.Results.{HasRoom}
+use Rattle.payloads.specs.Laws.Scan.{results-if}
+use Rattle.payloads.specs.Laws.Totals.{two-fits, WrittenTotal, total-written-start, total-written-length, total-written-more, total-written-room, total-written-exact, total-written-done, total-written-end}
+use Rattle.floats.specs.Calls.{bitsBy}
+use Rattle.floats.specs.Laws.Tests.{not-true, not-false}
+use Rattle.floats.proofs.write_two.Statement.{statement}
+use Rattle.floats.proofs.write_two.Tie as tie
+
+abbrev Inv-loop : tie.InvT-loop
+Inv-loop payload delta divisor buffer₀ i₀ o₀ total₀ buffer i o total =
+    (i ≤ length payload) × ((room : HasRoom (Packed Two) payload (length buffer₀)) → WrittenTotal (bitsBy divisor) delta payload buffer₀ room i (toZ w32 total) o buffer)
+
+abbrev μ-loop : tie.MeasureT-loop
+μ-loop payload delta divisor buffer₀ i₀ o₀ total₀ buffer i o total = length payload - i
+
+loop-holds : tie.Need-loop-holds Inv-loop μ-loop
+loop-holds c = let a = c .before .before .args in (omega arith, (λ room. total-written-start (bitsBy (a .divisor)) (a .delta) (a .payload .now) (a .buffer .now) room))
+
+-- the number that was read, and the total with it
+number : (c : tie.After-is-limit Inv-loop μ-loop) → toZ w32 (ofZ w32 (c .before .before .number-at .result)) ≡ signedAt w16 (c .before .before .before .before .before .before .before .args .payload .now) (c .before .before .before .before .loop .i)
+number c = toZ-ofZ {w = w32} (record { sfits = c .before .before .number-at .ok }) ∙ c .before .before .number-at .ensures
+
+fits : (c : tie.After-is-limit Inv-loop μ-loop) → SFits w16 (signedAt w16 (c .before .before .before .before .before .before .before .args .payload .now) (c .before .before .before .before .loop .i))
+fits c = two-fits (c .before .before .before .before .before .before .before .args .payload .now) (c .before .before .before .before .loop .i) (bytes-of (c .before .before .before .before .before .before .before .args .payload .now) (λ j. omega (arith, c .before .before .before .before .before .before .shared-slice-known .given j))) (omega arith)
+
+total : (c : tie.After-is-limit Inv-loop μ-loop) → toZ w32 (ofZ w32 (c .before .add-delta .result)) ≡ plusDelta (toZ w32 (c .before .before .before .before .loop .total)) (signedAt w16 (c .before .before .before .before .before .before .before .args .payload .now) (c .before .before .before .before .loop .i))
+total c = toZ-ofZ {w = w32} (record { sfits = c .before .add-delta .ok }) ∙ c .before .add-delta .ensures ∙ ap (plusDelta (toZ w32 (c .before .before .before .before .loop .total))) (number c)
+
+limit : (c : tie.After-is-limit Inv-loop μ-loop) → isLimit 32767 32768 (signedAt w16 (c .before .before .before .before .before .before .before .args .payload .now) (c .before .before .before .before .loop .i)) ≡ c .is-limit .result
+limit c = sym (c .is-limit .ensures ∙ ap (isLimit 32767 32768) (number c))
+
+-- there is room for a result, and it is exact
+has-room : (c : tie.Then1 Inv-loop μ-loop)
+    → (c .before .before .before .before .before .loop .o + 1 ≤ length (c .before .before .before .before .before .loop .buffer)) × (length (c .before .before .before .before .before .loop .buffer) ≡ length (c .before .before .before .before .before .before .before .before .args .buffer .now)) × (exact (toZ w32 (ofZ w32 (c .before .before .add-delta .result))) ≡ true)
+has-room c =
+    let a = c .before .before .before .before .before .before .before .before in
+    let p = c .before .before .before .before .before .loop in
+    let w = p .inv .1 (a .pre .0) in
+    let l = limit (c .before) ∙ not-true _ (c .if1 .taken) in (
+      total-written-room (bitsBy (a .args .divisor)) (a .args .delta) (a .args .payload .now) (a .args .buffer .now) (a .pre .0) (p .i) (toZ w32 (p .total)) (p .o) (p .buffer) w (omega arith) (fits (c .before)) (toZ w32 (ofZ w32 (c .before .before .add-delta .result))) (total (c .before)) l,
+      total-written-length (bitsBy (a .args .divisor)) (a .args .delta) (a .args .payload .now) (a .args .buffer .now) (a .pre .0) (p .i) (toZ w32 (p .total)) (p .o) (p .buffer) w,
+      total-written-exact (bitsBy (a .args .divisor)) (a .args .delta) (a .args .payload .now) (a .args .buffer .now) (a .pre .0) (p .i) (toZ w32 (p .total)) (p .o) (p .buffer) w (omega arith) (fits (c .before)) (toZ w32 (ofZ w32 (c .before .before .add-delta .result))) (total (c .before)) l
+          (λ t e. ap allExact (sym (results-if (a .args .delta) t)) ∙ a .pre .1 t e),
+    )
+
+loop-again : tie.Need-loop-again Inv-loop μ-loop
+loop-again c =
+    let a = c .before .before .before .before .before .before .before .before .before .before in
+    let p = c .before .before .before .before .before .before .before .loop in
+    let o = toZ-ofZ {w = w32} {z = c .before .before .before .before .add-delta .result} (record { sfits = c .before .before .before .before .add-delta .ok }) in
+    let t = toZ-ofZ {w = w32} (record { sfits = c .total-after .ok }) ∙ c .total-after .ensures in (
+      omega arith,
+      (λ room. rw t (total-written-done (bitsBy (a .args .divisor)) (a .args .delta) (a .args .payload .now) (a .args .buffer .now) room (p .i) (toZ w32 (p .total)) (p .o) (p .buffer) (p .inv .1 room) (omega arith) (fits (c .before .before .before)) (toZ w32 (ofZ w32 (c .before .before .before .before .add-delta .result))) (total (c .before .before .before)) (limit (c .before .before .before) ∙ not-true _ (c .before .before .if1 .taken))
+          (rw o (record { sfits = c .before .before .before .before .add-delta .ok })) (c .before .quotient-bits .result) 0 (c .before .quotient-bits .ensures))),
+    )
+
+loop-again-2 : tie.Need-loop-again-2 Inv-loop μ-loop
+loop-again-2 c =
+    let a = c .before .before .before .before .before .before .before .before in
+    let p = c .before .before .before .before .before .loop in (
+      omega arith,
+      (λ room. total-written-more (bitsBy (a .args .divisor)) (a .args .delta) (a .args .payload .now) (a .args .buffer .now) room (p .i) (toZ w32 (p .total)) (p .o) (p .buffer) (p .inv .1 room) (omega arith) (fits (c .before)) (toZ w32 (ofZ w32 (c .before .before .add-delta .result))) (total (c .before)) (limit (c .before) ∙ not-false _ (c .if1 .left))),
+    )
+
+same-length : tie.Need-same-length Inv-loop μ-loop
+same-length c = let a = c .before .before .before .before in let p = c .before .loop in total-written-length (bitsBy (a .args .divisor)) (a .args .delta) (a .args .payload .now) (a .args .buffer .now) (a .pre .0) (p .i) (toZ w32 (p .total)) (p .o) (p .buffer) (p .inv .1 (a .pre .0))
+
+returns : tie.Need-returns Inv-loop μ-loop
+returns c = let a = c .before .before .before .before in let p = c .before .loop in total-written-end (bitsBy (a .args .divisor)) (a .args .delta) (a .args .payload .now) (a .args .buffer .now) (a .pre .0) (p .i) (toZ w32 (p .total)) (p .o) (p .buffer) (p .inv .1 (a .pre .0)) (omega arith)
+
+pub write-two-spec : {M : Type 1} → statement M
+write-two-spec =
+    tie.close
+    (tie.spec
+    Inv-loop
+    μ-loop
+    loop-holds
+    (λ c. omega arith)
+    (λ c κs. search needs)
+    (λ c. omega arith)
+    (λ c κs. search needs)
+    (λ c κs. search needs)
+    (λ c κs. (has-room c .2, c .before .before .before .before .before .before .before .before .pre .2))
+    (λ c. let r = has-room (c .before) in omega (arith, r .0, r .1))
+    (λ c. let r = has-room (c .before) in omega (arith, r .0, r .1))
+    (λ c. let r = has-room (c .before) in omega (arith, r .0, r .1))
+    (λ c κs. search needs)
+    (λ c. omega arith)
+    loop-again
+    (λ c. omega arith)
+    loop-again-2
+    same-length
+    returns)
