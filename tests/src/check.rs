@@ -6,6 +6,7 @@ pub mod calls;
 pub mod columns;
 pub mod files;
 pub mod made;
+pub mod sample;
 pub mod watch;
 
 use crate::independent;
