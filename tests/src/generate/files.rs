@@ -214,7 +214,8 @@ pub fn matrix_numbers(rng: &mut Rng) -> [u64; 2] {
         1 => 1 << 32 | rng.below(3) as u64,
         2 => 1 << 63,
         3 => rng.below(400) as u64,
-        _ => rng.below(4) as u64,
+        4..=6 => rng.below(4) as u64,
+        _ => 0,
     };
     [number(rng), number(rng)]
 }

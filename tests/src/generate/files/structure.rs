@@ -193,7 +193,7 @@ impl Structure {
                 })
                 .collect()
         };
-        (0..rng.below(4)).map(|_| transforms(rng)).collect()
+        (0..rng.within(0, 3)).map(|_| transforms(rng)).collect()
     }
 
     /// The fields as values, each column by a codec of its kind.

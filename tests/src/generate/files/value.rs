@@ -12,6 +12,8 @@ pub enum Value {
     Binary(Vec<u8>),
     Array(Vec<Value>),
     Map(Vec<(Vec<u8>, Value)>),
+    /// A value as its bytes, for one too large for a tree.
+    Written(Vec<u8>),
 }
 
 use Value::*;
@@ -75,6 +77,7 @@ impl Value {
                     value.write(rng, heads, out);
                 }
             }
+            Written(bytes) => out.extend(bytes),
         }
     }
 
