@@ -4,7 +4,7 @@
 use mmtf_tests::check::files::expect_verdict;
 use mmtf_tests::check::made::{narrow, small, wide};
 use mmtf_tests::check::sample::*;
-use mmtf_tests::generate::files::Value;
+use mmtf_tests::generate::files::{integer_forms, Value};
 use Value::*;
 
 #[track_caller]
@@ -592,5 +592,79 @@ fn rule_11_chains() {
     for list in [&[][..], &[0], &[1], &[1, 0, 1, 1]] {
         expect(&entities(list), 0, "chains of an entity");
         expect(&assemblies(list), 0, "chains of an assembly");
+    }
+}
+
+/// An integer in every form that holds it.
+fn forms(number: i32) -> Vec<Value> {
+    let bytes = number.to_be_bytes();
+    integer_forms(number)
+        .into_iter()
+        .map(|(lead, size)| Written([&[lead], &bytes[4 - size..]].concat()))
+        .collect()
+}
+
+/// The same number in every form: its sign and its size are the form's.
+#[test]
+fn every_form_of_integers() {
+    assert_eq!(
+        [5, 200, 40_000, 70_000, -1, -100].map(|n| forms(n).len()),
+        [7, 5, 3, 2, 4, 3]
+    );
+    for form in forms(5) {
+        expect(&Sample::full().with("numBonds", form), 0, "5 bonds");
+    }
+    for number in [-1, -33, -129, -32_769, LIMIT + 1] {
+        for form in forms(number) {
+            expect(
+                &Sample::full().with("numBonds", form),
+                22,
+                &format!("{number} bonds"),
+            );
+        }
+    }
+    // As signed numbers of 8 and 16 bits these would be below 0.
+    for number in [128, 200, 255, 40_000, 65_535] {
+        for form in forms(number) {
+            let case = format!("{number}");
+            expect(&Sample::full().with("numBonds", form.clone()), 20, &case);
+            let list = |atoms| {
+                let pair = Array(vec![form.clone(), Integer(0)]);
+                let last = with_entry(group(atoms, None, None), "bondAtomList", pair);
+                let types = vec![group_of_three(), group_of_one(), last];
+                Sample::full().with("groupList", Array(types))
+            };
+            if number < 256 {
+                expect(&list(number as usize + 1), 0, &case);
+                expect(&list(number as usize), 21, &case);
+            }
+        }
+    }
+    for form in forms(4) {
+        let orders = with_entry(
+            group_of_three(),
+            "bondOrderList",
+            Array(vec![form.clone(), form]),
+        );
+        expect(&groups(orders, group_of_one()), 0, "order 4");
+    }
+    for form in forms(1) {
+        let per_chain = Array(vec![Integer(2), form]);
+        expect(
+            &Sample::full().with("groupsPerChain", per_chain),
+            0,
+            "one group",
+        );
+    }
+    for form in forms(-1) {
+        let per_model = Array(vec![Integer(3), form.clone()]);
+        let sample = Sample::full().with("chainsPerModel", per_model);
+        expect(&sample.with("numModels", Integer(2)), 22, "-1 chains");
+        let changed = with_entry(entity(), "chainIndexList", Array(vec![form]));
+        expect(
+            &Sample::full().with("entityList", Array(vec![changed])),
+            21,
+            "chain -1",
+        );
     }
 }

@@ -9,7 +9,7 @@ use mmtf_tests::corpus::derived;
 use mmtf_tests::generate::files::{file_case, matrix_numbers, FILE_KINDS};
 use mmtf_tests::generate::{case, Rng, KINDS};
 use mmtf_tests::guard::{Guarded, Side};
-use mmtf_tests::library::matrix::matrix;
+use mmtf_tests::library::matrix::{matrix, matrix_into, Rows};
 use mmtf_tests::{independent, library};
 
 /// Compares both with the file at the edge of its pages.
@@ -83,5 +83,24 @@ fn every_field_last() {
         }
         let placed = pages.place(&file, Side::After);
         assert_eq!(library::verdict(placed), 0, "entry {last} last");
+    }
+}
+
+/// The rows of a matrix at the edge of their pages.
+#[test]
+fn rows_at_the_edge() {
+    let mut pages = Guarded::new(64);
+    let file = Sample::full().bytes();
+    let before = [[0.5; 4]; 4];
+    let expected = independent::matrix(&file, 0, 0).expect("a matrix of the sample");
+    for side in [Side::Before, Side::After] {
+        let rows = pages.lend(&before, side);
+        let rows: &mut Rows = rows.try_into().expect("four rows");
+        assert_eq!(matrix_into(&file, 0, 0, rows), 0);
+        assert_eq!(*rows, expected);
+        *rows = before;
+        assert_eq!(matrix_into(&file, 0, 1, rows), 28);
+        assert_eq!(matrix_into(b"", 0, 0, rows), 2);
+        assert_eq!(*rows, before, "as they were");
     }
 }

@@ -61,20 +61,27 @@ fn kept(rows: &[[f32; 4]], start: usize) -> bool {
     rows.iter().enumerate().all(same)
 }
 
-/// The matrix of a transform of an assembly.
-pub fn matrix(file: &[u8], assembly: u64, transform: u64) -> Matrix {
-    let mut rows: [[f32; 4]; 4 + 2 * AROUND] = std::array::from_fn(before);
-    // SAFETY: the pointer and the length are those of a live slice, and four
-    // rows stand from the third on.
-    let refusal = unsafe {
+/// The call itself, with rows that the caller lends. Gives the number.
+pub fn matrix_into(file: &[u8], assembly: u64, transform: u64, rows: &mut Rows) -> u8 {
+    // SAFETY: the pointer and the length are those of a live slice, and there
+    // are four rows.
+    unsafe {
         mmtf_matrix(
             file.as_ptr(),
             file.len(),
             assembly,
             transform,
-            rows[AROUND..].as_mut_ptr(),
+            rows.as_mut_ptr(),
         )
-    };
+    }
+}
+
+/// The matrix of a transform of an assembly.
+pub fn matrix(file: &[u8], assembly: u64, transform: u64) -> Matrix {
+    let mut rows: [[f32; 4]; 4 + 2 * AROUND] = std::array::from_fn(before);
+    let lent = rows[AROUND..AROUND + 4].as_mut().try_into();
+    let lent: &mut Rows = lent.expect("four rows");
+    let refusal = matrix_into(file, assembly, transform, lent);
     let (first, rest) = rows.split_at(AROUND);
     let (lent, last) = rest.split_at(4);
     if !kept(first, 0) || !kept(last, AROUND + 4) {
