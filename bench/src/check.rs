@@ -7,7 +7,7 @@ use mmtf_tests::corpus;
 use mmtf_tests::library::matrix::Matrix;
 use mmtf_tests::{independent, library};
 
-use crate::check_data::{million, HOSTILE};
+use crate::check_data::{HOSTILE, MILLION};
 use crate::timing::{compare, Times};
 use crate::{row, title};
 
@@ -18,14 +18,14 @@ pub fn tables() {
         let number = if *name == "4CUP-0.2" { 24 } else { 0 };
         row(name, file.len(), verdict(file, number));
     }
-    let made = million();
-    row(made.name, made.file.len(), verdict(&made.file, 0));
+    let file = (MILLION.build)();
+    row(MILLION.name, file.len(), verdict(&file, 0));
     println!();
     println!("The whole check of hostile files");
     title();
-    for (name, build) in HOSTILE {
-        let file = build();
-        row(name, file.len(), verdict(&file, 0));
+    for made in HOSTILE {
+        let file = (made.build)();
+        row(made.name, file.len(), verdict(&file, 0));
     }
     println!();
     println!("A matrix");

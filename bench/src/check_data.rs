@@ -14,26 +14,31 @@ use crate::workloads::LARGEST;
 /// The most atoms, groups and cells.
 const LIMIT: i32 = 16_777_216;
 
-/// A file with its name.
-pub struct Checked {
+/// A made file, built when it is its turn.
+pub struct Made {
     pub name: &'static str,
-    pub file: Vec<u8>,
+    pub build: fn() -> Vec<u8>,
 }
 
-/// Made files, built one at a time.
-pub const HOSTILE: &[(&str, fn() -> Vec<u8>)] = &[
-    ("14 columns of one run of 16,777,216", one_run),
-    ("the same, 5 of them with delta", one_run_with_delta),
-    ("group types up and down by delta", sawtooth),
-    ("4,096 group types with long lists", long_lists),
-    ("one group type of 13,000,000 atoms", one_large_type),
-    ("small maps in entityList", small_entities),
-    ("transforms in bioAssemblyList", many_transforms),
-    ("200 unknown fields of small values", unknown_fields),
-    ("64 MiB, an unknown binary", filled),
-    ("64 MiB, coordinates by codec 10", packed_coordinates),
-    ("64 MiB, names of chains", many_chains),
+pub const MILLION: Made = made("1,000,000 atoms", million);
+
+pub const HOSTILE: &[Made] = &[
+    made("14 columns of one run of 16,777,216", one_run),
+    made("the same, 5 of them with delta", one_run_with_delta),
+    made("group types up and down by delta", sawtooth),
+    made("4,096 group types with long lists", long_lists),
+    made("one group type of 13,000,000 atoms", one_large_type),
+    made("small maps in entityList", small_entities),
+    made("transforms in bioAssemblyList", many_transforms),
+    made("200 unknown fields of small values", unknown_fields),
+    made("64 MiB, an unknown binary", filled),
+    made("64 MiB, coordinates by codec 10", packed_coordinates),
+    made("64 MiB, names of chains", many_chains),
 ];
+
+const fn made(name: &'static str, build: fn() -> Vec<u8>) -> Made {
+    Made { name, build }
+}
 
 /// The values as a column, by the independent encoder.
 fn encoded<T: Element>(encoder: &Encoder<T>, header: [i32; 2], values: &[T]) -> Value {
@@ -47,7 +52,7 @@ fn encoded<T: Element>(encoder: &Encoder<T>, header: [i32; 2], values: &[T]) -> 
 
 /// A structure of a million atoms: 400 group types, some hundred chains, and
 /// columns by the codecs that structure files have.
-pub fn million() -> Checked {
+fn million() -> Vec<u8> {
     const ATOMS: usize = 1_000_000;
     let mut rng = Rng::new(2);
     let sizes: Vec<usize> = (0..400).map(|n| 1 + (7 * n + n / 9) % 24).collect();
@@ -118,10 +123,7 @@ pub fn million() -> Checked {
             encoded(&TO_INT32, [8, 0], &ids(&mut rng)[..groups.len()]),
         )
         .with("chainNameList", names(&b"A\0\0\0".repeat(chains)));
-    Checked {
-        name: "1,000,000 atoms",
-        file: file.bytes(),
-    }
+    file.bytes()
 }
 
 /// A group type whose atoms are bonded one to the next.
@@ -137,41 +139,41 @@ fn run(codec: i32, value: i32, length: i32) -> Value {
     Binary(numbers.map(i32::to_be_bytes).concat())
 }
 
-/// One chain with the most groups and atoms that there may be, every group of
-/// type 0; every column that can be is one run, the whole ones by this codec.
-fn of_runs(whole: i32) -> Sample {
-    let half = LIMIT / 2;
+/// One chain with so many groups of one atom, every group of type 0; every
+/// column that can be is one run, the whole ones by this codec.
+fn of_runs(whole: i32, cells: i32) -> Sample {
+    let half = cells / 2;
     Sample::new()
         .with("numBonds", Integer(half))
-        .with("numAtoms", Integer(LIMIT))
-        .with("numGroups", Integer(LIMIT))
+        .with("numAtoms", Integer(cells))
+        .with("numGroups", Integer(cells))
         .with("numChains", Integer(1))
         .with("groupList", Array(vec![group(1, None, None)]))
-        .with("xCoordList", run(9, 1, LIMIT))
-        .with("yCoordList", run(9, 2, LIMIT))
-        .with("zCoordList", run(9, 3, LIMIT))
-        .with("groupIdList", run(whole, 1, LIMIT))
-        .with("groupTypeList", run(whole, 0, LIMIT))
+        .with("xCoordList", run(9, 1, cells))
+        .with("yCoordList", run(9, 2, cells))
+        .with("zCoordList", run(9, 3, cells))
+        .with("groupIdList", run(whole, 1, cells))
+        .with("groupTypeList", run(whole, 0, cells))
         .with("chainIdList", names(b"A\0\0\0"))
-        .with("groupsPerChain", Value::integers(&[LIMIT]))
+        .with("groupsPerChain", Value::integers(&[cells]))
         .with("chainsPerModel", Value::integers(&[1]))
-        .with("bondAtomList", run(whole, 0, LIMIT))
+        .with("bondAtomList", run(whole, 0, cells))
         .with("bondOrderList", run(16, 1, half))
-        .with("bFactorList", run(9, 1, LIMIT))
-        .with("atomIdList", run(whole, 1, LIMIT))
-        .with("altLocList", run(6, 0, LIMIT))
-        .with("occupancyList", run(9, 100, LIMIT))
-        .with("secStructList", run(16, 7, LIMIT))
-        .with("insCodeList", run(6, 0, LIMIT))
-        .with("sequenceIdList", run(whole, 1, LIMIT))
+        .with("bFactorList", run(9, 1, cells))
+        .with("atomIdList", run(whole, 1, cells))
+        .with("altLocList", run(6, 0, cells))
+        .with("occupancyList", run(9, 100, cells))
+        .with("secStructList", run(16, 7, cells))
+        .with("insCodeList", run(6, 0, cells))
+        .with("sequenceIdList", run(whole, 1, cells))
 }
 
 fn one_run() -> Vec<u8> {
-    of_runs(7).bytes()
+    of_runs(7, LIMIT).bytes()
 }
 
 fn one_run_with_delta() -> Vec<u8> {
-    of_runs(8).bytes()
+    of_runs(8, LIMIT).bytes()
 }
 
 /// 4,096 types, which the groups go through upwards and downwards by runs of
@@ -188,7 +190,7 @@ fn sawtooth() -> Vec<u8> {
     }
     let column: Vec<u8> = numbers.into_iter().flat_map(i32::to_be_bytes).collect();
     let wrapping = [8, LIMIT, 0, -1, 1, i32::MIN, LIMIT - 1];
-    of_runs(8)
+    of_runs(8, LIMIT)
         .with("groupList", Array(vec![group(1, None, None); 4_096]))
         .with("groupTypeList", Binary(column))
         .with(
@@ -314,30 +316,10 @@ fn packed_coordinates() -> Vec<u8> {
     }
     let header = [10, ATOMS, 1000].map(i32::to_be_bytes).concat();
     let column = || Binary([&header[..], &payload].concat());
-    let sample = of_runs(7)
-        .without("bondAtomList")
-        .without("bondOrderList")
-        .with("numBonds", Integer(0))
-        .with("numAtoms", Integer(ATOMS))
-        .with("numGroups", Integer(ATOMS))
-        .with("groupsPerChain", Value::integers(&[ATOMS]))
+    let sample = of_runs(7, ATOMS)
         .with("xCoordList", column())
         .with("yCoordList", column())
         .with("zCoordList", column());
-    let shorter = [
-        ("groupIdList", 7),
-        ("groupTypeList", 7),
-        ("bFactorList", 9),
-        ("atomIdList", 7),
-        ("altLocList", 6),
-        ("occupancyList", 9),
-        ("secStructList", 16),
-        ("insCodeList", 6),
-        ("sequenceIdList", 7),
-    ];
-    let sample = shorter.into_iter().fold(sample, |sample, (name, codec)| {
-        sample.with(name, run(codec, 0, ATOMS))
-    });
     to_the_limit(&sample)
 }
 

@@ -210,6 +210,9 @@ fn rule_4_lengths() {
     );
 }
 
+/// A list of bonds that a type may have.
+type List = Option<&'static [i32]>;
+
 #[test]
 fn rule_5_lists_of_a_type() {
     let lists = |name: &str, value: Value| {
@@ -222,7 +225,7 @@ fn rule_5_lists_of_a_type() {
     lists("atomNameList", Array(vec![Value::text("C"); 2]));
     lists("elementList", Array(vec![]));
     lists("elementList", Array(vec![Value::text("C"); 2]));
-    let table: [(Option<&[i32]>, Option<&[i32]>, u8, &str); 16] = [
+    let table: [(List, List, u8, &str); 16] = [
         (Some(&[]), None, 0, "an empty list"),
         (Some(&[]), Some(&[]), 0, "two empty lists"),
         (Some(&[0]), None, 20, "one index"),

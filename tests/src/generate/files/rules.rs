@@ -23,7 +23,7 @@ pub enum Rule {
     /// 5: an order of a type's bond (22).
     TypeOrder(usize),
     /// 6: a group's type (21).
-    GroupType,
+    GroupIndex,
     /// 7: atoms (20).
     Atoms,
     /// 8: bonds, and the lists outside (20).
@@ -53,7 +53,7 @@ impl Rule {
             TypeLists(group),
             TypeIndex(group),
             TypeOrder(group),
-            Rule::GroupType,
+            GroupIndex,
             Atoms,
             Bonds,
             BondIndex,
@@ -84,7 +84,7 @@ impl Rule {
             TypeLists(_) => 5,
             TypeIndex(_) => 6,
             TypeOrder(_) => 7,
-            Rule::GroupType => 8,
+            GroupIndex => 8,
             Atoms => 9,
             Bonds => 10,
             BondIndex => 11,
@@ -105,7 +105,7 @@ impl Rule {
             TypeLists(group) => type_lists(rng, to.types.get_mut(group)?),
             TypeIndex(group) => type_index(rng, to.types.get_mut(group)?),
             TypeOrder(group) => type_order(rng, to.types.get_mut(group)?),
-            Rule::GroupType => group_type(rng, to),
+            GroupIndex => group_index(rng, to),
             Atoms => atoms(rng, to),
             Bonds => bonds(rng, to),
             BondIndex => bond_index(rng, to),
@@ -275,7 +275,7 @@ fn type_order(rng: &mut Rng, group: &mut GroupType) -> Option<u8> {
     Some(22)
 }
 
-fn group_type(rng: &mut Rng, to: &mut Structure) -> Option<u8> {
+fn group_index(rng: &mut Rng, to: &mut Structure) -> Option<u8> {
     let number = outside(rng, to.types.len() as i32);
     let column = to.column(GroupTypeList).as_mut()?;
     if column.is_empty() {
@@ -299,11 +299,8 @@ fn atoms(rng: &mut Rng, to: &mut Structure) -> Option<u8> {
         }
         1 => {
             for field in cells::COLUMNS {
-                let of_atoms = to.length(field) == Some(to.atoms as usize);
-                if of_atoms && is_of_atoms(field) {
-                    if let Some(column) = to.column(field) {
-                        column.push(0);
-                    }
+                if let (true, Some(column)) = (is_of_atoms(field), to.column(field)) {
+                    column.push(0);
                 }
             }
             to.atoms += 1;

@@ -168,14 +168,8 @@ pub fn near(rng: &mut Rng, name: &str) -> Vec<u8> {
     match rng.below(6) {
         0 => near.push(*rng.pick(b"s_1\0 ")),
         1 => drop(near.pop()),
-        2 => {
-            near[0] = near[0].to_ascii_uppercase()
-                ^ if near[0].is_ascii_uppercase() {
-                    0x20
-                } else {
-                    0
-                }
-        }
+        // The first letter in the other case.
+        2 => near[0] ^= 0x20,
         3 => near[last] ^= 1,
         4 => near.insert(0, *rng.pick(b"_ x")),
         _ => near[last / 2] ^= 2,
