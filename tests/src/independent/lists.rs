@@ -58,7 +58,9 @@ impl Integers {
 pub fn strings(reader: &mut Reader) -> Result<u64, Refusal> {
     let count = reader.array()?;
     for _ in 0..count {
-        reader.string()?;
+        if !reader.short_string() {
+            reader.string()?;
+        }
     }
     Ok(u64::from(count))
 }

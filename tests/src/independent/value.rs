@@ -121,6 +121,19 @@ impl<'a> Reader<'a> {
         }
     }
 
+    /// Passes over a string whose length stands in its lead byte, if the next
+    /// value is one.
+    #[inline]
+    pub fn short_string(&mut self) -> bool {
+        match *self.rest {
+            [lead @ 0xa0..=0xbf, ref rest @ ..] => {
+                self.rest = &rest[usize::from(lead & 0x1f)..];
+                true
+            }
+            _ => false,
+        }
+    }
+
     #[inline]
     fn lead(&mut self) -> u8 {
         let (&lead, rest) = self.rest.split_first().expect("a value stands here");
