@@ -369,6 +369,8 @@ fn rule_6_types_of_groups() {
         21,
         "rule 6 before rule 8",
     );
+    let odd = types(int32(&[0, 1, 2])).with("bondAtomList", int32(&[0]));
+    expect(&odd, 21, "rule 6 before the lists of rule 8");
     let none = types(int32(&[0, 1, 0])).with("groupList", Array(vec![]));
     expect(&none, 21, "no type");
 }

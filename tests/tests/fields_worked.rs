@@ -6,6 +6,7 @@ use mmtf_tests::check::made::{column, narrow, wide};
 use mmtf_tests::check::sample::*;
 use mmtf_tests::generate::files::{Heads, Value};
 use mmtf_tests::generate::Rng;
+use mmtf_tests::independent::{outer_keys, FIELDS};
 use Value::*;
 
 #[track_caller]
@@ -93,6 +94,18 @@ fn accepted() {
         0,
         "no bond outside",
     );
+}
+
+/// The full sample has the 39 names, in their order.
+#[test]
+fn all_names() {
+    let file = Sample::full().bytes();
+    let keys = outer_keys(&file).expect("an accepted container");
+    let named = [&REQUIRED[..], &["bondAtomList"], &OPTIONAL].concat();
+    let named: Vec<&[u8]> = named.iter().map(|name| name.as_bytes()).collect();
+    assert_eq!(keys, named);
+    assert_eq!(keys.len(), 39);
+    assert_eq!(named, FIELDS.map(|field| field.name().as_bytes()));
 }
 
 /// Nothing at all, but every required field.

@@ -158,7 +158,7 @@ fn corpus_fields(rng: &mut Rng) -> Vec<u8> {
             let number = Value::Integer(rng.below(500) as i32 - 20);
             entries[at].1 = number.bytes();
         }
-        // The third byte of a number in the header, or the fourth.
+        // A byte of the column's header, or one of the first behind it.
         _ => {
             let place = 2 + 4 * rng.below(4) + rng.below(4);
             if let Some(byte) = entries[at].1.get_mut(place) {
@@ -180,7 +180,7 @@ fn write_entries(rng: &mut Rng, entries: &[(Vec<u8>, Vec<u8>)]) -> Vec<u8> {
 }
 
 /// Around 4,096 group types, of which the last are used too; at times with a
-/// fault that comes earlier or later.
+/// fault that comes earlier or later, if of an index in the last type.
 fn many_types(rng: &mut Rng) -> FileCase {
     let mut size = Size::small(rng);
     size.types = *rng.pick(&[1, 4_095, 4_096, 4_096, 4_097, 4_097, 4_098]);
@@ -193,10 +193,9 @@ fn many_types(rng: &mut Rng) -> FileCase {
     }
     if rng.chance(1, 2) {
         let fault = Fault::any(rng, &structure);
-        let least_type = size.types.saturating_sub(2);
+        let last = size.types - 1;
         faults.push(match fault {
-            // At the end of the list.
-            Fault::Count(Rule::TypeIndex(_)) => Fault::Count(Rule::TypeIndex(least_type)),
+            Fault::Count(Rule::TypeIndex(_)) => Fault::Count(Rule::TypeIndex(last)),
             fault => fault,
         });
     }
