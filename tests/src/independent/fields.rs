@@ -26,9 +26,8 @@ macro_rules! fields {
             }
 
             fn named(key: &[u8]) -> Option<Field> {
-                let name = std::str::from_utf8(key).ok()?;
-                match name {
-                    $($name => Some(Field::$field),)*
+                match key {
+                    $(key if key == $name.as_bytes() => Some(Field::$field),)*
                     _ => None,
                 }
             }
