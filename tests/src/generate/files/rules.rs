@@ -154,7 +154,7 @@ fn range(rng: &mut Rng, to: &mut Structure) -> Option<u8> {
         // At times the sum stays the same.
         let next = (at + 1) % list.len();
         if least == -1 {
-            list[next] += list[at] + 1;
+            list[next] = list[next].saturating_add(list[at]).saturating_add(1);
         }
         list[at] = least;
         return Some(22);
