@@ -1,8 +1,8 @@
 /*
  * libmmtf.a: an MMTF reader whose calls are proved to meet their contracts.
  *
- * Today: the check of a file's container, views by name, matrices of transforms, and columns:
- * decoded, encoded, and one cell alone. For x86-64 Linux.
+ * Today: the check of a whole file and of its container alone, views by name, columns: decoded, encoded, and one cell alone,
+ * and the matrices of transforms. For x86-64 Linux.
  *
  * Every call takes any bytes and any numbers, and ends with an answer. It keeps nothing between calls, allocates nothing and
  * writes to nothing but its buffer and its out parameters, so threads may call at the same time. The answer is a refusal
@@ -72,10 +72,47 @@ enum mmtf_refusal {
  * levels, 256 entries in a map, integers of 32 bits with a sign, keys that are strings and differ within their map, and
  * strings in UTF-8. Else it answers the number of the first fault of a walk from the first byte, 1 to 11.
  *
- * This is not yet the check of the whole file: fields, columns and counts are not looked at, so that an answer 0 does not
- * say that the file is accepted as a structure.
+ * Fields, columns and counts are not looked at, so that an answer 0 does not say that the file is accepted as a structure:
+ * that is asked of mmtf_verdict.
  */
 uint8_t mmtf_container(const uint8_t *file, size_t n);
+
+/*
+ * Checks the whole file of n bytes: container, fields, columns and counts.
+ *
+ * Answers MMTF_ACCEPTED exactly if the file is accepted as a structure. Else the answer is the number of the first fault in
+ * this order:
+ * - The container's number, 1 to 11, as mmtf_container gives it.
+ * - MMTF_FIELD_MISSING: one of the 16 required fields is not an outer key. Keys are compared as bytes; fields that are not
+ *   named are skipped.
+ * - MMTF_FIELD_TYPE: a named field that is there is not of its type, at any place in it: a value of another kind, a number of
+ *   floats that is not just 6 (unitCell) or 16 (an operator, a matrix), or a required key missing in a map of groupList,
+ *   bioAssemblyList or entityList. An integer is no float. Keys that are not named are skipped there too.
+ * - MMTF_VERSION_NOT_1: mmtfVersion does not begin with "1." and a digit.
+ * - The columns' own numbers, MMTF_COLUMN_SHORT to MMTF_LENGTH_DIFFERS, column by column in the order of the fields, as the
+ *   decoders of their kinds give them; names in a field have 4 bytes each, and any other size is MMTF_HEADER_RANGE. Whether
+ *   fixed point numbers are exact in single precision is not asked.
+ * - MMTF_TOO_MANY_GROUP_TYPES: more than 4,096 group types.
+ * - MMTF_VALUE_OUTSIDE: numBonds, numAtoms, numGroups, numChains or numModels is not 0 to 16,777,216, or an entry of
+ *   groupsPerChain or chainsPerModel is below 0.
+ * - MMTF_COUNTS_DISAGREE: the entries of chainsPerModel are not numModels or do not add up to numChains; those of
+ *   groupsPerChain are not numChains or do not add up to numGroups; or a column of groups, chains or atoms has not as many
+ *   cells as there are of these.
+ * - Of each group type in turn, used or not: MMTF_COUNTS_DISAGREE, its three lists of atoms are not equally long, its
+ *   bondAtomList is odd, or its bondOrderList is not half of that or is there alone; MMTF_INDEX_OUTSIDE, a bond's index is
+ *   not inside its atoms; MMTF_VALUE_OUTSIDE, a bond's order is not 1 to 4.
+ * - MMTF_INDEX_OUTSIDE: an entry of groupTypeList is not inside groupList.
+ * - MMTF_COUNTS_DISAGREE: the atoms of each group's type, added over all groups, are not numAtoms.
+ * - MMTF_COUNTS_DISAGREE: the bonds likewise, with the pairs of the outer bondAtomList, are not numBonds; or that list is
+ *   odd, or the outer bondOrderList is not half of it or is there alone.
+ * - MMTF_INDEX_OUTSIDE: an index of the outer bondAtomList is not inside the atoms. Then MMTF_VALUE_OUTSIDE: an order of the
+ *   outer bondOrderList is not 1 to 4.
+ * - MMTF_VALUE_OUTSIDE: an entry of secStructList is not -1 to 7, or one of sequenceIdList is below -1.
+ * - MMTF_INDEX_OUTSIDE: an entry of a chainIndexList, of entityList or of bioAssemblyList, is not inside the chains.
+ *
+ * All sums are exact. An index is inside a table if it is 0 or more and below the table's size.
+ */
+uint8_t mmtf_verdict(const uint8_t *file, size_t n);
 
 /*
  * Finds the part of the file of n bytes that holds the value of the outer key whose m bytes are the name.
@@ -88,17 +125,6 @@ uint8_t mmtf_container(const uint8_t *file, size_t n);
  * container first: it relies on no earlier call.
  */
 uint8_t mmtf_view(const uint8_t *file, size_t n, const uint8_t *name, size_t m, uint64_t *start, uint64_t *length);
-
-/*
- * Hands over the matrix of a transform of the file of n bytes: the transform with that number, from 0 on, in the assembly with
- * that number, from 0 on, in bioAssemblyList.
- *
- * Answers MMTF_ACCEPTED, with the matrix's sixteen floats in the order of the file, rows[0] the first four. A float that is a
- * NaN comes as a NaN, and which one is left open. Else the answer is the container's number, 1 to 11; MMTF_NO_SUCH_FIELD where
- * there is no bioAssemblyList; MMTF_FIELD_TYPE where it has not its type, in whichever assembly; or MMTF_NO_SUCH_ENTRY where
- * there is no such assembly, or no such transform in it; and the rows are as they were. No other field is looked at.
- */
-uint8_t mmtf_matrix(const uint8_t *file, size_t n, uint64_t assembly, uint64_t transform, float rows[4][4]);
 
 /*
  * Columns. A column is the body of a binary field, as mmtf_view shows it: codec, length and parameter, 32 bits each with a
@@ -242,6 +268,21 @@ uint8_t mmtf_encode_fixed_point(int32_t codec, int32_t divisor, const int32_t *v
 
 /* Encodes m floats, given as their 32 bits, by codec 1. It holds all of them, bit for bit. */
 uint8_t mmtf_encode_float32(int32_t codec, const uint32_t *bits, size_t m, uint8_t *buffer, size_t room, uint64_t *written);
+
+/*
+ * Hands over the matrix of a transform of the file of n bytes: of the assembly with this number in bioAssemblyList, the
+ * transform with this number in its transformList, both counted from 0.
+ *
+ * Answers MMTF_ACCEPTED with the 16 floats by rows: rows[0] has the first four, and the translation is rows[0][3], rows[1][3],
+ * rows[2][3]. Each float comes with its bits, but a NaN only as a NaN. Else the rows are as they were, and the answer is the
+ * first of these that applies:
+ * - The container's number, 1 to 11.
+ * - MMTF_NO_SUCH_FIELD: there is no bioAssemblyList.
+ * - MMTF_FIELD_TYPE: bioAssemblyList is not of its type, at any place in it, whichever transform is asked for. No other field
+ *   is judged, and the chains of a transform are not compared with those of the file.
+ * - MMTF_NO_SUCH_ENTRY: there is no assembly of that number, or it has no transform of that number.
+ */
+uint8_t mmtf_matrix(const uint8_t *file, size_t n, uint64_t assembly, uint64_t transform, float rows[4][4]);
 
 #ifdef __cplusplus
 }

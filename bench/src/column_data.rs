@@ -47,7 +47,7 @@ pub fn measured() -> Vec<Measured> {
 }
 
 /// Numbers of atoms: rising by one, with a gap after some hundreds.
-fn ids(rng: &mut Rng) -> Vec<i32> {
+pub fn ids(rng: &mut Rng) -> Vec<i32> {
     let mut id = 0;
     let mut next = || {
         id += if rng.chance(1, 400) {
@@ -61,7 +61,7 @@ fn ids(rng: &mut Rng) -> Vec<i32> {
 }
 
 /// Hundredths, each repeated up to so many times.
-fn runs(rng: &mut Rng, most: usize) -> Vec<i32> {
+pub fn runs(rng: &mut Rng, most: usize) -> Vec<i32> {
     let mut values = Vec::with_capacity(CELLS);
     while values.len() < CELLS {
         let count = rng.within(1, most).min(CELLS - values.len());
@@ -72,7 +72,7 @@ fn runs(rng: &mut Rng, most: usize) -> Vec<i32> {
 }
 
 /// Thousandths of an angstrom from atom to atom, with a jump at some chains.
-fn walk(rng: &mut Rng) -> Vec<i32> {
+pub fn walk(rng: &mut Rng) -> Vec<i32> {
     let mut at = 0i32;
     let mut next = || {
         let most = if rng.chance(1, 2000) { 60_000 } else { 1_600 };

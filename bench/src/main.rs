@@ -1,6 +1,8 @@
 //! The same work by libmmtf.a and by the independent Rust, side by side.
-//! With the argument `container` or `columns`, that part alone.
+//! With the argument `container`, `columns` or `check`, that part alone.
 
+mod check;
+mod check_data;
 mod column_data;
 mod columns;
 mod timing;
@@ -8,7 +10,8 @@ mod workloads;
 
 use std::hint::black_box;
 
-use mmtf_tests::{check, corpus, independent, library};
+use mmtf_tests::check::agree_on_view;
+use mmtf_tests::{corpus, independent, library};
 use timing::{compare, Times};
 use workloads::{Hostile, HOSTILE, LARGEST};
 
@@ -19,14 +22,17 @@ fn main() {
     println!("Best of several repetitions, the two by turns, on the same input. Inputs are only");
     println!("read. Both write to the same buffer, which is not cleared between runs. Ratio:");
     println!("time by the library to time by the Rust.");
-    let part = std::env::args().nth(1);
-    if part.as_deref() != Some("columns") {
-        println!();
-        container();
-    }
-    if part.as_deref() != Some("container") {
-        println!();
-        columns::tables();
+    let asked = std::env::args().nth(1);
+    let parts: [(&str, fn()); 3] = [
+        ("container", container),
+        ("columns", columns::tables),
+        ("check", check::tables),
+    ];
+    for (part, tables) in parts {
+        if asked.as_deref().is_none_or(|asked| asked == part) {
+            println!();
+            tables();
+        }
     }
 }
 
@@ -109,7 +115,7 @@ fn views(name: &str, file: &[u8]) {
         ("absent key", b"no such field"),
     ];
     for (which, key) in asked {
-        check::agree_on_view(file, key).expect("both give the same part");
+        agree_on_view(file, key).expect("both give the same part");
         let times = compare(
             || {
                 black_box(library::view(black_box(file), black_box(key)));

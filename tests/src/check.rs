@@ -1,9 +1,12 @@
 //! Runs one file through the library and through the independent
-//! implementation, the container and views by name; columns stand in `columns`.
+//! implementation, the container and views by name; columns stand in `columns`,
+//! the whole check and matrices in `files`.
 
 pub mod calls;
 pub mod columns;
+pub mod files;
 pub mod made;
+pub mod sample;
 pub mod watch;
 
 use crate::independent;

@@ -22,7 +22,7 @@ pub const PUBLISHED: &[Named] = files!(
     "1IGT"
 );
 
-/// With 32-bit floats instead, smallest first: each accepted.
+/// With 32-bit floats instead, smallest first: each accepted as a container.
 pub const DERIVED: &[Named] =
     files!("derived", "4QXX", "3NJW", "1BNA", "173D", "1CAG", "4CUP-0.2", "1AUY", "1IGT", "4V5A");
 

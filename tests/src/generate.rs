@@ -4,6 +4,7 @@ pub mod columns;
 mod damage;
 mod document;
 mod families;
+pub mod files;
 mod rng;
 mod strings;
 

@@ -1,9 +1,11 @@
 //! The C calls of libmmtf.a, with safe wrappers.
 
 pub mod columns;
+pub mod matrix;
 
 extern "C" {
     fn mmtf_container(file: *const u8, n: usize) -> u8;
+    fn mmtf_verdict(file: *const u8, n: usize) -> u8;
     fn mmtf_view(
         file: *const u8,
         n: usize,
@@ -34,6 +36,12 @@ pub enum View {
 pub fn container(file: &[u8]) -> u8 {
     // SAFETY: the pointer and the length are those of a live slice.
     unsafe { mmtf_container(file.as_ptr(), file.len()) }
+}
+
+/// The refusal number of the whole file.
+pub fn verdict(file: &[u8]) -> u8 {
+    // SAFETY: the pointer and the length are those of a live slice.
+    unsafe { mmtf_verdict(file.as_ptr(), file.len()) }
 }
 
 /// The part of the file under an outer key.

@@ -1,10 +1,24 @@
-//! The container walk, views by name and columns, written from the format's
-//! rules alone, with nothing taken from the library that it is compared with.
+//! The container walk, views by name, columns, the whole check and transform
+//! matrices, written from the format's rules alone, with nothing taken from the
+//! library that it is compared with.
 
+mod check;
 pub mod columns;
+mod counts;
+mod fields;
+mod groups;
+mod lists;
+mod matrix;
 mod refusal;
 pub mod utf8;
+mod value;
 mod walk;
 
+pub use check::verdict;
+pub use fields::{Field, FIELDS, REQUIRED};
+pub use matrix::matrix;
 pub use refusal::Refusal;
-pub use walk::{container, outer_binaries, outer_keys, view, ENTRY_LIMIT, FILE_LIMIT, LEVEL_LIMIT};
+pub use walk::{
+    container, outer_binaries, outer_entries, outer_keys, view, ENTRY_LIMIT, FILE_LIMIT,
+    LEVEL_LIMIT,
+};

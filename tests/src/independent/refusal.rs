@@ -1,6 +1,6 @@
-//! The refusal numbers of the container, of views and of columns.
+//! The refusal numbers.
 
-/// Why a file, a view or a column is refused.
+/// Why a file, a view, a column or a matrix is refused.
 #[derive(Clone, Copy, Debug, PartialEq, Eq)]
 #[repr(u8)]
 pub enum Refusal {
@@ -15,12 +15,19 @@ pub enum Refusal {
     KeyRepeated = 9,
     OuterNotMap = 10,
     BytesAfter = 11,
+    FieldMissing = 12,
+    FieldType = 13,
     ColumnShort = 14,
     CodecUnknown = 15,
     HeaderRange = 16,
     PayloadSize = 17,
     NumberNotAllowed = 18,
     LengthDiffers = 19,
+    CountsDisagree = 20,
+    IndexOutside = 21,
+    ValueOutside = 22,
+    TooManyGroupTypes = 23,
+    VersionNotOne = 24,
     BufferTooSmall = 25,
     NoSuchField = 26,
     NotExact = 27,

@@ -14,7 +14,7 @@ pub const ENTRY_LIMIT: u32 = 256;
 
 type Step<T> = Result<T, Refusal>;
 
-/// A key, and the body of its value.
+/// A key, and its value or the body of that.
 pub type Entry<'a> = (&'a [u8], &'a [u8]);
 
 /// The refusal number of the container, 0 when it is accepted.
@@ -43,6 +43,21 @@ pub fn outer_keys(file: &[u8]) -> Result<Vec<&[u8]>, Refusal> {
     let mut keys = Vec::new();
     Walk::over(file, |key, _| keys.push(key))?;
     Ok(keys)
+}
+
+/// The outer keys of an accepted file, each with its value's bytes, in order.
+pub fn outer_entries(file: &[u8]) -> Result<Vec<Entry<'_>>, Refusal> {
+    let mut entries = Vec::new();
+    each_entry(file, |key, value| entries.push((key, value)))?;
+    Ok(entries)
+}
+
+/// Walks the whole file; `entry` gets each outer key and its value's bytes.
+pub fn each_entry<'a>(
+    file: &'a [u8],
+    mut entry: impl FnMut(&'a [u8], &'a [u8]),
+) -> Result<(), Refusal> {
+    Walk::over(file, |key, value| entry(key, &file[value]))
 }
 
 /// The outer keys of an accepted file whose values are binaries, each with the

@@ -26,6 +26,21 @@ impl Parts {
         }
     }
 
+    /// The parts of a column that has a whole header.
+    pub fn of(column: &[u8]) -> Option<Parts> {
+        let (header, payload) = column.split_first_chunk::<12>()?;
+        let field = |at: usize| {
+            let bytes = [0, 1, 2, 3].map(|place| header[at + place]);
+            i32::from_be_bytes(bytes)
+        };
+        Some(Parts {
+            codec: field(0),
+            length: field(4),
+            parameter: field(8),
+            payload: payload.to_vec(),
+        })
+    }
+
     pub fn bytes(&self) -> Vec<u8> {
         let mut bytes = Vec::with_capacity(12 + self.payload.len());
         for field in [self.codec, self.length, self.parameter] {

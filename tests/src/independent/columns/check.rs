@@ -53,11 +53,27 @@ fn gives(column: &Column, results: u64) -> Result<(), Refusal> {
 
 /// Bytes of names are ASCII, and only 0 bytes follow a 0 byte of a name.
 pub fn strings_allowed(bytes: &[u8], size: usize) -> Result<(), Refusal> {
-    let resumes = |name: &[u8]| name.windows(2).any(|pair| pair[0] == 0 && pair[1] != 0);
-    if !bytes.is_ascii() || bytes.chunks_exact(size).any(resumes) {
-        return Err(NumberNotAllowed);
+    let padded = match size {
+        4 => all_padded::<4>(bytes),
+        _ => !bytes.chunks_exact(size).any(resumes),
+    };
+    match padded && bytes.is_ascii() {
+        true => Ok(()),
+        false => Err(NumberNotAllowed),
     }
-    Ok(())
+}
+
+/// Whether a byte that is not 0 follows a 0 byte.
+#[inline]
+fn resumes(name: &[u8]) -> bool {
+    name.windows(2)
+        .fold(false, |any, pair| any | ((pair[0] == 0) & (pair[1] != 0)))
+}
+
+/// The same of names of a fixed size, which the compiler does many at a time.
+fn all_padded<const N: usize>(bytes: &[u8]) -> bool {
+    let (names, _) = bytes.as_chunks::<N>();
+    names.iter().fold(true, |all, name| all & !resumes(name))
 }
 
 /// The sum of the counts, which are at least 1.

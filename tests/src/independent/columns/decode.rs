@@ -174,7 +174,7 @@ fn write_unpacked_sums<W: Width, T>(payload: &[u8], out: &mut [T], of: impl Fn(i
 
 /// Gives each result of a packed payload.
 #[inline]
-fn unpack<W: Width>(payload: &[u8], mut each: impl FnMut(i32)) {
+pub fn unpack<W: Width>(payload: &[u8], mut each: impl FnMut(i32)) {
     let mut sum = 0i32;
     for number in W::numbers(payload) {
         sum += number;
@@ -188,7 +188,7 @@ fn unpack<W: Width>(payload: &[u8], mut each: impl FnMut(i32)) {
 /// Gives the sum of the results so far at each result of a packed payload: the
 /// sum of all its numbers so far.
 #[inline]
-fn unpack_sums<W: Width>(payload: &[u8], mut each: impl FnMut(i32)) {
+pub fn unpack_sums<W: Width>(payload: &[u8], mut each: impl FnMut(i32)) {
     let mut sum = 0i32;
     for number in W::numbers(payload) {
         sum = sum.wrapping_add(number);

@@ -9,7 +9,10 @@ use crate::independent::Refusal::{self, *};
 pub const HEADER: usize = 12;
 /// The most results of a column.
 pub const LENGTH_LIMIT: usize = 16_777_216;
+/// The size of names in a named field.
+const FIELD_STRING: i32 = 4;
 
+/// A column's header and payload.
 pub struct Column<'a> {
     pub codec: Codec,
     pub length: usize,
@@ -21,6 +24,16 @@ impl<'a> Column<'a> {
     /// A column whose payload has no fault, of a kind that is asked for.
     pub fn checked(bytes: &'a [u8], asked: impl Fn(Kind) -> bool) -> Result<Self, Refusal> {
         let column = Column::open(bytes, asked)?;
+        check::payload(&column)?;
+        Ok(column)
+    }
+
+    /// The same of a named field, whose names have just one size.
+    pub fn of_field(bytes: &'a [u8], asked: impl Fn(Kind) -> bool) -> Result<Self, Refusal> {
+        let column = Column::open(bytes, asked)?;
+        if column.codec.kind == Kind::Strings && column.parameter != FIELD_STRING {
+            return Err(HeaderRange);
+        }
         check::payload(&column)?;
         Ok(column)
     }

@@ -1,0 +1,90 @@
+//! The check of a whole file.
+
+use super::columns::{Column, Kind};
+use super::counts;
+use super::fields::{Fields, Typed};
+use super::Refusal;
+
+/// The refusal number of a file, 0 when it is accepted.
+pub fn verdict(file: &[u8]) -> u8 {
+    match accept(file) {
+        Ok(()) => 0,
+        Err(refusal) => refusal.number(),
+    }
+}
+
+fn accept(file: &[u8]) -> Result<(), Refusal> {
+    let fields = Fields::find(file)?;
+    let typed = Typed::read(&fields)?;
+    typed.version()?;
+    let columns = Columns::read(&typed)?;
+    counts::agree(&typed, &columns)
+}
+
+/// The columns, each without a fault.
+pub struct Columns<'a> {
+    pub coords: [Column<'a>; 3],
+    pub group_id: Column<'a>,
+    pub group_type: Column<'a>,
+    pub chain_id: Column<'a>,
+    pub bond_atom: Option<Column<'a>>,
+    pub bond_order: Option<Column<'a>>,
+    pub b_factor: Option<Column<'a>>,
+    pub atom_id: Option<Column<'a>>,
+    pub alt_loc: Option<Column<'a>>,
+    pub occupancy: Option<Column<'a>>,
+    pub sec_struct: Option<Column<'a>>,
+    pub ins_code: Option<Column<'a>>,
+    pub sequence_id: Option<Column<'a>>,
+    pub chain_name: Option<Column<'a>>,
+}
+
+impl<'a> Columns<'a> {
+    /// 14 to 19, in the order of the fields: the initialisers run in the order
+    /// in which they stand here.
+    fn read(typed: &Typed<'a>) -> Result<Columns<'a>, Refusal> {
+        let binaries = &typed.columns;
+        Ok(Columns {
+            coords: [
+                real(binaries.x_coord)?,
+                real(binaries.y_coord)?,
+                real(binaries.z_coord)?,
+            ],
+            group_id: whole(binaries.group_id)?,
+            group_type: whole(binaries.group_type)?,
+            chain_id: names(binaries.chain_id)?,
+            bond_atom: binaries.bond_atom.map(whole).transpose()?,
+            bond_order: binaries.bond_order.map(small).transpose()?,
+            b_factor: binaries.b_factor.map(real).transpose()?,
+            atom_id: binaries.atom_id.map(whole).transpose()?,
+            alt_loc: binaries.alt_loc.map(letters).transpose()?,
+            occupancy: binaries.occupancy.map(real).transpose()?,
+            sec_struct: binaries.sec_struct.map(small).transpose()?,
+            ins_code: binaries.ins_code.map(letters).transpose()?,
+            sequence_id: binaries.sequence_id.map(whole).transpose()?,
+            chain_name: binaries.chain_name.map(names).transpose()?,
+        })
+    }
+}
+
+fn real(bytes: &[u8]) -> Result<Column<'_>, Refusal> {
+    Column::of_field(bytes, |kind| {
+        matches!(kind, Kind::Float32 | Kind::FixedPoint)
+    })
+}
+
+fn whole(bytes: &[u8]) -> Result<Column<'_>, Refusal> {
+    Column::of_field(bytes, |kind| kind == Kind::Int32)
+}
+
+fn small(bytes: &[u8]) -> Result<Column<'_>, Refusal> {
+    Column::of_field(bytes, |kind| kind == Kind::Int8)
+}
+
+fn letters(bytes: &[u8]) -> Result<Column<'_>, Refusal> {
+    Column::of_field(bytes, |kind| kind == Kind::Chars)
+}
+
+fn names(bytes: &[u8]) -> Result<Column<'_>, Refusal> {
+    Column::of_field(bytes, |kind| kind == Kind::Strings)
+}
