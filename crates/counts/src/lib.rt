@@ -142,7 +142,14 @@ fn refusal_at(leads: &[u8; 256], file: &[u8], at: usize, wanted: Wanted) -> u8
 }
 
 // Whether the cells of the column at a place, which decodes, lie between two numbers; a place 0 has none.
-pub fn all_between(leads: &[u8; 256], file: &[u8], at: usize, wanted: Wanted, low: i32, high: i32) -> bool
+pub fn all_between(
+    leads: &[u8; 256],
+    file: &[u8],
+    at: usize,
+    wanted: Wanted,
+    low: i32,
+    high: i32,
+) -> bool
     ensures { λ r. ⌜ (now (leads .entry) ≡ leadTable → (o : Option Document) → PlaceSays (now (file .entry)) at o → Right wanted o → r ≡ allBetween low high (listIn (cellsIn wanted o))) ⌝ }
 {
     if at == 0 {

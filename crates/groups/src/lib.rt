@@ -40,7 +40,13 @@ pub struct List {
 }
 
 // The refusal by rule 5 of the first group type of the array at a place that has one, or 0 with the atoms and bonds of each type in the tables.
-pub fn groups(leads: &[u8; 256], file: &[u8], at: usize, atoms: &mut [u32; 4096], bonds: &mut [u32; 4096]) -> u8
+pub fn groups(
+    leads: &[u8; 256],
+    file: &[u8],
+    at: usize,
+    atoms: &mut [u32; 4096],
+    bonds: &mut [u32; 4096],
+) -> u8
     ensures { λ r. ⌜ (now (leads .entry) ≡ leadTable → length (now (file .entry)) ≤ fileLimit → length (now (atoms .entry)) ≡ 4096 → length (now (bonds .entry)) ≡ 4096 → (x : Document) (e : ℕ) → At (now (file .entry)) at x e → Tables (itemsOf x) (now (atoms .exit)) (now (bonds .exit)) r) ⌝ }
 {
     let part = values::items_at(leads, file, at);
@@ -235,11 +241,31 @@ fn note(key: &[u8], value: usize, places: Places) -> Places
     ensures { λ r. ⌜ r ≡ noted (now (key .entry)) value places ⌝ }
 {
     Places {
-        charges: pick(messagepack::same_bytes(key, b"formalChargeList"), value, places.charges),
-        names: pick(messagepack::same_bytes(key, b"atomNameList"), value, places.names),
-        elements: pick(messagepack::same_bytes(key, b"elementList"), value, places.elements),
-        bonds: pick(messagepack::same_bytes(key, b"bondAtomList"), value, places.bonds),
-        orders: pick(messagepack::same_bytes(key, b"bondOrderList"), value, places.orders),
+        charges: pick(
+            messagepack::same_bytes(key, b"formalChargeList"),
+            value,
+            places.charges,
+        ),
+        names: pick(
+            messagepack::same_bytes(key, b"atomNameList"),
+            value,
+            places.names,
+        ),
+        elements: pick(
+            messagepack::same_bytes(key, b"elementList"),
+            value,
+            places.elements,
+        ),
+        bonds: pick(
+            messagepack::same_bytes(key, b"bondAtomList"),
+            value,
+            places.bonds,
+        ),
+        orders: pick(
+            messagepack::same_bytes(key, b"bondOrderList"),
+            value,
+            places.orders,
+        ),
     }
 }
 

@@ -9,6 +9,7 @@ ghost use mir.Syntax.{w32};
 ghost use mir.Val.{toZ, ofZ};
 ghost use Rattle.messagepack.specs.Rules.{Container};
 ghost use Rattle.messagepack.specs.Walk.{containerNumber};
+ghost use Rattle.structure.specs.Accepted.{Accepted, verdictOf};
 ghost use Rattle.transforms.specs.Matrix.{matrixNumber, matrixOf};
 ghost use Rattle.columns.specs.Decode.{decode};
 ghost use Rattle.columns.specs.Encode.{encode};
@@ -33,6 +34,15 @@ pub extern "C" fn mmtf_container(file: &[u8]) -> u8
     ensures exactly { λ r. ⌜ (r ≡ 0) ↔ Container (now (file .entry)) ⌝ }
 {
     messagepack::container(file)
+}
+
+// The verdict on a file: 0 if it is accepted, else its refusal, 1 to 24.
+#[no_mangle]
+pub extern "C" fn mmtf_verdict(file: &[u8]) -> u8
+    ensures number { λ r. ⌜ r ≡ verdictOf (now (file .entry)) ⌝ }
+    ensures exactly { λ r. ⌜ (r ≡ 0) ↔ Accepted (now (file .entry)) ⌝ }
+{
+    structure::verdict(file)
 }
 
 // The place of the part of a file that shows an outer key's value; or the refusal, 1 to 11 or 26.

@@ -29,19 +29,33 @@ pub const TYPE_LIMIT: usize = 4_096;
 
 // The numbers of the fields that the rules of counts look at.
 const NUM_BONDS: usize = 2;
+
 const NUM_ATOMS: usize = 3;
+
 const NUM_GROUPS: usize = 4;
+
 const NUM_CHAINS: usize = 5;
+
 const NUM_MODELS: usize = 6;
+
 const GROUP_LIST: usize = 7;
+
 const GROUP_TYPE_LIST: usize = 12;
+
 const GROUPS_PER_CHAIN: usize = 14;
+
 const CHAINS_PER_MODEL: usize = 15;
+
 const BOND_ATOM_LIST: usize = 16;
+
 const BOND_ORDER_LIST: usize = 17;
+
 const SEC_STRUCT_LIST: usize = 22;
+
 const SEQUENCE_ID_LIST: usize = 24;
+
 const BIO_ASSEMBLY_LIST: usize = 37;
+
 const ENTITY_LIST: usize = 38;
 
 // The five num fields; one that is out of range is one above the limit.
@@ -104,7 +118,14 @@ fn counts_refusal(leads: &[u8; 256], file: &[u8], places: &[usize; 39]) -> u8
     if number != refusal::ACCEPTED {
         return number;
     }
-    if !counts::lengths_agree(leads, file, places, counts.atoms, counts.groups, counts.chains) {
+    if !counts::lengths_agree(
+        leads,
+        file,
+        places,
+        counts.atoms,
+        counts.groups,
+        counts.chains,
+    ) {
         return refusal::COUNTS_DISAGREE;
     }
     let number = groups_refusal(leads, file, places, types, counts);
@@ -205,7 +226,13 @@ fn counts_fit(counts: Counts) -> bool
 }
 
 // Rules 5 to 8: each group type, the groups that are of them, and the atoms and bonds that these add up to.
-fn groups_refusal(leads: &[u8; 256], file: &[u8], places: &[usize; 39], types: usize, counts: Counts) -> u8
+fn groups_refusal(
+    leads: &[u8; 256],
+    file: &[u8],
+    places: &[usize; 39],
+    types: usize,
+    counts: Counts,
+) -> u8
     ensures { λ r. ⌜ (now (leads .entry) ≡ leadTable → length (now (file .entry)) ≤ fileLimit → (es : Entries) → Facts (now (file .entry)) es (now (places .entry)) → CountsAre es counts → types ≡ typeCount es → types ≤ typeLimit → r ≡ groupsPart es) ⌝ }
 {
     let mut atoms = no_entries();
@@ -215,9 +242,22 @@ fn groups_refusal(leads: &[u8; 256], file: &[u8], places: &[usize; 39], types: u
         return number;
     }
     let int32 = Wanted::Only(Kind::Int32);
-    let sums = counts::totals(leads, file, places[GROUP_TYPE_LIST], int32, types, &atoms, &bonds);
+    let sums = counts::totals(
+        leads,
+        file,
+        places[GROUP_TYPE_LIST],
+        int32,
+        types,
+        &atoms,
+        &bonds,
+    );
     let outer = counts::list_at(leads, file, places[BOND_ATOM_LIST], int32);
-    let orders = counts::list_at(leads, file, places[BOND_ORDER_LIST], Wanted::Only(Kind::Int8));
+    let orders = counts::list_at(
+        leads,
+        file,
+        places[BOND_ORDER_LIST],
+        Wanted::Only(Kind::Int8),
+    );
     totals_refusal(sums, outer, orders, counts)
 }
 

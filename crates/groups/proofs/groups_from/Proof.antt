@@ -50,12 +50,15 @@ loop-less : tie.Need-loop-less Inv-loop μ-loop
 loop-less c = omega (arith, c .before .before .before .before .loop-test .taken)
 
 loop-again : tie.Need-loop-again Inv-loop μ-loop
-loop-again c =
-    (omega (arith, c .before .before .before .before .loop-test .taken), c .before .before .before .before .before .loop .inv .1, λ t l la lb ds e a k.
-    let v = c .before .before .before .before .before .loop .inv .2 t l la lb ds e a k in
-    let m = judged-next (v .2) (c .before .before .before .before .loop-test .taken) in
-    let g = c .before .before .before .group-at .ensures t l (m .x) (m .q) (m .first) in
-    (length-set (c .before .before .before .before .before .loop .atoms) (c .before .before .before .before .before .loop .i) (c .before .before .before .group-at .result .atoms) ∙ v .0, length-set (c .before .before .before .before .before .loop .bonds) (c .before .before .before .before .before .loop .i) (c .before .before .before .group-at .result .bonds) ∙ v .1, judged-more (v .2) (c .before .before .before .before .loop-test .taken) (c .before .before .before .group-at .result) g (c .before .if1 .left) (c .skip .ensures t (m .q) (at-standing (m .first))) (v .0) (v .1) (omega (arith, c .before .before .before .before .before .loop .inv .1, c .before .before .before .before .loop-test .taken))))
+loop-again c = (
+  omega (arith, c .before .before .before .before .loop-test .taken),
+  c .before .before .before .before .before .loop .inv .1,
+  λ t l la lb ds e a k.
+      let v = c .before .before .before .before .before .loop .inv .2 t l la lb ds e a k in
+      let m = judged-next (v .2) (c .before .before .before .before .loop-test .taken) in
+      let g = c .before .before .before .group-at .ensures t l (m .x) (m .q) (m .first) in
+      (length-set (c .before .before .before .before .before .loop .atoms) (c .before .before .before .before .before .loop .i) (c .before .before .before .group-at .result .atoms) ∙ v .0, length-set (c .before .before .before .before .before .loop .bonds) (c .before .before .before .before .before .loop .i) (c .before .before .before .group-at .result .bonds) ∙ v .1, judged-more (v .2) (c .before .before .before .before .loop-test .taken) (c .before .before .before .group-at .result) g (c .before .if1 .left) (c .skip .ensures t (m .q) (at-standing (m .first))) (v .0) (v .1) (omega (arith, c .before .before .before .before .before .loop .inv .1, c .before .before .before .before .loop-test .taken))),
+)
 
 returns-2 : tie.Need-returns-2 Inv-loop μ-loop
 returns-2 c =

@@ -13,10 +13,12 @@ returns : tie.Need-returns
 returns c = (omega arith, λ t o q. sym (ap listOf (place-none q (c .if1 .taken))))
 
 returns-2 : tie.Need-returns-2
-returns-2 c =
-    (c .items-at .ensures .0, λ t o q.
-    let d = place-some q (c .before .if1 .left) in
-    ap (λ (n : ℕ). record { there = true; count = n }) (sym (c .items-at .ensures .1 t (d .x) (d .end) (d .at) .counts)) ∙ sym (ap listOf (d .is)))
+returns-2 c = (
+  c .items-at .ensures .0,
+  λ t o q.
+      let d = place-some q (c .before .if1 .left) in
+      ap (λ (n : ℕ). record { there = true; count = n }) (sym (c .items-at .ensures .1 t (d .x) (d .end) (d .at) .counts)) ∙ sym (ap listOf (d .is)),
+)
 
 pub list-at-spec : {M : Type 1} → statement M
 list-at-spec =

@@ -17,17 +17,17 @@ returns-2 c = rw (not-false (c .before .before .before .before .before .args .su
 returns-3 : tie.Need-returns-3
 returns-3 c =
     let e = rw (c .before .before .before .wide2 .ensures, c .before .before .wide3 .ensures) at (sym (c .before .adds-up .ensures) ∙ not-true _ (c .if3 .taken)) in
-    rw (not-false (c .before .before .before .before .before .before .before .before .before .before .args .sums .inside) (c .before .before .before .before .before .before .before .before .if1 .left), eq-eqb _ _ (c .before .before .before .before .before .if2 .left ∙ c .before .before .before .before .before .before .before .wide .ensures),  e)
+    rw (not-false (c .before .before .before .before .before .before .before .before .before .before .args .sums .inside) (c .before .before .before .before .before .before .before .before .if1 .left), eq-eqb _ _ (c .before .before .before .before .before .if2 .left ∙ c .before .before .before .before .before .before .before .wide .ensures), e)
 
 returns-4 : tie.Need-returns-4
 returns-4 c =
     let e = rw (c .before .before .before .before .before .wide2 .ensures, c .before .before .before .before .wide3 .ensures) at (sym (c .before .before .before .adds-up .ensures) ∙ not-false _ (c .before .before .if3 .left)) in
-    rw (not-false (c .before .before .before .before .before .before .before .before .before .before .before .before .args .sums .inside) (c .before .before .before .before .before .before .before .before .before .before .if1 .left), eq-eqb _ _ (c .before .before .before .before .before .before .before .if2 .left ∙ c .before .before .before .before .before .before .before .before .before .wide .ensures),  e, sym (c .before .lists-agree .ensures) ∙ not-true _ (c .if4 .taken))
+    rw (not-false (c .before .before .before .before .before .before .before .before .before .before .before .before .args .sums .inside) (c .before .before .before .before .before .before .before .before .before .before .if1 .left), eq-eqb _ _ (c .before .before .before .before .before .before .before .if2 .left ∙ c .before .before .before .before .before .before .before .before .before .wide .ensures), e, sym (c .before .lists-agree .ensures) ∙ not-true _ (c .if4 .taken))
 
 returns-5 : tie.Need-returns-5
 returns-5 c =
     let e = rw (c .before .before .before .before .before .wide2 .ensures, c .before .before .before .before .wide3 .ensures) at (sym (c .before .before .before .adds-up .ensures) ∙ not-false _ (c .before .before .if3 .left)) in
-    rw (not-false (c .before .before .before .before .before .before .before .before .before .before .before .before .args .sums .inside) (c .before .before .before .before .before .before .before .before .before .before .if1 .left), eq-eqb _ _ (c .before .before .before .before .before .before .before .if2 .left ∙ c .before .before .before .before .before .before .before .before .before .wide .ensures),  e, sym (c .before .lists-agree .ensures) ∙ not-false _ (c .if4 .left))
+    rw (not-false (c .before .before .before .before .before .before .before .before .before .before .before .before .args .sums .inside) (c .before .before .before .before .before .before .before .before .before .before .if1 .left), eq-eqb _ _ (c .before .before .before .before .before .before .before .if2 .left ∙ c .before .before .before .before .before .before .before .before .before .wide .ensures), e, sym (c .before .lists-agree .ensures) ∙ not-false _ (c .if4 .left))
 
 pub totals-refusal-spec : {M : Type 1} → statement M
 totals-refusal-spec =
