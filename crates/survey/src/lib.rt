@@ -148,10 +148,11 @@ fn check_payload(payload: &[u8], n: usize, m: u32, kind: Kind, form: Form, delta
     requires { ⌜ (isStrings kind ≡ false) × (isNames form ≡ false) ⌝ }
     ensures { λ r. ⌜ r ≡ checkedOf (judgedPayload (Header.Good n m kind form delta) (now (payload .entry))) ⌝ }
 {
-    match payloads::scan(payload, form, delta, n, 0) {
-        Outcome::Refused(r) => Checked::Refused(r),
-        Outcome::Fine(_, _) => Checked::Good(n, m),
+    let number = payloads::refusal_of(payload, form, n);
+    if number != refusal::ACCEPTED {
+        return Checked::Refused(number);
     }
+    Checked::Good(n, m)
 }
 
 // Whether all results of a payload lie between two numbers, by a loop of its form's own.
