@@ -60,8 +60,33 @@ pub fn skip(leads: &[u8; 256], file: &[u8], at: usize) -> usize
     p
 }
 
-// A step over the head of the value at a place, and the body of a string or a binary.
+// A step over the value at a place: the commonest, integers and strings whose head is their lead byte, are found with no table.
 fn step_over(leads: &[u8; 256], file: &[u8], at: usize) -> Over
+    ensures { λ r. ⌜ (now (leads .entry) ≡ leadTable → Stepped (now (file .entry)) at r) ⌝ }
+{
+    if at < file.len() {
+        let b = file[at];
+        if b < 0x80 {
+            return Over::On(at + 1, 0);
+        }
+        if b < 0xa0 {
+            return step_by_table(leads, file, at);
+        }
+        if b < 0xc0 {
+            return past(file, wide(b - 0xa0), at + 1);
+        }
+    }
+    step_by_table(leads, file, at)
+}
+
+fn wide(x: u8) -> usize
+    ensures { λ r. ⌜ r ≡ x ⌝ }
+{
+    x as usize
+}
+
+// A step over the head of the value at a place, and the body of a string or a binary, by the table of lead bytes.
+fn step_by_table(leads: &[u8; 256], file: &[u8], at: usize) -> Over
     ensures { λ r. ⌜ (now (leads .entry) ≡ leadTable → Stepped (now (file .entry)) at r) ⌝ }
 {
     let Head::At(n, p) = heads::head_at(leads, file, at) else {

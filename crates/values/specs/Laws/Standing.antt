@@ -10,7 +10,7 @@ use native.Mathlib.Nat.{add-zero, zero-add, suc-add, add-assoc}
 use lib.Dec.{leb}
 use lib.IntN.{ℤ}
 use borrow.Author.Tests.{leb-true, leb-false}
-use lib.ListN.{length, drop, length-append}
+use lib.ListN.{length, getD, drop, length-append}
 use Rattle.numbers.specs.BigEndian.{bytesOf}
 use Rattle.heads.specs.Lead.{moreOf}
 use Rattle.heads.specs.Head.{HeadOf, kindAt, headAt}
@@ -18,7 +18,8 @@ use Rattle.heads.specs.declared.Kind.{Kind}
 use Rattle.heads.specs.declared.Head.{Head}
 use Rattle.heads.specs.Span.{Span}
 use Rattle.heads.specs.Laws.Span.{span-join, follows, fits}
-use Rattle.heads.specs.Laws.Head.{Told, head-told, head-inside}
+use Rattle.heads.specs.Laws.Head.{Told, head-told, head-inside, kind-in, head-held}
+use Rattle.heads.specs.Laws.Table.{Alone, low-lead, string-lead}
 use Rattle.messagepack.specs.Document.{Document, Documents, Entries, integer, float, string, binary, array, map, none, item, empty, entry, count, size, UnsignedOf, SignedOf, TextOf, Writes, WritesAll, WritesEntries}
 use Rattle.values.specs.Standing.{Standing, pastOver, pairsOver, Stepped, on, stop}
 use Rattle.values.specs.declared.Over.{Over}
@@ -300,3 +301,15 @@ stands s at x w v wr d = record { is = d ∙ ap (λ (y : List ℕ). w ++ y) (sym
 
 pub stands-one : (s : List ℕ) (at : ℕ) (x : Document) (w v : List ℕ) → Writes x w → drop at s ≡ w ++ v → Standing s 1 at (at + length w)
 stands-one s at x w v wr d = standing-one s at (at + length w) x w wr (stands s at x w v wr d)
+
+-- steps over values whose head is their lead byte
+
+module _ (s : List ℕ) (p : ℕ) (lt : p < length s) where
+  alone-head : {k : Kind} {n : ℕ} → Alone k (getD s p 0) n → (kindAt s p ≡ k) × (headAt s p ≡ Head.At n (p + 1))
+  alone-head l = (kind-in s p lt ∙ l .kind, sym (head-held s p {size = 1} (rw (l .more)) refl (omega arith) (sym (l .held))))
+
+  pub steps-low : getD s p 0 < 0x80 → Stepped s p (Over.On (p + 1) 0)
+  steps-low h = let a = alone-head (low-lead (getD s p 0) h) in steps-on s p (a .1) (a .0) (omega arith)
+
+  pub steps-short : {o : Over} {n : ℕ} → 0xa0 ≤ getD s p 0 → getD s p 0 < 0xc0 → n ≡ getD s p 0 - 0xa0 → o ≡ pastOver (length s) n (p + 1) → Stepped s p o
+  steps-short l h e q = let a = alone-head (string-lead (getD s p 0) l h) in steps-past s p (a .1) (a .0) refl refl (q ∙ ap (λ (m : ℕ). pastOver (length s) m (p + 1)) e)
