@@ -1,18 +1,17 @@
 -- What the functions inside this crate say of a group type at a place. No lemma stands here. Assumes nothing.
 use mathlib.Core.Path.{_≡_}
 use mathlib.Core.Bool.{Bool, true, false, cond, _&&_}
-use mathlib.Core.List.{List}
+use mathlib.Core.List.{List, [], _∷_}
 use mathlib.Core.Option.{Option, some, none as nothing}
 use Prim.Native.Nat.{ℕ, zero, suc, _*_, _%_, _≤_, _<_}
 use lib.Dec.{eqb}
 use lib.IntN.{ℤ, pos, negsuc}
-use lib.ListN.{length, getD}
-use Rattle.refusal.specs.Table.{accepted}
-use Rattle.messagepack.specs.Document.{Document, Documents, Entries, count}
+use Rattle.refusal.specs.Table.{accepted, tooManyGroupTypes}
+use Rattle.messagepack.specs.Document.{Document, Documents, Entries, none, item, count}
 use Rattle.messagepack.specs.Walk.{equal}
 use Rattle.fields.specs.Types.{bytesIn, look}
 use Rattle.fields.specs.Noted.{PlaceSays}
-use Rattle.groups.specs.Group.{under, itemsIn, atomsOf, bondsOf, groupNumber, groupsNumber, each}
+use Rattle.groups.specs.Group.{under, itemsIn, atomsOf, bondsOf, groupNumber, groupsNumber}
 use Rattle.groups.specs.declared.Places.{Places}
 use Rattle.groups.specs.declared.Group.{Group}
 use Rattle.groups.specs.declared.List as l
@@ -65,8 +64,15 @@ pub record GroupSays (x : Document) (r : Group) : Type 0 where
   pub atoms : r .refusal ≡ accepted → r .atoms ≡ atomsOf x
   pub bonds : r .refusal ≡ accepted → r .bonds ≡ bondsOf x
 
--- the answer for group types: rule 5's number, and where it is 0 the tables begin with the atoms and the bonds of each
-pub record Tables (types : Documents) (atoms bonds : List ℕ) (r : ℕ) : Type 0 where
+-- a table after group types: it begins with a number of each type that rule 5 passes, up to the first that it refuses; beyond it is as before
+unfoldable pub tableOf : (Document → ℕ) → Documents → List ℕ → List ℕ
+tableOf f none old = old
+tableOf f (item x types) [] = []
+tableOf f (item x types) (o ∷ old) = cond (eqb (groupNumber x) accepted) (f x ∷ tableOf f types old) (o ∷ old)
+
+-- the answer for group types: rule 5's number, and what the tables of atoms and bonds hold; 23 for too many types, with the tables as before
+pub record Tables (types : Documents) (old-atoms old-bonds atoms bonds : List ℕ) (r : ℕ) : Type 0 where
   pub number : count types ≤ 4096 → r ≡ groupsNumber types
-  pub atoms-of : count types ≤ 4096 → r ≡ accepted → (i : ℕ) → i < count types → getD atoms i 0 ≡ getD (each atomsOf types) i 0
-  pub bonds-of : count types ≤ 4096 → r ≡ accepted → (i : ℕ) → i < count types → getD bonds i 0 ≡ getD (each bondsOf types) i 0
+  pub atoms-are : count types ≤ 4096 → atoms ≡ tableOf atomsOf types old-atoms
+  pub bonds-are : count types ≤ 4096 → bonds ≡ tableOf bondsOf types old-bonds
+  pub many : 4096 < count types → (r ≡ tooManyGroupTypes) × (atoms ≡ old-atoms) × (bonds ≡ old-bonds)

@@ -47,7 +47,7 @@ pub fn groups(
     atoms: &mut [u32; 4096],
     bonds: &mut [u32; 4096],
 ) -> u8
-    ensures { λ r. ⌜ (now (leads .entry) ≡ leadTable → length (now (file .entry)) ≤ fileLimit → length (now (atoms .entry)) ≡ 4096 → length (now (bonds .entry)) ≡ 4096 → (x : Document) (e : ℕ) → At (now (file .entry)) at x e → Tables (itemsOf x) (now (atoms .exit)) (now (bonds .exit)) r) ⌝ }
+    ensures { λ r. ⌜ (now (leads .entry) ≡ leadTable → length (now (file .entry)) ≤ fileLimit → length (now (atoms .entry)) ≡ 4096 → length (now (bonds .entry)) ≡ 4096 → (x : Document) (e : ℕ) → At (now (file .entry)) at x e → Tables (itemsOf x) (now (atoms .entry)) (now (bonds .entry)) (now (atoms .exit)) (now (bonds .exit)) r) ⌝ }
 {
     let part = values::items_at(leads, file, at);
     if 4096 < part.count {
@@ -66,7 +66,7 @@ fn groups_from(
     bonds: &mut [u32; 4096],
 ) -> u8
     requires { ⌜ n ≤ 4096 ⌝ }
-    ensures { λ r. ⌜ (now (leads .entry) ≡ leadTable → length (now (file .entry)) ≤ fileLimit → length (now (atoms .entry)) ≡ 4096 → length (now (bonds .entry)) ≡ 4096 → (ds : Documents) (e : ℕ) → AtAll (now (file .entry)) at ds e → count ds ≡ n → Tables ds (now (atoms .exit)) (now (bonds .exit)) r) ⌝ }
+    ensures { λ r. ⌜ (now (leads .entry) ≡ leadTable → length (now (file .entry)) ≤ fileLimit → length (now (atoms .entry)) ≡ 4096 → length (now (bonds .entry)) ≡ 4096 → (ds : Documents) (e : ℕ) → AtAll (now (file .entry)) at ds e → count ds ≡ n → Tables ds (now (atoms .entry)) (now (bonds .entry)) (now (atoms .exit)) (now (bonds .exit)) r) ⌝ }
 {
     let mut i: usize = 0;
     let mut p = at;

@@ -14,7 +14,7 @@ returns c =
     λ t l la lb x e a.
     let i = c .before .before .items-at .ensures .1 t x e a in
     let out : count (itemsOf x) ≤ 4096 → ⊥ = λ w. omega (arith, i .counts, c .if1 .taken) in
-    record { number = λ w. absurd (out w); atoms-of = λ w. absurd (out w); bonds-of = λ w. absurd (out w) }
+    record { number = λ w. absurd (out w); atoms-are = λ w. absurd (out w); bonds-are = λ w. absurd (out w); many = λ w. (refl, refl, refl) }
 
 returns-2 : tie.Need-returns-2
 returns-2 c =

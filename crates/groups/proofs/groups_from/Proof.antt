@@ -15,7 +15,7 @@ use Rattle.groups.proofs.groups_from.Statement.{statement}
 use Rattle.groups.proofs.groups_from.Tie as tie
 
 abbrev Inv-loop : tie.InvT-loop
-Inv-loop leads file n at atoms₀ bonds₀ i₀ p₀ atoms bonds i p = (i ≤ n) × (n ≤ 4096) × (leads ≡ leadTable → length file ≤ fileLimit → length atoms₀ ≡ 4096 → length bonds₀ ≡ 4096 → (ds : Documents) (e : ℕ) → AtAll file at ds e → count ds ≡ n → (length atoms ≡ 4096) × (length bonds ≡ 4096) × Judged file ds i n p e atoms bonds)
+Inv-loop leads file n at atoms₀ bonds₀ i₀ p₀ atoms bonds i p = (i ≤ n) × (n ≤ 4096) × (leads ≡ leadTable → length file ≤ fileLimit → length atoms₀ ≡ 4096 → length bonds₀ ≡ 4096 → (ds : Documents) (e : ℕ) → AtAll file at ds e → count ds ≡ n → (length atoms ≡ 4096) × (length bonds ≡ 4096) × Judged file ds i n p e atoms₀ bonds₀ atoms bonds)
 
 abbrev μ-loop : tie.MeasureT-loop
 μ-loop leads file n at atoms₀ bonds₀ i₀ p₀ atoms bonds i p = n - i
@@ -29,7 +29,8 @@ returns c =
     let v = c .before .before .before .before .loop .inv .2 t l la lb ds e a k in
     let m = judged-next (v .2) (c .before .before .before .loop-test .taken) in
     let g = c .before .before .group-at .ensures t l (m .x) (m .q) (m .first) in
-    record { number = λ w. judged-refused (v .2) (c .before .before .before .loop-test .taken) _ (c .if1 .taken) (g .number); atoms-of = λ w r. absurd (c .if1 .taken r); bonds-of = λ w r. absurd (c .if1 .taken r) }
+    let w = c .before .before .before .before .loop .inv .1 in
+    judged-refused (v .2) (c .before .before .before .loop-test .taken) _ (c .if1 .taken) (g .number) (omega (arith, v .0, c .before .before .before .loop-test .taken)) (omega (arith, v .1, c .before .before .before .loop-test .taken)) (omega arith)
 
 mul-atoms : tie.Need-mul-atoms Inv-loop μ-loop
 mul-atoms c = record { fits = omega (arith, c .before .before .before .before .loop .inv .1, c .before .before .before .loop-test .taken) }
@@ -57,14 +58,16 @@ loop-again c = (
       let v = c .before .before .before .before .before .loop .inv .2 t l la lb ds e a k in
       let m = judged-next (v .2) (c .before .before .before .before .loop-test .taken) in
       let g = c .before .before .before .group-at .ensures t l (m .x) (m .q) (m .first) in
-      (length-set (c .before .before .before .before .before .loop .atoms) (c .before .before .before .before .before .loop .i) (c .before .before .before .group-at .result .atoms) ∙ v .0, length-set (c .before .before .before .before .before .loop .bonds) (c .before .before .before .before .before .loop .i) (c .before .before .before .group-at .result .bonds) ∙ v .1, judged-more (v .2) (c .before .before .before .before .loop-test .taken) (c .before .before .before .group-at .result) g (c .before .if1 .left) (c .skip .ensures t (m .q) (at-standing (m .first))) (v .0) (v .1) (omega (arith, c .before .before .before .before .before .loop .inv .1, c .before .before .before .before .loop-test .taken))),
+      let w = c .before .before .before .before .before .loop .inv .1 in
+      (length-set (c .before .before .before .before .before .loop .atoms) (c .before .before .before .before .before .loop .i) (c .before .before .before .group-at .result .atoms) ∙ v .0, length-set (c .before .before .before .before .before .loop .bonds) (c .before .before .before .before .before .loop .i) (c .before .before .before .group-at .result .bonds) ∙ v .1, judged-more (v .2) (c .before .before .before .before .loop-test .taken) (c .before .before .before .group-at .result) g (c .before .if1 .left) (c .skip .ensures t (m .q) (at-standing (m .first))) (omega (arith, v .0, c .before .before .before .before .loop-test .taken)) (omega (arith, v .1, c .before .before .before .before .loop-test .taken))),
 )
 
 returns-2 : tie.Need-returns-2 Inv-loop μ-loop
 returns-2 c =
     λ t l la lb ds e a k.
     let v = c .before .loop .inv .2 t l la lb ds e a k in
-    judged-end (v .2) k (c .loop-test .left)
+    let w = c .before .loop .inv .1 in
+    judged-end (v .2) k (c .loop-test .left) (omega (arith, k))
 
 pub groups-from-spec : {M : Type 1} → statement M
 groups-from-spec =

@@ -2,17 +2,17 @@
 -- Assumes nothing.
 use mathlib.Core.Path.{_≡_, refl, sym, ap, ap₂, subst, _∙_}
 use mathlib.Core.Bool.{Bool, true, false, cond, _&&_}
-use mathlib.Core.List.{List, [], _∷_}
+use mathlib.Core.List.{List, [], _∷_, _++_, append-assoc}
 use mathlib.Core.Option.{Option, some, none as nothing}
 use Prim.Native.Nat.{ℕ, zero, suc, _+_, _-_, _*_, _/_, _%_, _≤_, _<_}
 use native.Mathlib.Omega.{arith}
-use native.Mathlib.Nat.{zero-add, add-zero}
+use native.Mathlib.Numerals.{add-one}
 use lib.Dec.{eqb, leb, ltb}
 use lib.IntN.{ℤ, pos, negsuc}
 use lib.Signed.{leZ}
-use lib.ListN.{length, getD, take, drop, set}
-use lib.Seq.{getD-set-same, getD-set-other}
-use borrow.Author.Tests.{eq-eqb, ne-eqb, eqb-true, eqb-false, le-leb, lt-leb, lt-ltb, le-ltb, ltb-true, ltb-false}
+use lib.ListN.{length, getD, take, drop, set, take-append-drop}
+use lib.Seq.{drop-cons, drop-set-lt, take-suc-set}
+use borrow.Author.Tests.{eq-eqb, ne-eqb, le-leb, lt-leb, lt-ltb, le-ltb, ltb-true, ltb-false}
 use Rattle.refusal.specs.Table.{accepted, countsDisagree, indexOutside, valueOutside}
 use Rattle.messagepack.specs.Document.{Document, Documents, Entries, none, item, count, size}
 use Rattle.values.specs.Parts.{itemsOf, entriesOf}
@@ -27,7 +27,7 @@ use Rattle.lists.specs.Laws.Integers.{length-integers}
 use Rattle.keys.specs.Seeking.{Seeking}
 use Rattle.keys.specs.Laws.Seeking.{Turn, seeking-start, seeking-end, seeking-turn}
 use Rattle.groups.specs.Group.{under, itemsIn, integersIn, listIn, bondsAgree, pairs, ordersRight, atomsOf, bondAtomsOf, bondOrdersOf, bondsOf, listsAgree, bondsInside, groupNumber, orElse, groupsNumber, each}
-use Rattle.groups.specs.Steps.{PlacesIn, noted, listOf, agrees, lastIndex, Tables, GroupSays}
+use Rattle.groups.specs.Steps.{PlacesIn, noted, listOf, agrees, lastIndex, tableOf, Tables, GroupSays}
 use Rattle.groups.specs.declared.Places.{Places}
 use Rattle.groups.specs.declared.Group as g
 
@@ -163,27 +163,16 @@ seek-end rest k l = record {
 }
 
 -- rule 5 over the types: the first i of them are fine and stand in the tables, and the others are left
-pub record Judged (s : List ℕ) (types : Documents) (i n p e : ℕ) (atoms bonds : List ℕ) : Type 0 where
+pub record Judged (s : List ℕ) (types : Documents) (i n p e : ℕ) (old-atoms old-bonds atoms bonds : List ℕ) : Type 0 where
   pub rest : Documents
   pub all : AtAll s p rest e
   pub counts : i + count rest ≡ n
   pub number : groupsNumber types ≡ groupsNumber rest
-  pub atoms-done : (j : ℕ) → j < i → getD atoms j 0 ≡ getD (each atomsOf types) j 0
-  pub bonds-done : (j : ℕ) → j < i → getD bonds j 0 ≡ getD (each bondsOf types) j 0
-  pub atoms-left : (j : ℕ) → getD (each atomsOf types) (i + j) 0 ≡ getD (each atomsOf rest) j 0
-  pub bonds-left : (j : ℕ) → getD (each bondsOf types) (i + j) 0 ≡ getD (each bondsOf rest) j 0
+  pub atoms-are : tableOf atomsOf types old-atoms ≡ take i atoms ++ tableOf atomsOf rest (drop i atoms)
+  pub bonds-are : tableOf bondsOf types old-bonds ≡ take i bonds ++ tableOf bondsOf rest (drop i bonds)
 
-pub judged-start : {s : List ℕ} {types : Documents} {n p e : ℕ} {atoms bonds : List ℕ} → AtAll s p types e → count types ≡ n → Judged s types 0 n p e atoms bonds
-judged-start {types = types} a c = record {
-  rest = types;
-  all = a;
-  counts = omega arith;
-  number = refl;
-  atoms-done = λ j l. absurd (omega arith);
-  bonds-done = λ j l. absurd (omega arith);
-  atoms-left = λ j. ap (λ (m : ℕ). getD (each atomsOf types) m 0) (zero-add j);
-  bonds-left = λ j. ap (λ (m : ℕ). getD (each bondsOf types) m 0) (zero-add j);
-}
+pub judged-start : {s : List ℕ} {types : Documents} {n p e : ℕ} {atoms bonds : List ℕ} → AtAll s p types e → count types ≡ n → Judged s types 0 n p e atoms bonds atoms bonds
+judged-start {types = types} a c = record { rest = types; all = a; counts = omega arith; number = refl; atoms-are = refl; bonds-are = refl }
 
 -- the next type
 pub record NextType (s : List ℕ) (p e : ℕ) (rest : Documents) : Type 0 where
@@ -199,20 +188,38 @@ unfolding count
 next-type none a l = absurd (omega arith)
 next-type (item x ds) a l = let o = open-item a in record { x = x; after = ds; is = refl; q = o .q; first = o .first; all = o .rest }
 
-module _ {s : List ℕ} {types : Documents} {i n p e : ℕ} {atoms bonds : List ℕ} (k : Judged s types i n p e atoms bonds) (lt : i < n) where
+-- a table at its place i: the next type is fine, or refused
+table-fine : (f : Document → ℕ) (x : Document) (after : Documents) (old : List ℕ) (i v : ℕ) → i < length old → groupNumber x ≡ accepted → v ≡ f x → take i old ++ tableOf f (item x after) (drop i old) ≡ take (i + 1) (set old i v) ++ tableOf f after (drop (i + 1) (set old i v))
+unfolding tableOf
+table-fine f x after old i v lt z e =
+    rw (add-one, drop-cons old i 0 lt, z, take-suc-set old i v lt, drop-set-lt (suc i) old i v (omega arith), append-assoc (take i old) (v ∷ []) (tableOf f after (drop (suc i) old)), e)
+
+table-refused : (f : Document → ℕ) (x : Document) (after : Documents) (old : List ℕ) (i : ℕ) → i < length old → (groupNumber x ≡ accepted → ⊥) → take i old ++ tableOf f (item x after) (drop i old) ≡ old
+unfolding tableOf
+table-refused f x after old i lt h = rw (drop-cons old i 0 lt, ne-eqb (groupNumber x) accepted h) (ap (λ (l : List ℕ). take i old ++ l) (sym (drop-cons old i 0 lt)) ∙ take-append-drop i old)
+
+module _ {s : List ℕ} {types : Documents} {i n p e : ℕ} {old-atoms old-bonds atoms bonds : List ℕ} (k : Judged s types i n p e old-atoms old-bonds atoms bonds) (lt : i < n) where
   pub judged-next : NextType s p e (k .rest)
   judged-next = next-type (k .rest) (k .all) (omega (arith, k .counts))
 
   -- a type that is refused decides
-  pub judged-refused : (r : ℕ) → (r ≡ accepted → ⊥) → r ≡ groupNumber (judged-next .x) → r ≡ groupsNumber types
+  pub judged-refused : (r : ℕ) → (r ≡ accepted → ⊥) → r ≡ groupNumber (judged-next .x) → i < length atoms → i < length bonds → count types ≤ 4096 → Tables types old-atoms old-bonds atoms bonds r
   unfolding groupsNumber
-  judged-refused zero h q = absurd (h refl)
-  judged-refused (suc r) h q = sym (k .number ∙ ap groupsNumber (judged-next .is) ∙ ap (λ (m : ℕ). orElse m (groupsNumber (judged-next .after))) (sym q))
+  judged-refused r h q la lb few = record {
+    number = λ l. refused r h q;
+    atoms-are = λ l. sym (k .atoms-are ∙ ap (λ (z : Documents). take i atoms ++ tableOf atomsOf z (drop i atoms)) (judged-next .is) ∙ table-refused atomsOf (judged-next .x) (judged-next .after) atoms i la (λ z. h (q ∙ z)));
+    bonds-are = λ l. sym (k .bonds-are ∙ ap (λ (z : Documents). take i bonds ++ tableOf bondsOf z (drop i bonds)) (judged-next .is) ∙ table-refused bondsOf (judged-next .x) (judged-next .after) bonds i lb (λ z. h (q ∙ z)));
+    many = λ l. absurd (omega arith);
+  }
+    where
+      refused : (r : ℕ) → (r ≡ accepted → ⊥) → r ≡ groupNumber (judged-next .x) → r ≡ groupsNumber types
+      refused zero h q = absurd (h refl)
+      refused (suc r) h q = sym (k .number ∙ ap groupsNumber (judged-next .is) ∙ ap (λ (m : ℕ). orElse m (groupsNumber (judged-next .after))) (sym q))
 
   -- a type that is fine stands in the tables
-  pub judged-more : {q : ℕ} (g : g.Group) → GroupSays (judged-next .x) g → g .refusal ≡ accepted → q ≡ judged-next .q → length atoms ≡ 4096 → length bonds ≡ 4096 → i < 4096 → Judged s types (i + 1) n q e (set atoms i (g .atoms)) (set bonds i (g .bonds))
-  unfolding groupsNumber count each
-  judged-more {q} g says fine end la lb li =
+  pub judged-more : {q : ℕ} (g : g.Group) → GroupSays (judged-next .x) g → g .refusal ≡ accepted → q ≡ judged-next .q → i < length atoms → i < length bonds → Judged s types (i + 1) n q e old-atoms old-bonds (set atoms i (g .atoms)) (set bonds i (g .bonds))
+  unfolding groupsNumber count
+  judged-more {q} g says fine end la lb =
       let m = judged-next in
       let c : i + suc (count (m .after)) ≡ n = sym (ap (λ (z : Documents). i + count z) (m .is)) ∙ k .counts in
       let z : groupNumber (m .x) ≡ accepted = sym (says .number) ∙ fine in
@@ -221,38 +228,36 @@ module _ {s : List ℕ} {types : Documents} {i n p e : ℕ} {atoms bonds : List 
         all = subst (λ (j : ℕ). AtAll s j (m .after) e) (sym end) (m .all);
         counts = omega arith;
         number = k .number ∙ ap groupsNumber (m .is) ∙ ap (λ (v : ℕ). orElse v (groupsNumber (m .after))) z;
-        atoms-done = λ j l. placed atoms (each atomsOf types) (g .atoms) la (k .atoms-done) (says .atoms fine ∙ sym (first atomsOf (k .atoms-left))) j l;
-        bonds-done = λ j l. placed bonds (each bondsOf types) (g .bonds) lb (k .bonds-done) (says .bonds fine ∙ sym (first bondsOf (k .bonds-left))) j l;
-        atoms-left = λ j. shifted atomsOf (k .atoms-left) j;
-        bonds-left = λ j. shifted bondsOf (k .bonds-left) j;
+        atoms-are = k .atoms-are ∙ ap (λ (d : Documents). take i atoms ++ tableOf atomsOf d (drop i atoms)) (m .is) ∙ table-fine atomsOf (m .x) (m .after) atoms i (g .atoms) la z (says .atoms fine);
+        bonds-are = k .bonds-are ∙ ap (λ (d : Documents). take i bonds ++ tableOf bondsOf d (drop i bonds)) (m .is) ∙ table-fine bondsOf (m .x) (m .after) bonds i (g .bonds) lb z (says .bonds fine);
       }
-    where
-      first : (f : Document → ℕ) → ((j : ℕ) → getD (each f types) (i + j) 0 ≡ getD (each f (k .rest)) j 0) → getD (each f types) i 0 ≡ f (judged-next .x)
-      first f h = ap (λ (m : ℕ). getD (each f types) m 0) (sym (add-zero i)) ∙ h 0 ∙ ap (λ (z : Documents). getD (each f z) 0 0) (judged-next .is)
 
-      shifted : (f : Document → ℕ) → ((j : ℕ) → getD (each f types) (i + j) 0 ≡ getD (each f (k .rest)) j 0) → (j : ℕ) → getD (each f types) (i + 1 + j) 0 ≡ getD (each f (judged-next .after)) j 0
-      shifted f h j =
-          let w : i + 1 + j ≡ i + suc j = omega arith in
-          ap (λ (m : ℕ). getD (each f types) m 0) w ∙ h (suc j) ∙ ap (λ (z : Documents). getD (each f z) (suc j) 0) (judged-next .is)
-
-      placed : (old full : List ℕ) (v : ℕ) → length old ≡ 4096 → ((j : ℕ) → j < i → getD old j 0 ≡ getD full j 0) → v ≡ getD full i 0 → (j : ℕ) → j < i + 1 → getD (set old i v) j 0 ≡ getD full j 0
-      placed old full v l h q j lt = go (eqb j i) refl
-        where
-          go : (b : Bool) → eqb j i ≡ b → getD (set old i v) j 0 ≡ getD full j 0
-          go true t = let w : j ≡ i = eqb-true j i t in rw w (getD-set-same old i v 0 (omega arith) ∙ q)
-          go false t = let w = eqb-false j i t in getD-set-other old i j v 0 w ∙ h j (omega arith)
-
-pub judged-end : {s : List ℕ} {types : Documents} {i n p e : ℕ} {atoms bonds : List ℕ} → Judged s types i n p e atoms bonds → count types ≡ n → n ≤ i → Tables types atoms bonds accepted
-unfolding groupsNumber count
-judged-end {s} {types} {i} {n} {p} {e} {atoms} {bonds} k c le = record {
-  number = λ l. sym (k .number ∙ none-left (k .rest) (k .counts));
-  atoms-of = λ l r j lt. k .atoms-done j (omega arith);
-  bonds-of = λ l r j lt. k .bonds-done j (omega arith);
-}
+pub judged-end : {s : List ℕ} {types : Documents} {i n p e : ℕ} {old-atoms old-bonds atoms bonds : List ℕ} → Judged s types i n p e old-atoms old-bonds atoms bonds → count types ≡ n → n ≤ i → count types ≤ 4096 → Tables types old-atoms old-bonds atoms bonds accepted
+unfolding groupsNumber count tableOf
+judged-end {s} {types} {i} {n} {p} {e} {old-atoms} {old-bonds} {atoms} {bonds} k c le few = go (k .rest) (k .counts) (k .number) (k .atoms-are) (k .bonds-are)
   where
-    none-left : (rest : Documents) → i + count rest ≡ n → groupsNumber rest ≡ accepted
-    none-left none q = refl
-    none-left (item x ds) q = absurd (omega arith)
+    go : (rest : Documents) → i + count rest ≡ n → groupsNumber types ≡ groupsNumber rest → tableOf atomsOf types old-atoms ≡ take i atoms ++ tableOf atomsOf rest (drop i atoms) → tableOf bondsOf types old-bonds ≡ take i bonds ++ tableOf bondsOf rest (drop i bonds) → Tables types old-atoms old-bonds atoms bonds accepted
+    go none q r x y = record { number = λ l. sym r; atoms-are = λ l. sym (x ∙ take-append-drop i atoms); bonds-are = λ l. sym (y ∙ take-append-drop i bonds); many = λ l. absurd (omega arith) }
+    go (item d ds) q r x y = absurd (omega arith)
+
+first-zero : (n m : ℕ) → orElse n m ≡ accepted → n ≡ accepted
+first-zero zero m q = refl
+first-zero (suc n) m q = q
+
+-- where all types pass, a table begins with a number of each
+pub table-each : (f : Document → ℕ) (types : Documents) (old : List ℕ) → groupsNumber types ≡ accepted → count types ≤ length old → (i : ℕ) → i < count types → getD (tableOf f types old) i 0 ≡ getD (each f types) i 0
+unfolding groupsNumber count tableOf each
+table-each f none old z l i lt = absurd (omega arith)
+table-each f (item x types) [] z l i lt = absurd (omega arith)
+table-each f (item x types) (o ∷ old) z l zero lt = rw (first-zero (groupNumber x) (groupsNumber types) z)
+table-each f (item x types) (o ∷ old) z l (suc i) lt = rw (first-zero (groupNumber x) (groupsNumber types) z) (table-each f types old (rw (first-zero (groupNumber x) (groupsNumber types) z) at z) (omega arith) i (omega arith))
+
+module _ {types : Documents} {old-atoms old-bonds atoms bonds : List ℕ} {r : ℕ} (t : Tables types old-atoms old-bonds atoms bonds r) (few : count types ≤ 4096) (z : r ≡ accepted) where
+  pub atoms-each : length old-atoms ≡ 4096 → (i : ℕ) → i < count types → getD atoms i 0 ≡ getD (each atomsOf types) i 0
+  atoms-each l i lt = ap (λ (v : List ℕ). getD v i 0) (t .atoms-are few) ∙ table-each atomsOf types old-atoms (sym (t .number few) ∙ z) (omega arith) i lt
+
+  pub bonds-each : length old-bonds ≡ 4096 → (i : ℕ) → i < count types → getD bonds i 0 ≡ getD (each bondsOf types) i 0
+  bonds-each l i lt = ap (λ (v : List ℕ). getD v i 0) (t .bonds-are few) ∙ table-each bondsOf types old-bonds (sym (t .number few) ∙ z) (omega arith) i lt
 
 pub none-ordered : ordersRight nothing ≡ true
 unfolding allPass

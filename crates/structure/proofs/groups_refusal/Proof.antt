@@ -13,6 +13,7 @@ use Rattle.fields.specs.Fields.{fieldAt}
 use Rattle.groups.specs.Group.{itemsIn, listIn, groupsNumber, bondsAgree, pairs}
 use Rattle.groups.specs.Steps.{agrees, Tables}
 use Rattle.groups.specs.declared.List as list
+use Rattle.groups.specs.Laws.Group.{atoms-each, bonds-each}
 use Rattle.columns.specs.declared.Kind.the-variants.{Int8, Int32}
 use Rattle.columns.specs.declared.Wanted.the-variants.{Only}
 use Rattle.survey.specs.Cells.{TotalsOf}
@@ -49,7 +50,7 @@ returns-2 c =
     let orders = c .before .list-at2 .ensures t (fieldAt 17 es) (f .places-of .says 17 (lit< tt)) (right-at es (f .right) 7 (lit< tt)) in
     let p = ap (λ (v : list.List). v .count / 2) outer ∙ pairs-cells (fieldAt 16 es) (right-at es (f .right) 6 (lit< tt)) ∙ ap (λ (o : Option Document). pairs (cellsIn (Only Int32) o)) (n .bondAtomList) in
     let q = ap₂ (λ (u v : list.List). agrees (u .there) (u .count) (v .there) (v .count)) outer orders ∙ agree-cells (fieldAt 16 es) (fieldAt 17 es) (right-at es (f .right) 6 (lit< tt)) (right-at es (f .right) 7 (lit< tt)) ∙ ap₂ (λ (u v : Option Document). bondsAgree (cellsIn (Only Int32) u) (cellsIn (Only Int8) v)) (n .bondAtomList) (n .bondOrderList) in
-    let a = totals-are es (c .before .before .before .before .before .before .before .before .before .before .before .before .before .before .before .before .before .args .counts) (c .before .before .before .before .before .totals .result) (c .before .before .before .list-at .result) (c .before .list-at2 .result) _ _ k (rw (ty, n .groupTypeList) at sums) (rw i at (s .atoms-of w z)) (rw i at (s .bonds-of w z)) p q in
+    let a = totals-are es (c .before .before .before .before .before .before .before .before .before .before .before .before .before .before .before .before .before .args .counts) (c .before .before .before .before .before .totals .result) (c .before .before .before .list-at .result) (c .before .list-at2 .result) _ _ k (rw (ty, n .groupTypeList) at sums) (rw i at (atoms-each s w z (c .before .before .before .before .before .before .before .before .before .before .before .before .before .before .before .no-entries .ensures))) (rw i at (bonds-each s w z (c .before .before .before .before .before .before .before .before .before .before .before .before .before .before .no-entries2 .ensures))) p q in
     c .totals-refusal .ensures ∙ a ∙ groups-fine es (sym (rw i at (s .number w)) ∙ z)
 
 pub groups-refusal-spec : {M : Type 1} → statement M
