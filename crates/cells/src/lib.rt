@@ -1,7 +1,7 @@
 // One cell of a column of any kind, in one pass over the payload: nothing is copied.
 ghost use mathlib.Core.Path.{_≡_};
 ghost use mathlib.Core.Bool.{true, false};
-ghost use Prim.Native.Nat.{ℕ, _≤_};
+ghost use Prim.Native.Nat.{ℕ};
 ghost use Rattle.columns.specs.Decode.{decode, judgedPayload};
 ghost use Rattle.payloads.specs.Items.{isNames};
 ghost use Rattle.decoding.specs.Calls.{asByte};
@@ -35,17 +35,13 @@ pub fn cell_at(column: &[u8], index: usize) -> Cell
 
 // The refusal of a payload of strings whose header passed: its own, else 15.
 fn strings_refusal(payload: &[u8], n: usize, size: u32) -> Cell
-    requires { ⌜ (n ≤ 16777216) × (size ≤ 255) ⌝ }
     ensures { λ r. ⌜ ((i : ℕ) → r ≡ cellOf (judgedPayload (Header.Good n size Kind.Strings Form.Names false) (now (payload .entry))) i) ⌝ }
 {
-    let m = size as usize;
-    if !decoding::is_padded(payload, m) {
-        return Cell::Refused(refusal::NUMBER_NOT_ALLOWED);
+    let number = decoding::names_refusal(payload, n, size as usize);
+    if number != refusal::ACCEPTED {
+        return Cell::Refused(number);
     }
-    match payloads::scan(payload, Form::Names, false, n * m, 0) {
-        Outcome::Refused(r) => Cell::Refused(r),
-        Outcome::Fine(_, _) => Cell::Refused(refusal::CODEC_UNKNOWN),
-    }
+    Cell::Refused(refusal::CODEC_UNKNOWN)
 }
 
 // The cell of a payload whose header passed, of a kind that has cells.

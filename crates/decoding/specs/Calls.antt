@@ -1,16 +1,16 @@
 -- What a decoder answers, and what it leaves in the lent buffer: both functions of what the column decodes to. No lemma stands here:
 -- the laws are in Laws/Calls.antt. Assumes nothing.
 use mathlib.Core.Path.{_≡_}
-use mathlib.Core.Bool.{Bool, true, false, cond, not, _||_}
+use mathlib.Core.Bool.{Bool, true, false, cond}
 use mathlib.Core.Option.{some}
 use mathlib.Core.List.{List, _++_, map}
 use Prim.Native.Nat.{ℕ, _%_}
 use lib.ListN.{length, drop}
 use lib.IntN.{ℤ}
-use lib.Dec.{eqb, leb}
+use lib.Dec.{leb}
 use mir.Syntax.{w32}
 use mir.Val.{toZ, ofZ}
-use Rattle.refusal.specs.Table.{bufferTooSmall}
+use Rattle.refusal.specs.Table.{accepted, bufferTooSmall}
 use Rattle.codecs.specs.declared.Form.{Form}
 use Rattle.codecs.specs.declared.Form.the-variants.{Plain, Packed, Runs, Names}
 use Rattle.codecs.specs.Delta.{sumsIf}
@@ -52,6 +52,7 @@ countOf (fixed.Refused r) = decoded.Refused r
 abbrev pub Wrote : {B : Type 0} → (ℤ → B) → Form → Bool → List ℕ → List B → List B → Type 0
 Wrote element f d s old new = (l : List ℤ) → readIn f s ≡ some l → new ≡ map element (sumsIf d l) ++ drop (length l) old
 
--- whether a byte may stand at a place of a name after the byte before
-abbrev pub mayFollow : ℕ → ℕ → ℕ → Bool
-mayFollow place before byte = eqb place 0 || not (eqb before 0) || eqb byte 0
+-- the refusal of a column, or 0
+abbrev pub refusalIn : Decoding → ℕ
+refusalIn (refused r) = r
+refusalIn (column k m l) = accepted

@@ -3,16 +3,14 @@
 ghost use mathlib.Core.Path.{_≡_};
 ghost use mathlib.Core.Bool.{true, false};
 ghost use mathlib.Core.List.{_++_};
-ghost use Prim.Native.Nat.{_+_, _%_, _<_, _≤_};
+ghost use Prim.Native.Nat.{_+_, _*_, _<_, _≤_};
 ghost use lib.ListN.{length, drop};
-ghost use lib.IntN.{pos};
-ghost use Rattle.codecs.specs.Numbers.{numbersIn};
-ghost use Rattle.codecs.specs.Payload.{paddedFrom};
+ghost use lib.Dec.{eqb};
 ghost use Rattle.columns.specs.Table.{suits};
 ghost use Rattle.columns.specs.Decode.{decode, judgedPayload};
 ghost use Rattle.payloads.specs.Items.{isNames};
 ghost use Rattle.payloads.specs.Results.{Filled, HasRoom, HasResults, Covered};
-ghost use Rattle.decoding.specs.Calls.{told, toldFixed, left, asNumber, asByte, countOf, Wrote, mayFollow};
+ghost use Rattle.decoding.specs.Calls.{told, toldFixed, left, asNumber, asByte, countOf, Wrote, refusalIn};
 use codecs::Form;
 use codecs::Range;
 use codecs::Size;
@@ -388,64 +386,44 @@ pub fn low_byte(number: i32) -> u8
 
 // The bytes of a payload of strings whose header passed.
 fn strings_in(payload: &[u8], n: usize, size: u32, kind: Kind, buffer: &mut [u8]) -> Fixed
-    requires { ⌜ (0 < size) × (size ≤ 255) × (n ≤ 16777216) ⌝ }
     ensures answer { λ r. ⌜ r ≡ toldFixed (judgedPayload (Header.Good n size kind Form.Names false) (now (payload .entry))) (length (now (buffer .entry))) ⌝ }
     ensures buffer { λ r. ⌜ now (buffer .exit) ≡ left asByte (judgedPayload (Header.Good n size kind Form.Names false) (now (payload .entry))) (now (buffer .entry)) ⌝ }
 {
-    let m = size as usize;
-    if !is_padded(payload, m) {
-        return Fixed::Refused(refusal::NUMBER_NOT_ALLOWED);
+    let number = names_refusal(payload, n, size as usize);
+    if number != refusal::ACCEPTED {
+        return Fixed::Refused(number);
     }
-    match payloads::scan(payload, Form::Names, false, n * m, 0) {
-        Outcome::Refused(r) => Fixed::Refused(r),
-        Outcome::Fine(_, _) => {
-            if buffer.len() < payload.len() {
-                return Fixed::Refused(refusal::BUFFER_TOO_SMALL);
-            }
-            copy(payload, buffer);
-            Fixed::Column(payload.len(), numbers::to_i32(size))
-        }
+    if buffer.len() < payload.len() {
+        return Fixed::Refused(refusal::BUFFER_TOO_SMALL);
     }
+    copy(payload, buffer);
+    Fixed::Column(payload.len(), numbers::to_i32(size))
 }
 
-// Whether names of a size are padded: after a 0 byte a name has only 0 bytes.
-pub fn is_padded(payload: &[u8], size: usize) -> bool
-    ensures { λ r. ⌜ r ≡ paddedFrom size 0 (pos 0) (numbersIn Size.One (now (payload .entry))) ⌝ }
+// The refusal of a payload of n names of a size each, or 0, in one pass.
+pub fn names_refusal(payload: &[u8], n: usize, size: usize) -> u8
+    ensures { λ r. ⌜ ((kind : Kind) → r ≡ refusalIn (judgedPayload (Header.Good n size kind Form.Names false) (now (payload .entry)))) ⌝ }
 {
-    let mut before: u8 = 0;
-    let mut place: usize = 0;
-    let mut i: usize = 0;
-    while i < payload.len() {
-        let byte = payload[i];
-        if !may_follow(place, before, byte) {
-            return false;
-        }
-        place = next_place(place, size);
-        before = byte;
-        i += 1;
+    if !writers::are_names(payload, size) {
+        return refusal::NUMBER_NOT_ALLOWED;
     }
-    true
+    if !is_product(payload.len(), n, size) {
+        return refusal::LENGTH_DIFFERS;
+    }
+    refusal::ACCEPTED
 }
 
-// Whether a byte may stand at a place of a name after the byte before.
-fn may_follow(place: usize, before: u8, byte: u8) -> bool
-    ensures { λ r. ⌜ r ≡ mayFollow place before byte ⌝ }
+// Whether a length is n times a size; the product itself may be too large.
+fn is_product(length: usize, n: usize, size: usize) -> bool
+    ensures { λ r. ⌜ r ≡ eqb length (n * size) ⌝ }
 {
-    if place == 0 {
-        return true;
+    if size == 0 {
+        return length == 0;
     }
-    if before != 0 {
-        return true;
+    if length % size != 0 {
+        return false;
     }
-    byte == 0
-}
-
-// The place after a place of names of a size.
-fn next_place(place: usize, size: usize) -> usize
-    requires { ⌜ (place % size ≡ place) × (place < 18446744073709551615) ⌝ }
-    ensures { λ r. ⌜ r ≡ (place + 1) % size ⌝ }
-{
-    if place + 1 == size { 0 } else { place + 1 }
+    length / size == n
 }
 
 // Copies bytes to the buffer's start.

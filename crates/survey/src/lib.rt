@@ -20,7 +20,6 @@ use columns::Kind;
 use columns::Parameter;
 use columns::Wanted;
 use payloads::Item;
-use payloads::Outcome;
 
 // The length and the parameter of a column that decodes, or its refusal.
 pub enum Checked {
@@ -131,16 +130,13 @@ fn is_other_size(codec: Codec, parameter: u32, wanted: Wanted) -> bool
 
 // The answer for a payload of names of 4 bytes whose header passed.
 fn check_strings(payload: &[u8], n: usize) -> Checked
-    requires { ⌜ n ≤ 16777216 ⌝ }
     ensures { λ r. ⌜ r ≡ checkedOf (judgedPayload (Header.Good n 4 Kind.Strings Form.Names false) (now (payload .entry))) ⌝ }
 {
-    if !decoding::is_padded(payload, 4) {
-        return Checked::Refused(refusal::NUMBER_NOT_ALLOWED);
+    let number = decoding::names_refusal(payload, n, 4);
+    if number != refusal::ACCEPTED {
+        return Checked::Refused(number);
     }
-    match payloads::scan(payload, Form::Names, false, n * 4, 0) {
-        Outcome::Refused(r) => Checked::Refused(r),
-        Outcome::Fine(_, _) => Checked::Good(n, 4),
-    }
+    Checked::Good(n, 4)
 }
 
 // The answer for a payload of another kind whose header passed.

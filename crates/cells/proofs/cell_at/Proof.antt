@@ -46,9 +46,6 @@ strings c =
     let p = passed (c .before .before .before) .3 in
     strings-row (unsignedAt 4 (c .before .before .before .before .before .before .before .args .column .now) 0) (k .1 .1 .0) (k .1 .1 .1 .0) (k .1 .1 .1 .1 .0) (p .0) (p .1) (k .1 .0) (ap hasCells (c .enum-told .given .1)) (p .2)
 
-strings-refusal-requires : tie.Need-strings-refusal-requires
-strings-refusal-requires c κs = (passed (c .before .before .before .before) .1, strings (c .before) .2)
-
 cell-in-requires : tie.Need-cell-in-requires
 cell-in-requires c κs =
     let k = c .before .before .before .n .given .0 in
@@ -93,7 +90,7 @@ cell-at-spec =
     (λ c. passed (c .before .before .before) .0)
     (λ c. passed (c .before .before .before) .0)
     (λ c. search needs)
-    strings-refusal-requires
+    (λ c κs. search needs)
     (λ c. passed (c .before .before) .0)
     (λ c. passed (c .before .before) .0)
     (λ c. search needs)

@@ -1,7 +1,7 @@
 -- The header's refusal, or the count of the payload's answer.
 use mathlib.Core.Path.{_≡_, sym, ap, ap₂, _∙_}
 use mathlib.Core.Bool.{Bool, false}
-use Prim.Native.Nat.{_-_, _<_, _≤_}
+use Prim.Native.Nat.{_-_, _≤_}
 use lib.ListN.{length, take, drop}
 use borrow.Author.Needs.{needs}
 use Rattle.columns.specs.declared.Kind.the-variants as kind
@@ -33,16 +33,12 @@ returns c =
     let e = decode-refused (Only kind.Strings) (a .column .now) (g .0 .0) (sym (c .before .before .before .read-header .ensures) ∙ g .1) in
     (sym (ap (λ (x : Decoding). told x (length (a .buffer .now))) e), sym (ap (λ (x : Decoding). left asByte x (a .buffer .now)) e))
 
-row : (c : tie.After-n) → (c .n .given .0 .1 .1 .1 .0 ≡ Names) × (c .n .given .0 .1 .1 .1 .1 .0 ≡ false) × (0 < c .n .given .0 .1 .0) × (c .n .given .0 .1 .0 ≤ 255)
+row : (c : tie.After-n) → (c .n .given .0 .1 .1 .1 .0 ≡ Names) × (c .n .given .0 .1 .1 .1 .1 .0 ≡ false)
 row c =
     let a = c .before .before .before .before .before .args in
     let g = c .n .given .0 in
-    string-row (a .column .now) (g .0) (g .1 .0) (g .1 .1 .0) (g .1 .1 .1 .0) (g .1 .1 .1 .1 .0) (passes c)
-
-strings-in-requires : tie.Need-strings-in-requires
-strings-in-requires c κs =
-    let r = row (c .before .before .before) in
-    (r .2, r .3, passes (c .before .before .before) .1)
+    let r = string-row (a .column .now) (g .0) (g .1 .0) (g .1 .1 .0) (g .1 .1 .1 .0) (g .1 .1 .1 .1 .0) (passes c) in
+    (r .0, r .1)
 
 returns-2 : tie.Need-returns-2
 returns-2 c =
@@ -66,7 +62,7 @@ decode-strings-spec =
     (λ c. long (c .before))
     (λ c. let h = long (c .before) in search needs)
     (λ c. search needs)
-    strings-in-requires
+    (λ c κs. search needs)
     (λ c κs. search needs)
     returns
     (λ c. search needs)

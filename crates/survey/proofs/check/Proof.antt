@@ -86,7 +86,7 @@ check-spec =
     (λ c. passed (c .before .before .before) .0)
     (λ c. passed (c .before .before .before) .0)
     (λ c. search needs)
-    (λ c κs. passed (c .before .before .before .before) .1)
+    (λ c κs. search needs)
     (λ c. passed (c .before .before) .0)
     (λ c. passed (c .before .before) .0)
     (λ c. search needs)
