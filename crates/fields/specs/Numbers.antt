@@ -8,7 +8,7 @@ use lib.Dec.{eqb, ltb}
 use lib.ListN.{length, getD, drop}
 use Rattle.heads.specs.Table.{valuesFrom}
 use Rattle.messagepack.specs.Document.{Document}
-use Rattle.messagepack.specs.Walk.{equal}
+use Rattle.messagepack.specs.Equal.{equal}
 use Rattle.fields.specs.Types.{FieldType, Rows, plain, arrayOf, exactly, mapWith, last, row}
 use Rattle.fields.specs.Table.{groupRows, transformRows, assemblyRows, entityRows, named}
 use Rattle.fields.specs.Tests.{typed}

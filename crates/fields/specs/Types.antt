@@ -8,7 +8,7 @@ use Prim.Native.Nat.{ℕ}
 use Prim.Native.Char.{code}
 use Prim.Native.String as Text
 use Rattle.messagepack.specs.Document.{Document, Documents, Entries, integer, float, string, binary, array, map, none, item, empty, entry, count}
-use Rattle.messagepack.specs.Walk.{equal}
+use Rattle.messagepack.specs.Equal.{equal}
 
 -- a type: a value of one kind, an array of values of a type, an array of exactly so many of them, or a map with named keys
 mutual

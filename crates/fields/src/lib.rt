@@ -8,7 +8,7 @@ ghost use Prim.Native.Nat.{ℕ, _+_, _*_, _≤_, _<_};
 ghost use lib.ListN.{length, take, drop, set};
 ghost use Rattle.heads.specs.Table.{leadTable};
 ghost use Rattle.messagepack.specs.Document.{Document, Entries, size};
-ghost use Rattle.messagepack.specs.Walk.{equal};
+ghost use Rattle.messagepack.specs.Equal.{equal};
 ghost use Rattle.values.specs.Places.{At, AtEntries};
 ghost use Rattle.fields.specs.Types.{FieldType, plain};
 ghost use Rattle.fields.specs.Table.{fieldCount};

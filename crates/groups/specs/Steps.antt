@@ -8,7 +8,7 @@ use lib.Dec.{eqb}
 use lib.IntN.{ℤ, pos, negsuc}
 use Rattle.refusal.specs.Table.{accepted, tooManyGroupTypes}
 use Rattle.messagepack.specs.Document.{Document, Documents, Entries, none, item, count}
-use Rattle.messagepack.specs.Walk.{equal}
+use Rattle.messagepack.specs.Equal.{equal}
 use Rattle.fields.specs.Types.{bytesIn, look}
 use Rattle.fields.specs.Noted.{PlaceSays}
 use Rattle.groups.specs.Group.{under, itemsIn, atomsOf, bondsOf, groupNumber, groupsNumber}

@@ -1,4 +1,5 @@
 pub mod Limits
+pub mod Equal
 pub mod Document
 pub mod Rules
 pub mod Walk

@@ -1,6 +1,6 @@
 -- Refusals 1 to 11 in the order of paper 01: a walk from the first byte, the first fault met counting.
 -- No lemma stands here; that it gives 0 exactly for a `Container` is `container-exactly` of Laws/Container.antt. Assumes nothing.
-use mathlib.Core.Bool.{Bool, true, false, cond, _&&_, _||_}
+use mathlib.Core.Bool.{Bool, true, false, cond, _||_}
 use mathlib.Core.List.{List, [], _∷_}
 use Prim.Native.Nat.{ℕ, zero, suc, _+_, _-_}
 use lib.Dec.{ltb, leb, eqb}
@@ -11,6 +11,7 @@ use Rattle.heads.specs.Head.{kindAt, headAt}
 use Rattle.heads.specs.declared.Kind.{Kind}
 use Rattle.heads.specs.declared.Head.{Head}
 use Rattle.messagepack.specs.Limits.{fileLimit, nestingLimit, entryLimit, integerLimit}
+use Rattle.messagepack.specs.Equal.{equal}
 use Rattle.messagepack.specs.declared.Walk.{Walk}
 use Rattle.messagepack.specs.declared.Text.{Text}
 
@@ -62,13 +63,6 @@ keyOfKind s at Kind.Map = Text.Refused keyNotString
 -- the key at a place
 unfoldable pub keyAt : List ℕ → ℕ → Text
 keyAt s at = keyOfKind s at (kindAt s at)
-
--- are two lists equal?
-unfoldable pub equal : List ℕ → List ℕ → Bool
-equal [] [] = true
-equal [] (y ∷ ys) = false
-equal (x ∷ xs) [] = false
-equal (x ∷ xs) (y ∷ ys) = eqb x y && equal xs ys
 
 -- is k among the keys?
 unfoldable pub among : List ℕ → List (List ℕ) → Bool

@@ -4,7 +4,7 @@ use Prim.Native.Nat.{_-_, _≤_}
 use native.Mathlib.Omega.{arith}
 use lib.ListN.{take, drop}
 use borrow.Author.Needs.{needs}
-use Rattle.messagepack.specs.Walk.{equal}
+use Rattle.messagepack.specs.Equal.{equal}
 use Rattle.fields.specs.Numbers.{cellOf, rowAt, nameOf}
 use Rattle.fields.specs.Laws.Numbers.{name-long, name-next, name-not, name-end}
 use Rattle.fields.proofs.is_name.Tie as tie

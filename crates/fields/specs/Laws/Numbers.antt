@@ -14,7 +14,7 @@ use Rattle.heads.specs.Table.{valuesFrom}
 use Rattle.heads.specs.Laws.Table.{rows-at}
 use Rattle.heads.specs.Laws.Span.{part-length}
 use Rattle.messagepack.specs.Document.{Document}
-use Rattle.messagepack.specs.Walk.{equal}
+use Rattle.messagepack.specs.Equal.{equal}
 use Rattle.messagepack.specs.Laws.Keys.{equal-lengths, equal-next, equal-not, equal-end}
 use Rattle.fields.specs.Types.{FieldType, Rows, plain, mapWith, last, row}
 use Rattle.fields.specs.Table.{groupRows, transformRows, assemblyRows, entityRows, named, fieldCount}

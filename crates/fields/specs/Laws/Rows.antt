@@ -10,7 +10,7 @@ use lib.Dec.{eqb, eqb·zero-suc, eqb·suc-zero, eqb·suc-suc}
 use lib.ListN.{length, set}
 use Rattle.messagepack.specs.Document.{Document, Entries, empty, entry}
 use Rattle.messagepack.specs.Rules.{NoKey}
-use Rattle.messagepack.specs.Walk.{equal}
+use Rattle.messagepack.specs.Equal.{equal}
 use Rattle.messagepack.specs.Laws.Keys.{equal-true, equal-false}
 use Rattle.fields.specs.Types.{Rows, last, row, look}
 use Rattle.fields.specs.Tests.{isThere, onValue, typed, fitting}

@@ -6,7 +6,7 @@ use native.Mathlib.Omega.{arith}
 use lib.ListN.{length, take, drop}
 use Rattle.heads.specs.Table.{leadTable}
 use Rattle.messagepack.specs.Document.{Document, Entries, size}
-use Rattle.messagepack.specs.Walk.{equal}
+use Rattle.messagepack.specs.Equal.{equal}
 use Rattle.values.specs.Places.{At, AtEntries}
 use Rattle.values.specs.Laws.Places.{at-standing}
 use Rattle.fields.specs.Types.{look}

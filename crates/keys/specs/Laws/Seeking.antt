@@ -9,7 +9,7 @@ use native.Mathlib.Omega.{arith}
 use lib.ListN.{length, take, drop}
 use Rattle.messagepack.specs.Document.{Document, Entries, string, empty, entry, size}
 use Rattle.messagepack.specs.Rules.{NoKey}
-use Rattle.messagepack.specs.Walk.{equal}
+use Rattle.messagepack.specs.Equal.{equal}
 use Rattle.messagepack.specs.Laws.Keys.{equal-true, equal-refl}
 use Rattle.values.specs.Places.{At, AtEntries, TextAt}
 use Rattle.values.specs.Laws.Places.{open-entry, at-inside}

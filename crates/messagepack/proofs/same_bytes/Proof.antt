@@ -4,7 +4,7 @@ use Prim.Native.Nat.{_-_, _≤_}
 use native.Mathlib.Omega.{arith}
 use lib.ListN.{length, drop}
 use borrow.Author.Needs.{needs}
-use Rattle.messagepack.specs.Walk.{equal}
+use Rattle.messagepack.specs.Equal.{equal}
 use Rattle.messagepack.specs.Laws.Keys.{equal-lengths, equal-next, equal-not, equal-end}
 use Rattle.messagepack.proofs.same_bytes.Statement.{statement}
 use Rattle.messagepack.proofs.same_bytes.Tie as tie

@@ -4,7 +4,7 @@ use Prim.Native.Nat.{ℕ, _+_, _-_}
 use native.Mathlib.Omega.{arith}
 use lib.ListN.{take, drop}
 use borrow.Author.Needs.{needs}
-use Rattle.messagepack.specs.Walk.{equal}
+use Rattle.messagepack.specs.Equal.{equal}
 use Rattle.messagepack.specs.Laws.Tables.{there-read, there-head}
 use Rattle.messagepack.proofs.same_key.Statement.{statement}
 use Rattle.messagepack.proofs.same_key.Tie as tie

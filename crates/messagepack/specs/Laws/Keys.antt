@@ -12,7 +12,8 @@ use lib.Seq.{drop-cons}
 use borrow.Author.Tests.{eqb-true, eq-eqb, ne-eqb}
 use Rattle.messagepack.specs.Document.{Entries, empty, entry}
 use Rattle.messagepack.specs.Rules.{NoKey, Distinct}
-use Rattle.messagepack.specs.Walk.{equal, among}
+use Rattle.messagepack.specs.Equal.{equal}
+use Rattle.messagepack.specs.Walk.{among}
 
 pub equal-true : (x y : List ℕ) → equal x y ≡ true → x ≡ y
 unfolding equal

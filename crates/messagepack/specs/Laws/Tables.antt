@@ -19,7 +19,8 @@ use Rattle.heads.specs.Table.{leadTable}
 use Rattle.heads.specs.declared.Head.{Head}
 use Rattle.heads.specs.Laws.Span.{part-length}
 use Rattle.messagepack.specs.Limits.{fileLimit, nestingLimit, entryLimit}
-use Rattle.messagepack.specs.Walk.{equal, among, keyAt, entriesFrom, entriesAt}
+use Rattle.messagepack.specs.Equal.{equal}
+use Rattle.messagepack.specs.Walk.{among, keyAt, entriesFrom, entriesAt}
 use Rattle.messagepack.specs.Keys.{tableLength, printOf, keyBytes, keysOf, keysIn, KeyThere, RowHolds, Stored, Free, Kept, Walked, Rows, Sought, Noted, refused, repeated, noted}
 use Rattle.messagepack.specs.declared.Walk.{Walk}
 use Rattle.messagepack.specs.declared.Text.{Text}

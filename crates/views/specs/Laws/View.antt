@@ -22,7 +22,8 @@ use Rattle.heads.specs.Laws.Span.{follows, holds, fits}
 use Rattle.heads.specs.Laws.Head.{Told, head-told}
 use Rattle.messagepack.specs.Document.{Document, Entries, integer, float, string, binary, array, map, empty, entry, size, TextOf, Writes, WritesEntries}
 use Rattle.messagepack.specs.Rules.{depth, Container}
-use Rattle.messagepack.specs.Walk.{equal, containerNumber}
+use Rattle.messagepack.specs.Equal.{equal}
+use Rattle.messagepack.specs.Walk.{containerNumber}
 use Rattle.messagepack.specs.Read.{documentOf}
 use Rattle.messagepack.specs.Laws.Keys.{equal-true, equal-refl}
 use Rattle.messagepack.specs.Laws.Unique.{no-two-documents, documentOf-is}
