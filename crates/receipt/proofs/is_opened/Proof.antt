@@ -1,0 +1,20 @@
+-- Each line is in its range. Assumes nothing.
+use borrow.Author.Needs.{needs}
+use Rattle.receipt.proofs.is_opened.Statement.{statement}
+use Rattle.receipt.proofs.is_opened.Tie as tie
+
+returns : tie.Need-returns
+returns c = cc
+
+pub is-opened-spec : {M : Type 1} → statement M
+is-opened-spec =
+    tie.close
+    (tie.spec
+    (λ c κs. search needs)
+    (λ c κs. search needs)
+    (λ c κs. search needs)
+    (λ c κs. search needs)
+    (λ c κs. search needs)
+    (λ c κs. search needs)
+    (λ c κs. search needs)
+    returns)

@@ -1,0 +1,19 @@
+-- Each line is 0. Assumes nothing.
+use borrow.Author.Needs.{needs}
+use Rattle.receipt.proofs.is_refused.Statement.{statement}
+use Rattle.receipt.proofs.is_refused.Tie as tie
+
+returns : tie.Need-returns
+returns c = cc
+
+pub is-refused-spec : {M : Type 1} → statement M
+is-refused-spec =
+    tie.close
+    (tie.spec
+    (λ c κs. search needs)
+    (λ c κs. search needs)
+    (λ c κs. search needs)
+    (λ c κs. search needs)
+    (λ c κs. search needs)
+    (λ c κs. search needs)
+    returns)

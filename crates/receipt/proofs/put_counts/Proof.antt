@@ -1,0 +1,27 @@
+-- Five lines are put one after another. Assumes nothing.
+use borrow.Author.Needs.{needs}
+use Rattle.lines.specs.Laws.Put.{put-then}
+use Rattle.receipt.proofs.put_counts.Statement.{statement}
+use Rattle.receipt.proofs.put_counts.Tie as tie
+
+returns : tie.Need-returns
+returns c =
+    put-then (put-then (put-then (put-then (c .before .before .before .before .before .before .before .before .before .before .before .before .before .before .before .before .before .before .before .before .before .before .put-line .ensures) (c .before .before .before .before .before .before .before .before .before .before .before .before .before .before .before .before .before .put-line2 .ensures)) (c .before .before .before .before .before .before .before .before .before .before .before .before .put-line3 .ensures)) (c .before .before .before .before .before .before .before .put-line4 .ensures))
+    (c .before .before .put-line5 .ensures)
+
+pub put-counts-spec : {M : Type 1} → statement M
+put-counts-spec =
+    tie.close
+    (tie.spec
+    (λ c. search needs)
+    (λ c κs. search needs)
+    (λ c. search needs)
+    (λ c κs. search needs)
+    (λ c. search needs)
+    (λ c κs. search needs)
+    (λ c. search needs)
+    (λ c κs. search needs)
+    (λ c. search needs)
+    (λ c κs. search needs)
+    (λ c. search needs)
+    returns)

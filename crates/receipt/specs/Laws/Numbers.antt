@@ -1,0 +1,124 @@
+-- The numbers at the ends of lines: one byte at a time, a line, and all lines of a receipt.
+-- Assumes nothing.
+use mathlib.Core.Path.{_≡_, refl, sym, ap, subst, _∙_}
+use mathlib.Core.Bool.{Bool, true, false, cond, not, _&&_}
+use mathlib.Core.List.{List, [], _∷_, _++_, append-assoc, append-nil}
+use Prim.Native.Nat.{ℕ, zero, suc, _+_, _*_, _-_, _/_, _%_, _^_, _<_, _≤_}
+use native.Mathlib.Omega.{arith}
+use native.Mathlib.Numerals.{add-one}
+use lib.Dec.{eqb, ltb, leb}
+use lib.ListN.{length, getD, set, drop, drop-of-length-le}
+use lib.Seq.{drop-cons, sets}
+use borrow.Author.Tests.{eq-eqb, ne-eqb, le-leb, lt-leb, lt-ltb, le-ltb, ltb-true, ltb-false}
+use Rattle.fields.specs.Types.{bytesIn}
+use Rattle.fields.specs.Laws.Types.{and-left, and-right}
+use Rattle.lines.specs.Decimal.{digit, digits}
+use Rattle.lines.specs.Line.{line}
+use Rattle.lines.specs.Laws.Decimal.{digits-one, digits-more, digits-few}
+use Rattle.receipt.specs.declared.Receipt.{Receipt}
+use Rattle.receipt.specs.Steps.{shifted, numbersIn}
+
+-- one digit more
+
+pub shifted-low : (n b : ℕ) → b < 48 → n ≡ shifted n b
+unfolding shifted
+shifted-low n b h = rw (lt-leb 48 b h)
+
+pub shifted-high : (n b : ℕ) → 48 ≤ b → 57 < b → n ≡ shifted n b
+unfolding shifted
+shifted-high n b l h = rw (le-leb 48 b l, lt-leb b 57 h)
+
+pub shifted-full : (n b : ℕ) → 48 ≤ b → b ≤ 57 → 100000000 ≤ n → n ≡ shifted n b
+unfolding shifted
+shifted-full n b l h f = rw (le-leb 48 b l, le-leb b 57 h, le-ltb n 100000000 f)
+
+pub shifted-digit : (n b : ℕ) → 48 ≤ b → b ≤ 57 → n < 100000000 → shifted n b ≡ n * 10 + (b - 48)
+unfolding shifted
+shifted-digit n b l h f = rw (le-leb 48 b l, le-leb b 57 h, lt-ltb n 100000000 f)
+
+-- a line's end, and another byte
+
+pub numbers-end : (s : List ℕ) (i n : ℕ) → i < length s → getD s i 0 ≡ 10 → numbersIn (drop i s) n ≡ n ∷ numbersIn (drop (i + 1) s) 0
+unfolding numbersIn
+numbers-end s i n h e = rw (drop-cons s i 0 h, eq-eqb (getD s i 0) 10 e, add-one i)
+
+pub numbers-byte : (s : List ℕ) (i n : ℕ) → i < length s → (getD s i 0 ≡ 10 → ⊥) → numbersIn (drop i s) n ≡ numbersIn (drop (i + 1) s) (shifted n (getD s i 0))
+unfolding numbersIn
+numbers-byte s i n h e = rw (drop-cons s i 0 h, ne-eqb (getD s i 0) 10 e, add-one i)
+
+pub numbers-none : (s : List ℕ) (i n : ℕ) → length s ≤ i → numbersIn (drop i s) n ≡ []
+unfolding numbersIn
+numbers-none s i n h = rw (drop-of-length-le s h)
+
+-- what is left, stored from a line on, is the same after a line's end and after another byte
+
+pub store-end : (s ns ms t : List ℕ) (i at n line m : ℕ) → i < length s → getD s i 0 ≡ 10 → ms ≡ set ns at n → line ≡ at + 1 → m ≡ 0
+    → sets ns at (numbersIn (drop i s) n) ≡ t → sets ms line (numbersIn (drop (i + 1) s) m) ≡ t
+store-end s ns ms t i at n line m h e a b z q =
+    let p : sets ns at (numbersIn (drop i s) n) ≡ sets (set ns at n) (suc at) (numbersIn (drop (i + 1) s) 0) = ap (λ (l : List ℕ). sets ns at l) (numbers-end s i n h e) in
+    rw (a, b, z, add-one at) (sym p ∙ q)
+
+pub store-byte : (s ns ms t : List ℕ) (i at n line m : ℕ) → i < length s → (getD s i 0 ≡ 10 → ⊥) → ms ≡ ns → line ≡ at → m ≡ shifted n (getD s i 0)
+    → sets ns at (numbersIn (drop i s) n) ≡ t → sets ms line (numbersIn (drop (i + 1) s) m) ≡ t
+store-byte s ns ms t i at n line m h e a b z q = rw (a, b, z, ← numbers-byte s i n h e) q
+
+-- a line is read as its number
+
+-- every byte of a name is above the digits
+abbrev pub plain : List ℕ → Bool
+plain [] = true
+plain (b ∷ bs) = ltb 57 b && plain bs
+
+numbers-other : (b n : ℕ) (rest : List ℕ) → 57 < b → numbersIn (b ∷ rest) n ≡ numbersIn rest n
+unfolding numbersIn
+numbers-other b n rest h = rw (ne-eqb b 10 (λ e. omega arith), ← shifted-high n b (omega arith) h)
+
+numbers-plain : (bs rest : List ℕ) (n : ℕ) → plain bs ≡ true → numbersIn (bs ++ rest) n ≡ numbersIn rest n
+numbers-plain [] rest n h = refl
+numbers-plain (b ∷ bs) rest n h = numbers-other b n (bs ++ rest) (ltb-true 57 b (and-left (ltb 57 b) (plain bs) h)) ∙ numbers-plain bs rest n (and-right (ltb 57 b) (plain bs) h)
+
+numbers-digit : (d n : ℕ) (rest : List ℕ) → d < 10 → n < 100000000 → numbersIn (digit d ∷ rest) n ≡ numbersIn rest (n * 10 + d)
+unfolding numbersIn
+numbers-digit d n rest h f =
+    let e : n * 10 + (digit d - 48) ≡ n * 10 + d = omega arith in
+    rw (ne-eqb (digit d) 10 (λ z. omega arith), shifted-digit n (digit d) (omega arith) (omega arith) f, e)
+
+numbers-one : (n : ℕ) (rest : List ℕ) → n < 10 → numbersIn (digits n ++ rest) 0 ≡ numbersIn rest n
+numbers-one n rest h =
+    let e : 0 * 10 + n ≡ n = omega arith in
+    ap (λ (ds : List ℕ). numbersIn (ds ++ rest) 0) (digits-one n h) ∙ numbers-digit n 0 rest h (omega arith) ∙ ap (numbersIn rest) e
+
+-- by the number of a tenth, which is smaller
+numbers-more : (n : ℕ) (rest : List ℕ) → 10 ≤ n → n < 1000000000 → numbersIn (digits (n / 10) ++ (digit (n % 10) ∷ rest)) 0 ≡ numbersIn (digit (n % 10) ∷ rest) (n / 10)
+    → numbersIn (digits n ++ rest) 0 ≡ numbersIn rest n
+numbers-more n rest h f q =
+    let e : n / 10 * 10 + n % 10 ≡ n = omega arith in
+    ap (λ (ds : List ℕ). numbersIn (ds ++ rest) 0) (digits-more n h)
+    ∙ ap (λ (bs : List ℕ). numbersIn bs 0) (append-assoc (digits (n / 10)) (digit (n % 10) ∷ []) rest)
+    ∙ q
+    ∙ numbers-digit (n % 10) (n / 10) rest (omega arith) (omega arith)
+    ∙ ap (numbersIn rest) e
+
+numbers-digits : (steps n : ℕ) (rest : List ℕ) → n ≤ steps → n < 1000000000 → numbersIn (digits n ++ rest) 0 ≡ numbersIn rest n
+numbers-digits zero n rest h f = numbers-one n rest (omega arith)
+numbers-digits (suc steps) n rest h f =
+    go (ltb n 10) refl (λ l. numbers-digits steps (n / 10) (digit (n % 10) ∷ rest) (omega arith) (omega arith))
+  where
+    go : (t : Bool) → ltb n 10 ≡ t → (10 ≤ n → numbersIn (digits (n / 10) ++ (digit (n % 10) ∷ rest)) 0 ≡ numbersIn (digit (n % 10) ∷ rest) (n / 10))
+        → numbersIn (digits n ++ rest) 0 ≡ numbersIn rest n
+    go true e q = numbers-one n rest (ltb-true n 10 e)
+    go false e q = let l : 10 ≤ n = ltb-false n 10 e in numbers-more n rest l f (q l)
+
+numbers-feed : (n : ℕ) (rest : List ℕ) → numbersIn (0x0a ∷ rest) n ≡ n ∷ numbersIn rest 0
+unfolding numbersIn
+numbers-feed n rest = refl
+
+pub numbers-line : (name rest : List ℕ) (n : ℕ) → plain name ≡ true → n < 1000000000 → numbersIn (line name n ++ rest) 0 ≡ n ∷ numbersIn rest 0
+unfolding line
+numbers-line name rest n h f =
+    let e : line name n ++ rest ≡ name ++ (0x3d ∷ (digits n ++ (0x0a ∷ rest))) = simp append-assoc in
+    ap (λ (bs : List ℕ). numbersIn bs 0) e
+    ∙ numbers-plain name (0x3d ∷ (digits n ++ (0x0a ∷ rest))) 0 h
+    ∙ numbers-other 0x3d 0 (digits n ++ (0x0a ∷ rest)) (omega arith)
+    ∙ numbers-digits n n (0x0a ∷ rest) (omega arith) f
+    ∙ numbers-feed n rest

@@ -1,0 +1,86 @@
+-- Receipts (paper 01, "Views and the receipt"): their numbers, the rules that these keep, their bytes, and which bytes are a receipt. No reader
+-- and no lemma stands here: the laws are in Laws/Reading.antt. Assumes nothing.
+use mathlib.Core.Path.{_≡_}
+use mathlib.Core.Bool.{Bool, true, false, cond, _&&_}
+use mathlib.Core.List.{List, [], _∷_, _++_}
+use Prim.Native.Nat.{ℕ}
+use Prim.Native.String as Text
+use lib.Dec.{eqb, leb}
+use Rattle.refusal.specs.Table.{accepted, receiptMalformed}
+use Rattle.fields.specs.Types.{bytesIn}
+use Rattle.counts.specs.Counts.{countLimit}
+use Rattle.lines.specs.Line.{line}
+use Rattle.receipt.specs.declared.Receipt.{Receipt}
+use Rattle.receipt.specs.declared.Reading.{Reading}
+use Rattle.receipt.specs.declared.Reading.the-variants.{Numbers, Refused}
+
+-- the last station and job
+abbrev pub stationLimit : ℕ
+stationLimit = 99
+
+abbrev pub jobLimit : ℕ
+jobLimit = 999999
+
+-- the last verdict on a file
+abbrev pub verdictLimit : ℕ
+verdictLimit = 24
+
+-- the required fields are 16, the named ones 39
+abbrev pub fieldsLeast : ℕ
+fieldsLeast = 16
+
+abbrev pub fieldsMost : ℕ
+fieldsMost = 39
+
+-- is n from low to high?
+abbrev pub within : ℕ → ℕ → ℕ → Bool
+within low high n = leb low n && leb n high
+
+-- station 1 to 99, job 1 to 999,999
+abbrev pub numbered : ℕ → ℕ → Bool
+numbered station job = within 1 stationLimit station && within 1 jobLimit job
+
+-- with verdict 0 the five counts are 0 to 16,777,216, fields 16 to 39, units 1
+abbrev pub openedRight : Receipt → Bool
+openedRight r =
+    (leb (r .models) countLimit && (leb (r .chains) countLimit && (leb (r .groups) countLimit && (leb (r .atoms) countLimit && leb (r .bonds) countLimit))))
+    && (within fieldsLeast fieldsMost (r .fields) && eqb (r .units) 1)
+
+-- with any other verdict the seven lines after it are 0
+abbrev pub refusedRight : Receipt → Bool
+refusedRight r =
+    (eqb (r .models) 0 && (eqb (r .chains) 0 && (eqb (r .groups) 0 && (eqb (r .atoms) 0 && eqb (r .bonds) 0))))
+    && (eqb (r .fields) 0 && eqb (r .units) 0)
+
+-- station and job are in range, the verdict is 0 to 24, and the lines after it are right
+unfoldable pub allowed : Receipt → Bool
+allowed r =
+    numbered (r .station) (r .job) && (leb (r .verdict) verdictLimit && cond (eqb (r .verdict) accepted) (openedRight r) (refusedRight r))
+
+-- a line by its name
+abbrev pub named : Text.String → ℕ → List ℕ
+named name n = line (bytesIn name) n
+
+-- the ten lines
+unfoldable pub written : Receipt → List ℕ
+written r =
+    named "station" (r .station)
+    ++ named "job" (r .job)
+    ++ named "verdict" (r .verdict)
+    ++ named "models" (r .models)
+    ++ named "chains" (r .chains)
+    ++ named "groups" (r .groups)
+    ++ named "atoms" (r .atoms)
+    ++ named "bonds" (r .bonds)
+    ++ named "fields" (r .fields)
+    ++ named "units" (r .units)
+
+-- the bytes are the receipt r
+pub record IsReceipt (bytes : List ℕ) (r : Receipt) : Type 0 where
+  pub rules : allowed r ≡ true
+  pub text : bytes ≡ written r
+
+-- what reading answers: the numbers of the receipt that the bytes are; 29 where they are none
+pub data Reads (bytes : List ℕ) : Reading → Type 0 where
+  is : {r : Receipt} → IsReceipt bytes r → Reads bytes (Numbers r)
+  none : ((r : Receipt) → IsReceipt bytes r → ⊥) → Reads bytes (Refused receiptMalformed)

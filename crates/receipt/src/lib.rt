@@ -1,0 +1,246 @@
+// Receipts: what a lab is billed by. One is written for a file, whatever its bytes, and shows one unit exactly if the file is accepted; and one is
+// read back from bytes that are a receipt by the rules of paper 01.
+ghost use mathlib.Core.Path.{_≡_};
+ghost use mathlib.Core.Bool.{_&&_};
+ghost use Prim.Native.Nat.{_<_};
+ghost use lib.ListN.{length, set, replicate};
+ghost use lib.Seq.{sets};
+ghost use Rattle.lines.specs.Put.{Put};
+ghost use Rattle.receipt.specs.Receipt.{within, numbered, openedRight, refusedRight, allowed, written, Reads};
+ghost use Rattle.receipt.specs.Steps.{shifted, numbersIn, receiptFrom, countsLines, firstLines, lastLines};
+
+// The last station, job and verdict, the most atoms or other counts, and the fewest and the most fields.
+pub const STATION_LIMIT: u32 = 99;
+
+pub const JOB_LIMIT: u32 = 999_999;
+
+pub const VERDICT_LIMIT: u32 = 24;
+
+pub const COUNT_LIMIT: u32 = 16_777_216;
+
+pub const FIELDS_LEAST: u32 = 16;
+
+pub const FIELDS_MOST: u32 = 39;
+
+// Room for every receipt: ten names with their signs and line feeds, 76 bytes, and ten digits for each number.
+pub const ROOM: usize = 176;
+
+// The ten numbers of a receipt, in the order of its lines.
+pub struct Receipt {
+    pub station: u32,
+    pub job: u32,
+    pub verdict: u32,
+    pub models: u32,
+    pub chains: u32,
+    pub groups: u32,
+    pub atoms: u32,
+    pub bonds: u32,
+    pub fields: u32,
+    pub units: u32,
+}
+
+// What bytes are read as: a receipt's numbers, or the refusal.
+pub enum Reading {
+    Numbers(Receipt),
+    Refused(u8),
+}
+
+// Reads a receipt: its numbers exactly if the bytes are a receipt, else 29.
+pub fn read(bytes: &[u8]) -> Reading
+    ensures { λ r. ⌜ Reads (now (bytes .entry)) r ⌝ }
+{
+    if ROOM < bytes.len() {
+        return Reading::Refused(refusal::RECEIPT_MALFORMED);
+    }
+    let numbers = numbers_in(bytes);
+    let receipt = from_numbers(&numbers);
+    if !is_allowed(receipt) {
+        return Reading::Refused(refusal::RECEIPT_MALFORMED);
+    }
+    let mut page = blank();
+    let end = put_receipt(&mut page, receipt);
+    if !messagepack::same_bytes(&page[..end], bytes) {
+        return Reading::Refused(refusal::RECEIPT_MALFORMED);
+    }
+    Reading::Numbers(receipt)
+}
+
+// The numbers at the ends of the first ten lines, whatever the lines are: those of a receipt, if the bytes are one.
+fn numbers_in(bytes: &[u8]) -> [u32; 10]
+    ensures { λ r. ⌜ r ≡ sets (replicate 10 0) 0 (numbersIn (now (bytes .entry)) 0) ⌝ }
+{
+    let mut numbers = [0u32; 10];
+    let mut line: usize = 0;
+    let mut number: u32 = 0;
+    let mut i: usize = 0;
+    while i < bytes.len() {
+        let byte = bytes[i];
+        if byte == b'\n' {
+            store(&mut numbers, line, number);
+            line += 1;
+            number = 0;
+        } else {
+            number = with_digit(number, byte);
+        }
+        i += 1;
+    }
+    numbers
+}
+
+// Stores the number of a line; those of lines past the tenth are left out.
+fn store(numbers: &mut [u32], line: usize, number: u32)
+    ensures { λ r. ⌜ now (numbers .exit) ≡ set (now (numbers .entry)) line number ⌝ }
+{
+    if line < numbers.len() {
+        numbers[line] = number;
+    }
+}
+
+// A number with one digit more; as it was where the byte is no digit, or the number has nine digits already.
+fn with_digit(number: u32, byte: u8) -> u32
+    ensures value { λ r. ⌜ r ≡ shifted number byte ⌝ }
+{
+    if byte < b'0' {
+        return number;
+    }
+    if b'9' < byte {
+        return number;
+    }
+    if 100_000_000 <= number {
+        return number;
+    }
+    number * 10 + wide(byte - b'0')
+}
+
+fn wide(x: u8) -> u32
+    ensures { λ r. ⌜ r ≡ x ⌝ }
+{
+    x as u32
+}
+
+// Ten numbers as a receipt's.
+fn from_numbers(numbers: &[u32; 10]) -> Receipt
+    ensures { λ r. ⌜ r ≡ receiptFrom (now (numbers .entry)) ⌝ }
+{
+    Receipt {
+        station: numbers[0],
+        job: numbers[1],
+        verdict: numbers[2],
+        models: numbers[3],
+        chains: numbers[4],
+        groups: numbers[5],
+        atoms: numbers[6],
+        bonds: numbers[7],
+        fields: numbers[8],
+        units: numbers[9],
+    }
+}
+
+// Whether the numbers are those of a receipt.
+fn is_allowed(receipt: Receipt) -> bool
+    ensures { λ r. ⌜ r ≡ allowed receipt ⌝ }
+{
+    if !is_numbered(receipt.station, receipt.job) {
+        return false;
+    }
+    if VERDICT_LIMIT < receipt.verdict {
+        return false;
+    }
+    if receipt.verdict == 0 {
+        return is_opened(receipt);
+    }
+    is_refused(receipt)
+}
+
+// Whether a station's and a job's number are in range.
+fn is_numbered(station: u32, job: u32) -> bool
+    ensures { λ r. ⌜ r ≡ numbered station job ⌝ }
+{
+    both(
+        is_within(1, STATION_LIMIT, station),
+        is_within(1, JOB_LIMIT, job),
+    )
+}
+
+// Whether the seven lines after a verdict 0 are right: counts, fields and one unit.
+fn is_opened(receipt: Receipt) -> bool
+    ensures { λ r. ⌜ r ≡ openedRight receipt ⌝ }
+{
+    let inner = both(receipt.atoms <= COUNT_LIMIT, receipt.bonds <= COUNT_LIMIT);
+    let middle = both(receipt.groups <= COUNT_LIMIT, inner);
+    let outer = both(receipt.chains <= COUNT_LIMIT, middle);
+    let counts = both(receipt.models <= COUNT_LIMIT, outer);
+    let fields = is_within(FIELDS_LEAST, FIELDS_MOST, receipt.fields);
+    both(counts, both(fields, receipt.units == 1))
+}
+
+// Whether the seven lines after another verdict are right: all 0.
+fn is_refused(receipt: Receipt) -> bool
+    ensures { λ r. ⌜ r ≡ refusedRight receipt ⌝ }
+{
+    let inner = both(receipt.atoms == 0, receipt.bonds == 0);
+    let middle = both(receipt.groups == 0, inner);
+    let outer = both(receipt.chains == 0, middle);
+    let counts = both(receipt.models == 0, outer);
+    both(counts, both(receipt.fields == 0, receipt.units == 0))
+}
+
+// Whether a number is between two others, these included.
+fn is_within(low: u32, high: u32, number: u32) -> bool
+    ensures { λ r. ⌜ r ≡ within low high number ⌝ }
+{
+    both(low <= number, number <= high)
+}
+
+fn both(a: bool, b: bool) -> bool
+    ensures { λ r. ⌜ r ≡ (a && b) ⌝ }
+{
+    if a {
+        return b;
+    }
+    false
+}
+
+// A page with nothing on it.
+fn blank() -> [u8; 176]
+    ensures { λ r. ⌜ length r ≡ 176 ⌝ }
+{
+    [0u8; 176]
+}
+
+// Puts a receipt's lines on a page, and answers where they end.
+fn put_receipt(page: &mut [u8; 176], receipt: Receipt) -> usize
+    ensures { λ r. ⌜ Put (now (page .entry)) 0 (written receipt) r (now (page .exit)) ⌝ }
+{
+    let counts = put_first(page, receipt);
+    let last = put_counts(page, counts, receipt);
+    put_last(page, last, receipt)
+}
+
+// Puts the lines of station, job and verdict.
+fn put_first(page: &mut [u8], receipt: Receipt) -> usize
+    ensures { λ r. ⌜ Put (now (page .entry)) 0 (firstLines receipt) r (now (page .exit)) ⌝ }
+{
+    let job = lines::put_line(page, 0, b"station", receipt.station);
+    let verdict = lines::put_line(page, job, b"job", receipt.job);
+    lines::put_line(page, verdict, b"verdict", receipt.verdict)
+}
+
+// Puts the lines of the five counts.
+fn put_counts(page: &mut [u8], at: usize, receipt: Receipt) -> usize
+    ensures { λ r. ⌜ Put (now (page .entry)) at (countsLines receipt) r (now (page .exit)) ⌝ }
+{
+    let chains = lines::put_line(page, at, b"models", receipt.models);
+    let groups = lines::put_line(page, chains, b"chains", receipt.chains);
+    let atoms = lines::put_line(page, groups, b"groups", receipt.groups);
+    let bonds = lines::put_line(page, atoms, b"atoms", receipt.atoms);
+    lines::put_line(page, bonds, b"bonds", receipt.bonds)
+}
+
+// Puts the lines of fields and units.
+fn put_last(page: &mut [u8], at: usize, receipt: Receipt) -> usize
+    ensures { λ r. ⌜ Put (now (page .entry)) at (lastLines receipt) r (now (page .exit)) ⌝ }
+{
+    let units = lines::put_line(page, at, b"fields", receipt.fields);
+    lines::put_line(page, units, b"units", receipt.units)
+}
