@@ -2,4 +2,5 @@ pub mod Columns
 pub mod Counts
 pub mod Accepted
 pub mod Steps
+pub mod Summary
 pub mod Worked

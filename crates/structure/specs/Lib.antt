@@ -1,3 +1,4 @@
 pub mod Accepted
+pub mod Summary
 pub mod Steps
 pub mod Laws

@@ -19,6 +19,7 @@ use Rattle.counts.specs.Columns.{columns, AllRight}
 use Rattle.counts.specs.Counts.{countLimit, integer, natural, groupTypes, numbersRight, chainsAgree, groupsInside, atomsAgree, bondsTotal, outerInside, outerRight, valuesRight, indicesInside, unless, first}
 use Rattle.counts.specs.Steps.{PlacesOf}
 use Rattle.structure.specs.declared.Counts.{Counts}
+use Rattle.structure.specs.declared.Summary.{Summary}
 
 -- the places of the named fields, where the required ones are there and the columns decode
 pub record Facts (s : List ℕ) (es : Entries) (places : List ℕ) : Type 0 where
@@ -47,6 +48,27 @@ pub record CountsAre (es : Entries) (c : Counts) : Type 0 where
   pub models : c .models ≡ natural "numModels" es
   pub few-atoms : c .atoms ≤ countLimit
   pub few-chains : c .chains ≤ countLimit
+
+-- counts at most one above the limit, as all are that are read
+pub record Small (c : Counts) : Type 0 where
+  pub bonds : c .bonds ≤ suc countLimit
+  pub atoms : c .atoms ≤ suc countLimit
+  pub groups : c .groups ≤ suc countLimit
+  pub chains : c .chains ≤ suc countLimit
+  pub models : c .models ≤ suc countLimit
+
+-- what is said of an accepted file with these counts and this set of fields
+abbrev pub counted : Counts → ℕ → Summary
+counted c presence =
+    record {
+      verdict = accepted;
+      models = c .models;
+      chains = c .chains;
+      groups = c .groups;
+      atoms = c .atoms;
+      bonds = c .bonds;
+      presence = presence;
+    }
 
 -- are the counts all in range?
 abbrev pub countsFit : Counts → Bool

@@ -1,8 +1,9 @@
-// The verdict on a file: 0 exactly if it is accepted, else the number of the first rule that it breaks, by the order of paper 01. One walk of
-// the container, one pass over the outer map that notes and judges the named fields, one pass over each column, and the rules of counts.
+// The verdict on a file: 0 exactly if it is accepted, else the number of the first rule that it breaks, by the order of paper 01; and what a
+// receipt says of the file. One walk of the container, one pass over the outer map that notes and judges the named fields, one pass over each
+// column, and the rules of counts.
 ghost use mathlib.Core.Path.{_≡_};
 ghost use mathlib.Core.Logic.{_↔_};
-ghost use Prim.Native.Nat.{ℕ, _+_, _≤_};
+ghost use Prim.Native.Nat.{ℕ, suc, _+_, _≤_};
 ghost use lib.Dec.{eqb};
 ghost use lib.ListN.{length};
 ghost use Rattle.heads.specs.Table.{leadTable};
@@ -11,9 +12,10 @@ ghost use Rattle.messagepack.specs.Document.{Document, Entries};
 ghost use Rattle.values.specs.Parts.{integerOf};
 ghost use Rattle.values.specs.Places.{At};
 ghost use Rattle.fields.specs.Noted.{Noted};
-ghost use Rattle.counts.specs.Counts.{typeLimit, countsNumber};
+ghost use Rattle.counts.specs.Counts.{typeLimit, countLimit, countsNumber};
 ghost use Rattle.structure.specs.Accepted.{Accepted, entriesNumber, verdictOf};
-ghost use Rattle.structure.specs.Steps.{Facts, countOf, CountsIn, CountsAre, countsFit, chainsFit, typeCount, chainsNumber, totalsNumber, groupsPart, valuesPart};
+ghost use Rattle.structure.specs.Summary.{refused, said, summaryOf};
+ghost use Rattle.structure.specs.Steps.{Facts, countOf, CountsIn, CountsAre, Small, counted, countsFit, chainsFit, typeCount, chainsNumber, totalsNumber, groupsPart, valuesPart};
 use columns::Kind;
 use columns::Wanted;
 use fields::Fields;
@@ -67,26 +69,82 @@ pub struct Counts {
     pub models: usize,
 }
 
+// What a receipt says of a file: the verdict, and of an accepted file the five num fields and the set of its named fields, a bit for each; of a
+// refused one zeros.
+pub struct Summary {
+    pub verdict: u8,
+    pub models: u32,
+    pub chains: u32,
+    pub groups: u32,
+    pub atoms: u32,
+    pub bonds: u32,
+    pub presence: u64,
+}
+
 // The verdict on a file.
 pub fn verdict(file: &[u8]) -> u8
     ensures number { λ r. ⌜ r ≡ verdictOf (now (file .entry)) ⌝ }
     ensures exactly { λ r. ⌜ (r ≡ 0) ↔ Accepted (now (file .entry)) ⌝ }
 {
-    first_fault(file)
+    summary_of(file).verdict
 }
 
-// The number of the first rule that a file breaks, or 0.
-fn first_fault(file: &[u8]) -> u8
-    ensures { λ r. ⌜ r ≡ verdictOf (now (file .entry)) ⌝ }
+// What a receipt says of a file.
+pub fn summary_of(file: &[u8]) -> Summary
+    ensures { λ r. ⌜ r ≡ summaryOf (now (file .entry)) ⌝ }
 {
     let number = messagepack::container(file);
     if number != refusal::ACCEPTED {
-        return number;
+        return refused_with(number);
     }
     let leads = heads::leads();
     let entries = values::entries_at(&leads, file, 0);
     let noted = fields::note(&leads, file, entries.count, entries.at);
-    document_refusal(&leads, file, noted)
+    document_summary(&leads, file, noted)
+}
+
+// What is said of a container by what is noted of its fields.
+fn document_summary(leads: &[u8; 256], file: &[u8], noted: Fields) -> Summary
+    ensures { λ r. ⌜ (now (leads .entry) ≡ leadTable → length (now (file .entry)) ≤ fileLimit → (es : Entries) → Noted (now (file .entry)) es noted → r ≡ said (entriesNumber es) es) ⌝ }
+{
+    let number = document_refusal(leads, file, noted);
+    if number != refusal::ACCEPTED {
+        return refused_with(number);
+    }
+    let places = noted.places;
+    let counts = counts_at(leads, file, &places);
+    accepted_with(counts, noted.presence)
+}
+
+// What is said of a refused file: its number and zeros.
+fn refused_with(number: u8) -> Summary
+    ensures { λ r. ⌜ r ≡ refused number ⌝ }
+{
+    Summary {
+        verdict: number,
+        models: 0,
+        chains: 0,
+        groups: 0,
+        atoms: 0,
+        bonds: 0,
+        presence: 0,
+    }
+}
+
+// What is said of an accepted file: its counts and its fields.
+fn accepted_with(counts: Counts, presence: u64) -> Summary
+    requires { ⌜ Small counts ⌝ }
+    ensures { λ r. ⌜ r ≡ counted counts presence ⌝ }
+{
+    Summary {
+        verdict: refusal::ACCEPTED,
+        models: counts.models as u32,
+        chains: counts.chains as u32,
+        groups: counts.groups as u32,
+        atoms: counts.atoms as u32,
+        bonds: counts.bonds as u32,
+        presence: presence,
+    }
 }
 
 // The refusal of a container's document by what is noted of its fields: 12 to 24, or 0.
@@ -174,7 +232,8 @@ fn chains_agree(counts: Counts, models: usize, chains: u64, ends: usize, groups:
 
 // The five num fields at their places.
 fn counts_at(leads: &[u8; 256], file: &[u8], places: &[usize; 39]) -> Counts
-    ensures { λ r. ⌜ (now (leads .entry) ≡ leadTable → (es : Entries) → Facts (now (file .entry)) es (now (places .entry)) → CountsIn es r) ⌝ }
+    ensures small { λ r. ⌜ Small r ⌝ }
+    ensures fields { λ r. ⌜ (now (leads .entry) ≡ leadTable → (es : Entries) → Facts (now (file .entry)) es (now (places .entry)) → CountsIn es r) ⌝ }
 {
     Counts {
         bonds: count_at(leads, file, places[NUM_BONDS]),
@@ -187,7 +246,8 @@ fn counts_at(leads: &[u8; 256], file: &[u8], places: &[usize; 39]) -> Counts
 
 // The integer at a place as a count; one above the limit where it is out of range.
 fn count_at(leads: &[u8; 256], file: &[u8], at: usize) -> usize
-    ensures { λ r. ⌜ (now (leads .entry) ≡ leadTable → (x : Document) (e : ℕ) → At (now (file .entry)) at x e → r ≡ countOf (integerOf x)) ⌝ }
+    ensures small { λ r. ⌜ r ≤ suc countLimit ⌝ }
+    ensures integer { λ r. ⌜ (now (leads .entry) ≡ leadTable → (x : Document) (e : ℕ) → At (now (file .entry)) at x e → r ≡ countOf (integerOf x)) ⌝ }
 {
     as_count(values::integer_at(leads, file, at))
 }

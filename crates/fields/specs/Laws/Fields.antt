@@ -1,4 +1,4 @@
--- No number exactly if the fields are right.
+-- No number exactly if the fields are right, and no number above 24.
 -- Assumes nothing.
 use mathlib.Core.Path.{_≡_, refl, ap, _∙_}
 use mathlib.Core.Bool.{Bool, true, false, cond, _&&_}
@@ -8,12 +8,13 @@ use mathlib.Core.Option.{some}
 use Prim.Native.Nat.{ℕ, zero, suc, _+_, _<_, _≤_}
 use native.Mathlib.Omega.{arith}
 use native.Mathlib.Nat.{add-zero}
-use lib.Dec.{eqb, leb}
+use lib.Dec.{eqb, leb, lit≤}
 use lib.ListN.{getD, take, drop, length-take, List·getD-eq-default}
 use lib.Seq.{getD-take, getD-drop}
 use borrow.Author.Tests.{eqb-true, leb-true, le-leb}
 use Rattle.refusal.specs.Table.{accepted, fieldMissing, fieldType, versionNot1}
 use Rattle.messagepack.specs.Document.{Document, Entries}
+use Rattle.messagepack.specs.Laws.Refused.{either}
 use Rattle.fields.specs.Types.{Rows, last, row, Has, Fits, HasType}
 use Rattle.fields.specs.Tests.{have, fitting}
 use Rattle.fields.specs.Table.{named}
@@ -108,3 +109,12 @@ fields-exactly es = (there, back)
 
     back : FieldsRight es → cond (have named es) (cond (fitting named es) (cond (isVersionOne (versionOf es)) accepted versionNot1) fieldType) fieldMissing ≡ accepted
     back r = rw (have-exactly named es .1 (r .has), fitting-exactly named es .1 (r .fits), version-exactly (versionOf es) .1 (r .version))
+
+-- the number is at most 24
+pub fields-most : (es : Entries) → fieldsNumber es ≤ versionNot1
+unfolding fieldsNumber
+fields-most es =
+    either Most (have named es) (either Most (fitting named es) (either Most (isVersionOne (versionOf es)) (lit≤ tt) (lit≤ tt)) (lit≤ tt)) (lit≤ tt)
+  where
+    Most : ℕ → Type 0
+    Most n = n ≤ versionNot1

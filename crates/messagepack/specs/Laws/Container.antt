@@ -1,5 +1,5 @@
 -- The container's number is 0 exactly for a container: the walk ends at the end of the file exactly for a writing of a document that keeps
--- the rules.
+-- the rules. It is at most 11.
 -- Assumes nothing.
 use mathlib.Core.Path.{_≡_, refl, sym, ap, subst, _∙_}
 use mathlib.Core.Bool.{Bool, true, false, cond}
@@ -8,7 +8,7 @@ use mathlib.Core.Logic.{_↔_}
 use Prim.Native.Nat.{ℕ, zero, suc, _+_, _≤_, _<_}
 use native.Mathlib.Nat.{zero-add}
 use native.Mathlib.Omega.{arith}
-use lib.Dec.{leb, eqb, lit<}
+use lib.Dec.{leb, eqb, lit<, lit≤}
 use lib.ListN.{length, drop}
 use lib.Seq.{drop-length}
 use borrow.Author.Tests.{eqb-true, eq-eqb, leb-true, le-leb}
@@ -23,14 +23,14 @@ use Rattle.messagepack.specs.Rules.{depth, Keeps, Container}
 use Rattle.messagepack.specs.Walk.{valueAt, ended, outer, containerNumber}
 use Rattle.messagepack.specs.declared.Walk.{Walk}
 use Rattle.messagepack.specs.Laws.Walk as w
-use Rattle.messagepack.specs.Laws.Refused.{Sure, refused, value-sure}
+use Rattle.messagepack.specs.Laws.Refused.{Sure, refused, either, value-sure}
 use Rattle.messagepack.specs.Laws.Sound.{MapIn, map-in, value-in}
 use Rattle.messagepack.specs.Laws.Complete.{value-of}
 
 module _ (s : List ℕ) (bytes : Bytes s) where
   -- a number that is 0 says that the walk ended at the end
   ended-zero : (v : Walk) → valueAt s nestingLimit 0 ≡ v → Sure v → ended s v ≡ 0 → valueAt s nestingLimit 0 ≡ Walk.End (length s)
-  ended-zero (Walk.Refused n) q (refused h) k = absurd (omega arith)
+  ended-zero (Walk.Refused n) q (refused h l) k = absurd (omega arith)
   ended-zero (Walk.End p) q o k = go (eqb p (length s)) refl k
     where
       go : (b : Bool) → eqb p (length s) ≡ b → cond b accepted bytesAfter ≡ 0 → valueAt s nestingLimit 0 ≡ Walk.End (length s)
@@ -77,3 +77,26 @@ module _ (s : List ℕ) (bytes : Bytes s) where
       back c =
           let v : valueAt s nestingLimit 0 ≡ Walk.End (length s) = value-of s (map (c .entries)) s nestingLimit 0 [] (c .writes) (c .nested) (c .keeps) (sym (append-nil s)) ∙ ap Walk.End (zero-add (length s)) in
           rw (le-leb (length s) fileLimit (c .fits), map-first (c .entries) (c .writes), v, eq-eqb (length s) (length s) refl)
+
+-- the number is at most 11
+pub container-most : (s : List ℕ) → containerNumber s ≤ bytesAfter
+unfolding containerNumber
+container-most s = either Most (leb (length s) fileLimit) (outer-most (kindAt s 0)) (lit≤ tt)
+  where
+    Most : ℕ → Type 0
+    Most n = n ≤ bytesAfter
+
+    ended-most : (v : Walk) → Sure v → ended s v ≤ bytesAfter
+    ended-most (Walk.End p) o = either Most (eqb p (length s)) (lit≤ tt) (lit≤ tt)
+    ended-most (Walk.Refused n) (refused h l) = l
+
+    outer-most : (k : Kind) → outer s k ≤ bytesAfter
+    outer-most Kind.Map = ended-most (valueAt s nestingLimit 0) (value-sure s nestingLimit 0)
+    outer-most Kind.Missing = lit≤ tt
+    outer-most Kind.Outside = lit≤ tt
+    outer-most Kind.Unsigned = lit≤ tt
+    outer-most Kind.Signed = lit≤ tt
+    outer-most Kind.Float = lit≤ tt
+    outer-most Kind.Str = lit≤ tt
+    outer-most Kind.Bin = lit≤ tt
+    outer-most Kind.Array = lit≤ tt

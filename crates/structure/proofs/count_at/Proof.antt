@@ -1,18 +1,23 @@
--- The integer at the place is counted.
+-- The integer at the place is counted, and a count is at most one above the limit.
 use mathlib.Core.Path.{_≡_, refl, sym, ap, ap₂, subst, _∙_}
 use mathlib.Core.Bool.{Bool, true, false, cond, _&&_}
 use Prim.Native.Nat.{ℕ, suc, _+_, _-_, _*_, _/_, _%_, _≤_, _<_}
 use native.Mathlib.Omega.{arith}
 use borrow.Author.Tests.{eq-eqb, ne-eqb, le-leb, lt-leb, not-true, not-false}
 use mir.Syntax.{w32}
+use mir.Val.{toZ, ofZ}
 use mir.Facts.{toZ-ofZ}
 use Rattle.structure.specs.Steps.{countOf}
+use Rattle.structure.specs.Laws.Steps.{count-most}
 use borrow.Author.Needs.{needs}
 use Rattle.structure.proofs.count_at.Statement.{statement}
 use Rattle.structure.proofs.count_at.Tie as tie
 
 returns : tie.Need-returns
-returns c = λ t x e a. c .as-count .ensures ∙ ap countOf (toZ-ofZ {w = w32} (record { sfits = c .before .integer-at .ok }) ∙ c .before .integer-at .ensures t x e a)
+returns c =
+    let z : toZ w32 (ofZ w32 (c .before .integer-at .result)) ≡ c .before .integer-at .result = toZ-ofZ {w = w32} (record { sfits = c .before .integer-at .ok }) in
+    let n : c .as-count .result ≡ countOf (c .before .integer-at .result) = c .as-count .ensures ∙ ap countOf z in
+    (count-most (c .before .integer-at .result) n, λ t x e a. n ∙ ap countOf (c .before .integer-at .ensures t x e a))
 
 pub count-at-spec : {M : Type 1} → statement M
 count-at-spec =

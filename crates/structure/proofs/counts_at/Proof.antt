@@ -1,4 +1,4 @@
--- Each num field stands at its place.
+-- Each num field stands at its place, and each count is small.
 use mathlib.Core.Path.{_≡_, refl, sym, ap, ap₂, subst, _∙_}
 use mathlib.Core.Bool.{Bool, true, false, cond, _&&_}
 use Prim.Native.Nat.{ℕ, suc, _+_, _-_, _*_, _/_, _%_, _≤_, _<_}
@@ -12,14 +12,22 @@ use Rattle.structure.proofs.counts_at.Statement.{statement}
 use Rattle.structure.proofs.counts_at.Tie as tie
 
 returns : tie.Need-returns
-returns c =
-    λ t es f. let n = by-name es in record {
-      bonds = count-named f 2 (lit< tt) (needed .numBonds) (λ x e a. c .before .before .before .before .before .before .before .before .count-at .ensures t x e a) (field "numBonds" es) (n .numBonds);
-      atoms = count-named f 3 (lit< tt) (needed .numAtoms) (λ x e a. c .before .before .before .before .before .before .count-at2 .ensures t x e a) (field "numAtoms" es) (n .numAtoms);
-      groups = count-named f 4 (lit< tt) (needed .numGroups) (λ x e a. c .before .before .before .before .count-at3 .ensures t x e a) (field "numGroups" es) (n .numGroups);
-      chains = count-named f 5 (lit< tt) (needed .numChains) (λ x e a. c .before .before .count-at4 .ensures t x e a) (field "numChains" es) (n .numChains);
-      models = count-named f 6 (lit< tt) (needed .numModels) (λ x e a. c .count-at5 .ensures t x e a) (field "numModels" es) (n .numModels);
-    }
+returns c = (
+  record {
+    bonds = c .before .before .before .before .before .before .before .before .count-at .ensures .0;
+    atoms = c .before .before .before .before .before .before .count-at2 .ensures .0;
+    groups = c .before .before .before .before .count-at3 .ensures .0;
+    chains = c .before .before .count-at4 .ensures .0;
+    models = c .count-at5 .ensures .0;
+  },
+  λ t es f. let n = by-name es in record {
+    bonds = count-named f 2 (lit< tt) (needed .numBonds) (λ x e a. c .before .before .before .before .before .before .before .before .count-at .ensures .1 t x e a) (field "numBonds" es) (n .numBonds);
+    atoms = count-named f 3 (lit< tt) (needed .numAtoms) (λ x e a. c .before .before .before .before .before .before .count-at2 .ensures .1 t x e a) (field "numAtoms" es) (n .numAtoms);
+    groups = count-named f 4 (lit< tt) (needed .numGroups) (λ x e a. c .before .before .before .before .count-at3 .ensures .1 t x e a) (field "numGroups" es) (n .numGroups);
+    chains = count-named f 5 (lit< tt) (needed .numChains) (λ x e a. c .before .before .count-at4 .ensures .1 t x e a) (field "numChains" es) (n .numChains);
+    models = count-named f 6 (lit< tt) (needed .numModels) (λ x e a. c .count-at5 .ensures .1 t x e a) (field "numModels" es) (n .numModels);
+  },
+)
 
 pub counts-at-spec : {M : Type 1} → statement M
 counts-at-spec =

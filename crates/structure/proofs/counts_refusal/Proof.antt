@@ -36,14 +36,14 @@ returns-2 : tie.Need-returns-2
 returns-2 c =
     λ t l es f.
     let ty = ap (λ (z : list.List). z .count) (c .before .before .before .before .list-at .ensures .1 t (fieldAt 7 es) (f .places-of .says 7 (lit< tt))) ∙ type-count (fieldAt 7 es) ∙ ap (λ (o : Option Document). count (itemsIn o)) (by-name es .groupList) in
-    let k = c .before .before .counts-at .ensures t es f in
+    let k = c .before .before .counts-at .ensures .1 t es f in
     counts-chains es (types-few es _ ty (c .before .before .before .if1 .left)) _ (c .if2 .taken) (c .before .chains-refusal .ensures t l es f k)
 
 returns-3 : tie.Need-returns-3
 returns-3 c =
     λ t l es f.
     let ty = ap (λ (z : list.List). z .count) (c .before .before .before .before .before .before .list-at .ensures .1 t (fieldAt 7 es) (f .places-of .says 7 (lit< tt))) ∙ type-count (fieldAt 7 es) ∙ ap (λ (o : Option Document). count (itemsIn o)) (by-name es .groupList) in
-    let k = c .before .before .before .before .counts-at .ensures t es f in
+    let k = c .before .before .before .before .counts-at .ensures .1 t es f in
     let z = sym (c .before .before .before .chains-refusal .ensures t l es f k) ∙ c .before .before .if2 .left in
     let a = chains-fine k z in
     let e = rw (a .atoms, a .groups, a .chains) at (sym (c .before .lengths-agree .ensures t es (f .places-of) (f .right)) ∙ not-true _ (c .if3 .taken)) in
@@ -53,7 +53,7 @@ returns-4 : tie.Need-returns-4
 returns-4 c =
     λ t l es f.
     let ty = ap (λ (z : list.List). z .count) (c .before .before .before .before .before .before .before .before .list-at .ensures .1 t (fieldAt 7 es) (f .places-of .says 7 (lit< tt))) ∙ type-count (fieldAt 7 es) ∙ ap (λ (o : Option Document). count (itemsIn o)) (by-name es .groupList) in
-    let k = c .before .before .before .before .before .before .counts-at .ensures t es f in
+    let k = c .before .before .before .before .before .before .counts-at .ensures .1 t es f in
     let z = sym (c .before .before .before .before .before .chains-refusal .ensures t l es f k) ∙ c .before .before .before .before .if2 .left in
     let a = chains-fine k z in
     let e = rw (a .atoms, a .groups, a .chains) at (sym (c .before .before .before .lengths-agree .ensures t es (f .places-of) (f .right)) ∙ not-false _ (c .before .before .if3 .left)) in
@@ -63,7 +63,7 @@ returns-5 : tie.Need-returns-5
 returns-5 c =
     λ t l es f.
     let ty = ap (λ (z : list.List). z .count) (c .before .before .before .before .before .before .before .before .before .list-at .ensures .1 t (fieldAt 7 es) (f .places-of .says 7 (lit< tt))) ∙ type-count (fieldAt 7 es) ∙ ap (λ (o : Option Document). count (itemsIn o)) (by-name es .groupList) in
-    let k = c .before .before .before .before .before .before .before .counts-at .ensures t es f in
+    let k = c .before .before .before .before .before .before .before .counts-at .ensures .1 t es f in
     let z = sym (c .before .before .before .before .before .before .chains-refusal .ensures t l es f k) ∙ c .before .before .before .before .before .if2 .left in
     let a = chains-fine k z in
     let e = rw (a .atoms, a .groups, a .chains) at (sym (c .before .before .before .before .lengths-agree .ensures t es (f .places-of) (f .right)) ∙ not-false _ (c .before .before .before .if3 .left)) in

@@ -1,4 +1,4 @@
--- The number is 0 exactly for an accepted file.
+-- The verdict that is said of a file is 0 exactly for an accepted one.
 use mathlib.Core.Path.{_≡_, refl, sym, ap, ap₂, subst, _∙_}
 use mathlib.Core.Bool.{Bool, true, false, cond, _&&_}
 use Prim.Native.Nat.{ℕ, suc, _+_, _-_, _*_, _/_, _%_, _≤_, _<_}
@@ -6,13 +6,15 @@ use native.Mathlib.Omega.{arith}
 use borrow.Author.Tests.{eq-eqb, ne-eqb, le-leb, lt-leb, not-true, not-false}
 use Rattle.numbers.specs.Laws.BigEndian.{bytes-of}
 use Rattle.structure.specs.Laws.Accepted.{accepted-exactly}
+use Rattle.structure.specs.Laws.Summary.{summary-verdict}
+use Rattle.structure.specs.declared.Summary.{Summary}
 use borrow.Author.Needs.{needs}
 use Rattle.structure.proofs.verdict.Statement.{statement}
 use Rattle.structure.proofs.verdict.Tie as tie
 
 returns : tie.Need-returns
 returns c =
-    let e = c .first-fault .ensures in
+    let e = ap (λ (r : Summary). r .verdict) (c .summary-of .ensures) ∙ summary-verdict _ in
     let x = accepted-exactly (c .before .before .args .file .now) (bytes-of (c .before .before .args .file .now) (λ i. omega (arith, c .before .shared-slice-known .given i))) in
     (e, ((λ z. x .0 (sym e ∙ z)), (λ a. e ∙ x .1 a)))
 

@@ -1,13 +1,14 @@
--- The number of the columns is 0 exactly when each column that is there is of its kind and decodes: no refusal of a column is 0.
+-- The number of the columns is 0 exactly when each column that is there is of its kind and decodes, and at most 19: a refusal of a column is
+-- 14 to 19.
 -- Assumes nothing.
 use mathlib.Core.Path.{_≡_, refl, ap, sym, subst, _∙_}
-use mathlib.Core.Bool.{Bool, true, false, cond, _&&_}
+use mathlib.Core.Bool.{Bool, _&&_}
 use mathlib.Core.List.{List, [], _∷_}
 use mathlib.Core.Logic.{_↔_}
 use mathlib.Core.Option.{Option, some, none as nothing}
-use Prim.Native.Nat.{ℕ, zero, suc, _-_, _<_}
+use Prim.Native.Nat.{ℕ, zero, suc, _-_, _≤_}
 use native.Mathlib.Omega.{arith}
-use lib.Dec.{eqb, leb, ltb, lit<}
+use lib.Dec.{eqb, leb, ltb, lit≤}
 use lib.IntN.{ℤ}
 use lib.ListN.{length, drop}
 use Rattle.refusal.specs.Table.{accepted, columnShort, headerRange, payloadSize, numberNotAllowed, lengthDiffers, codecUnknown}
@@ -26,38 +27,39 @@ use Rattle.columns.specs.Header.{headerOf, judged}
 use Rattle.columns.specs.Decode.{Decoding, refused, column, judgedValues, judgedPayload, decode}
 use Rattle.survey.specs.Field.{otherNames, fieldColumn}
 use Rattle.messagepack.specs.Document.{Document, Entries}
+use Rattle.messagepack.specs.Laws.Refused.{either}
 use Rattle.values.specs.Parts.{textOf}
 use Rattle.groups.specs.Group.{orElse}
 use Rattle.counts.specs.Columns.{Column, columns, field, decoded, refusalIn, ColumnRight, AllRight, columnNumber, numberOf, columnsNumber}
 
--- No refusal is 0
+-- A refusal is 14 to 19
 
--- a header's refusal has a number
+-- the numbers of a column's refusals
+abbrev pub OfColumn : ℕ → Type 0
+OfColumn r = (columnShort ≤ r) × (r ≤ lengthDiffers)
+
+-- a header's refusal has one of them
 abbrev HeaderSure : Header → Type 0
-HeaderSure (Refused r) = 0 < r
+HeaderSure (Refused r) = OfColumn r
 HeaderSure (Good n m k f d) = Unit {0}
 
--- a decoding's refusal has a number
+-- a decoding's refusal has one of them
 abbrev pub Sure : Decoding → Type 0
-Sure (refused r) = 0 < r
+Sure (refused r) = OfColumn r
 Sure (column k m xs) = Unit {0}
 
-either : {A : Type 0} (P : A → Type 0) (b : Bool) {x y : A} → P x → P y → P (cond b x y)
-either P true p q = p
-either P false p q = q
-
 judged-sure : (w : Wanted) (c : Codec) (n m b : ℕ) → HeaderSure (judged w c n m b)
-judged-sure w Unknown n m b = lit< tt
+judged-sure w Unknown n m b = (lit≤ tt, lit≤ tt)
 judged-sure w (Known k f d p) n m b =
-    either HeaderSure (suits w k) (either HeaderSure (leb n lengthLimit && parameterOk p m) (either HeaderSure (sizeRight f n m b) tt (lit< tt)) (lit< tt)) (lit< tt)
+    either HeaderSure (suits w k) (either HeaderSure (leb n lengthLimit && parameterOk p m) (either HeaderSure (sizeRight f n m b) tt (lit≤ tt, lit≤ tt)) (lit≤ tt, lit≤ tt)) (lit≤ tt, lit≤ tt)
 
 header-sure : (w : Wanted) (s : List ℕ) → HeaderSure (headerOf w s)
 unfolding headerOf
-header-sure w s = either HeaderSure (ltb (length s) 12) (lit< tt) (judged-sure w (codecOf (unsignedAt 4 s 0)) (unsignedAt 4 s 4) (unsignedAt 4 s 8) (length s - 12))
+header-sure w s = either HeaderSure (ltb (length s) 12) (lit≤ tt, lit≤ tt) (judged-sure w (codecOf (unsignedAt 4 s 0)) (unsignedAt 4 s 4) (unsignedAt 4 s 8) (length s - 12))
 
 values-sure : (n m : ℕ) (k : Kind) (f : Form) (d : Bool) (o : Option (List ℤ)) → Sure (judgedValues n m k f d o)
-values-sure n m k f d nothing = lit< tt
-values-sure n m k f d (some l) = either Sure (allowed f m l) (either Sure (eqb (length l) (elements f n m)) tt (lit< tt)) (lit< tt)
+values-sure n m k f d nothing = (lit≤ tt, lit≤ tt)
+values-sure n m k f d (some l) = either Sure (allowed f m l) (either Sure (eqb (length l) (elements f n m)) tt (lit≤ tt, lit≤ tt)) (lit≤ tt, lit≤ tt)
 
 payload-sure : (h : Header) (p : List ℕ) → HeaderSure h → Sure (judgedPayload h p)
 payload-sure (Refused r) p o = o
@@ -69,10 +71,10 @@ decode-sure w s = payload-sure (headerOf w s) (drop 12 s) (header-sure w s)
 
 pub field-sure : (w : Wanted) (s : List ℕ) → Sure (fieldColumn w s)
 unfolding fieldColumn
-field-sure w s = either Sure (otherNames w s) (lit< tt) (decode-sure w s)
+field-sure w s = either Sure (otherNames w s) (lit≤ tt, lit≤ tt) (decode-sure w s)
 
--- a refused column has a number that is not 0
-pub refused-number : (w : Wanted) (s : List ℕ) (r : ℕ) → fieldColumn w s ≡ refused r → 0 < r
+-- a refused column has one of them
+pub refused-number : (w : Wanted) (s : List ℕ) (r : ℕ) → fieldColumn w s ≡ refused r → OfColumn r
 refused-number w s r e = subst Sure e (field-sure w s)
 
 -- The first number of two is 0 exactly when both are
@@ -88,10 +90,15 @@ orElse-right (suc n) m e = absurd (omega arith)
 pub orElse-zero : (n m : ℕ) → n ≡ 0 → m ≡ 0 → orElse n m ≡ 0
 orElse-zero n m e h = rw (e, h)
 
+-- and at most what both are
+pub orElse-most : {k : ℕ} (n m : ℕ) → n ≤ k → m ≤ k → orElse n m ≤ k
+orElse-most zero m p q = q
+orElse-most (suc n) m p q = p
+
 -- Columns
 
 right-decoding : (d : Decoding) → Sure d → refusalIn d ≡ 0 → record { k : Kind; m : ℕ; cells : List ℤ; is : d ≡ column k m cells }
-right-decoding (refused r) o e = absurd (omega arith)
+right-decoding (refused r) o e = absurd (omega (arith, o .0))
 right-decoding (column k m xs) o e = record { k = k; m = m; cells = xs; is = refl }
 
 column-there : (c : Column) (o : Option Document) → columnNumber c o ≡ 0 → ColumnRight c o
@@ -117,3 +124,21 @@ all-back (c ∷ cs) es r = orElse-zero (columnNumber c (field (c .name) es)) (nu
 -- the columns' number is 0 exactly when each column that is there is of its kind and decodes
 pub columns-exactly : (es : Entries) → (columnsNumber es ≡ 0) ↔ AllRight columns es
 columns-exactly es = (all-there columns es, all-back columns es)
+
+-- it is at most 19
+
+decoding-most : (d : Decoding) → Sure d → refusalIn d ≤ lengthDiffers
+decoding-most (refused r) o = o .1
+decoding-most (column k m xs) o = lit≤ tt
+
+column-most : (c : Column) (o : Option Document) → columnNumber c o ≤ lengthDiffers
+column-most c nothing = lit≤ tt
+column-most c (some x) = decoding-most (decoded (c .kind) x) (field-sure (c .kind) (textOf x))
+
+all-most : (cs : List Column) (es : Entries) → numberOf cs es ≤ lengthDiffers
+unfolding numberOf
+all-most [] es = lit≤ tt
+all-most (c ∷ cs) es = orElse-most (columnNumber c (field (c .name) es)) (numberOf cs es) (column-most c (field (c .name) es)) (all-most cs es)
+
+pub columns-most : (es : Entries) → columnsNumber es ≤ lengthDiffers
+columns-most es = all-most columns es

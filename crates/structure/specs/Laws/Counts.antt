@@ -1,19 +1,20 @@
--- The number of the counts is 0 exactly when every rule of "Counts that must agree" holds.
+-- The number of the counts is 0 exactly when every rule of "Counts that must agree" holds, and at most 23.
 -- Assumes nothing.
 use mathlib.Core.Path.{_≡_, refl}
 use mathlib.Core.Bool.{Bool, true, false}
 use mathlib.Core.List.{List, [], _∷_}
 use mathlib.Core.Logic.{_↔_}
-use Prim.Native.Nat.{ℕ, zero, suc, _<_}
+use Prim.Native.Nat.{ℕ, zero, suc, _≤_, _<_}
 use native.Mathlib.Omega.{arith}
-use lib.Dec.{lit<}
+use lib.Dec.{lit<, lit≤}
 use lib.ListN.{getD}
 use Rattle.refusal.specs.Table.{accepted, countsDisagree, indexOutside, valueOutside, tooManyGroupTypes}
 use Rattle.messagepack.specs.Document.{Document, Documents, Entries, none, item}
+use Rattle.messagepack.specs.Laws.Refused.{either}
 use Rattle.fields.specs.Types.{Each}
-use Rattle.groups.specs.Group.{orElse, groupNumber, groupsNumber}
+use Rattle.groups.specs.Group.{bondOrdersOf, listsAgree, bondsInside, ordersRight, orElse, groupNumber, groupsNumber}
 use Rattle.counts.specs.Counts.{groupTypes, fewTypes, numbersRight, chainsAgree, lengthsAgree, groupsInside, atomsAgree, bondsTotal, outerInside, outerRight, valuesRight, indicesInside, unless, first, CountsAgree, countsNumber}
-use Rattle.structure.specs.Laws.Columns.{orElse-left, orElse-right, orElse-zero}
+use Rattle.structure.specs.Laws.Columns.{orElse-left, orElse-right, orElse-zero, orElse-most}
 
 -- rule 5: each group type's number is 0
 
@@ -133,3 +134,41 @@ counts-exactly es = (there, back)
             ),
           ),
         )
+
+-- it is at most 23
+
+abbrev Most : ℕ → Type 0
+Most n = n ≤ tooManyGroupTypes
+
+group-most : (x : Document) → Most (groupNumber x)
+unfolding groupNumber
+group-most x = either Most (listsAgree x) (either Most (bondsInside x) (either Most (ordersRight (bondOrdersOf x)) (lit≤ tt) (lit≤ tt)) (lit≤ tt)) (lit≤ tt)
+
+groups-most : (types : Documents) → Most (groupsNumber types)
+unfolding groupsNumber
+groups-most none = lit≤ tt
+groups-most (item x types) = orElse-most (groupNumber x) (groupsNumber types) (group-most x) (groups-most types)
+
+-- one rule, and those after it
+rule-most : (b : Bool) (n : ℕ) {m : ℕ} → Most n → Most m → Most (orElse (unless b n) m)
+rule-most b n {m} p q = orElse-most (unless b n) m (unless-most b) q
+  where
+    unless-most : (c : Bool) → Most (unless c n)
+    unless-most true = lit≤ tt
+    unless-most false = p
+
+pub counts-most : (es : Entries) → countsNumber es ≤ tooManyGroupTypes
+unfolding countsNumber
+counts-most es =
+    rule-most (fewTypes es) tooManyGroupTypes (lit≤ tt)
+    (rule-most (numbersRight es) valueOutside (lit≤ tt)
+    (rule-most (chainsAgree es) countsDisagree (lit≤ tt)
+    (rule-most (lengthsAgree es) countsDisagree (lit≤ tt)
+    (orElse-most (groupsNumber (groupTypes es)) _ (groups-most (groupTypes es))
+    (rule-most (groupsInside es) indexOutside (lit≤ tt)
+    (rule-most (atomsAgree es) countsDisagree (lit≤ tt)
+    (rule-most (bondsTotal es) countsDisagree (lit≤ tt)
+    (rule-most (outerInside es) indexOutside (lit≤ tt)
+    (rule-most (outerRight es) valueOutside (lit≤ tt)
+    (rule-most (valuesRight es) valueOutside (lit≤ tt)
+    (rule-most (indicesInside es) indexOutside {m = accepted} (lit≤ tt) (lit≤ tt))))))))))))

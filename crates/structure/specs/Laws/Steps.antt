@@ -24,6 +24,7 @@ use Rattle.fields.specs.Tests.{all}
 use Rattle.fields.specs.Table.{named, fieldCount}
 use Rattle.fields.specs.Fields.{valueOf, fieldAt, requiredIn}
 use Rattle.fields.specs.Noted.{PlaceSays, gone, there}
+use Rattle.fields.specs.Laws.Types.{clash, and-left, and-right}
 use Rattle.fields.specs.Laws.Fields.{field-there}
 use Rattle.columns.specs.declared.Kind.{Kind}
 use Rattle.columns.specs.declared.Kind.the-variants.{Int8, Int32}
@@ -48,9 +49,6 @@ use Rattle.structure.specs.Accepted.{entriesNumber, verdictOf}
 use Rattle.structure.specs.Steps.{Facts, countOf, CountsIn, CountsAre, countsFit, chainsFit, typeCount, chainsNumber, totalsNumber, totalsPart, groupsPart, valuesPart}
 use Rattle.structure.specs.declared.Counts.{Counts}
 
-clash : {A : Type 0} → false ≡ true → A
-clash q = let z : _≡_ {A = ℕ} 0 1 = cc in absurd (omega arith)
-
 -- fields by their places
 
 -- a required field has a place
@@ -67,20 +65,25 @@ stands-at f i lt r = place-some (f .places-of .says i lt) (place-at f i lt r)
 
 -- counts
 
+-- an integer in range is at most the limit
+pub natural-few : (z : ℤ) → between (pos 0) (pos countLimit) z ≡ true → natAbs z ≤ countLimit
+natural-few (pos n) e = leb-true n countLimit (and-right (leb 0 n) (leb n countLimit) e)
+natural-few (negsuc n) e = clash e
+
 pub count-fits : (z : ℤ) → leb (countOf z) countLimit ≡ between (pos 0) (pos countLimit) z
 count-fits z = go (between (pos 0) (pos countLimit) z) refl
   where
-    below-limit : (y : ℤ) → between (pos 0) (pos countLimit) y ≡ true → natAbs y ≤ countLimit
-    below-limit (pos n) e = leb-true n countLimit (right (leb 0 n) (leb n countLimit) e)
-      where
-        right : (a b : Bool) → a && b ≡ true → b ≡ true
-        right true b q = q
-        right false b q = clash q
-    below-limit (negsuc n) e = clash e
-
     go : (b : Bool) → between (pos 0) (pos countLimit) z ≡ b → leb (cond b (natAbs z) (suc countLimit)) countLimit ≡ b
-    go true e = le-leb (natAbs z) countLimit (below-limit z e)
+    go true e = le-leb (natAbs z) countLimit (natural-few z e)
     go false e = refl
+
+-- a count is at most one above the limit
+pub count-most : {n : ℕ} (z : ℤ) → n ≡ countOf z → n ≤ suc countLimit
+count-most {n} z h = go (between (pos 0) (pos countLimit) z) refl h
+  where
+    go : (b : Bool) → between (pos 0) (pos countLimit) z ≡ b → n ≡ cond b (natAbs z) (suc countLimit) → n ≤ suc countLimit
+    go true e q = omega (arith, natural-few z e)
+    go false e q = omega arith
 
 pub count-natural : (z : ℤ) → leb (countOf z) countLimit ≡ true → countOf z ≡ natAbs z
 count-natural z h = ap (λ (b : Bool). cond b (natAbs z) (suc countLimit)) (sym (count-fits z) ∙ h)
@@ -219,15 +222,7 @@ agree-cells (some x) (some y) r q = rw (cells-long Int32 x refl r, cells-long In
 pub total-like : (n : ℕ) (a b : List ℕ) → ((i : ℕ) → i < n → getD a i 0 ≡ getD b i 0) → (xs : List ℤ) → allBelow n xs ≡ true → total a xs ≡ total b xs
 unfolding total allPass
 total-like n a b h [] e = refl
-total-like n a b h (pos i ∷ xs) e = ap₂ _+_ (h i (ltb-true i n (left (ltb i n) (allBelow n xs) e))) (total-like n a b h xs (right (ltb i n) (allBelow n xs) e))
-  where
-    left : (p q : Bool) → p && q ≡ true → p ≡ true
-    left true q r = refl
-    left false q r = r
-
-    right : (p q : Bool) → p && q ≡ true → q ≡ true
-    right true q r = r
-    right false q r = clash r
+total-like n a b h (pos i ∷ xs) e = ap₂ _+_ (h i (ltb-true i n (and-left (ltb i n) (allBelow n xs) e))) (total-like n a b h xs (and-right (ltb i n) (allBelow n xs) e))
 total-like n a b h (negsuc i ∷ xs) e = clash e
 
 pub totals-are : (es : Entries) (c : Counts) (sums : Sums) (outer orders : list.List) (atoms bonds : List ℕ) → CountsAre es c → TotalsOf (typeCount es) atoms bonds (groupCells es) sums → ((i : ℕ) → i < typeCount es → getD atoms i 0 ≡ getD (each atomsOf (groupTypes es)) i 0) → ((i : ℕ) → i < typeCount es → getD bonds i 0 ≡ getD (each bondsOf (groupTypes es)) i 0) → outer .count / 2 ≡ pairs (outerBonds es) → agrees (outer .there) (outer .count) (orders .there) (orders .count) ≡ bondsAgree (outerBonds es) (outerOrders es) → totalsNumber sums outer orders c ≡ totalsPart es
