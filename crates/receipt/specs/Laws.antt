@@ -1,3 +1,5 @@
 pub mod Rules
 pub mod Numbers
 pub mod Reading
+pub mod File
+pub mod Demand

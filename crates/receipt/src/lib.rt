@@ -2,11 +2,13 @@
 // read back from bytes that are a receipt by the rules of paper 01.
 ghost use mathlib.Core.Path.{_≡_};
 ghost use mathlib.Core.Bool.{_&&_};
-ghost use Prim.Native.Nat.{_<_};
-ghost use lib.ListN.{length, set, replicate};
+ghost use Prim.Native.Nat.{ℕ};
+ghost use lib.ListN.{length, set, take, replicate};
 ghost use lib.Seq.{sets};
 ghost use Rattle.lines.specs.Put.{Put};
 ghost use Rattle.receipt.specs.Receipt.{within, numbered, openedRight, refusedRight, allowed, written, Reads};
+ghost use Rattle.structure.specs.Summary.{summaryOf};
+ghost use Rattle.receipt.specs.File.{unitsOf, receiptBy, Receipted, told, left};
 ghost use Rattle.receipt.specs.Steps.{shifted, numbersIn, receiptFrom, countsLines, firstLines, lastLines};
 
 // The last station, job and verdict, the most atoms or other counts, and the fewest and the most fields.
@@ -43,6 +45,59 @@ pub struct Receipt {
 pub enum Reading {
     Numbers(Receipt),
     Refused(u8),
+}
+
+// What writing answers: how many bytes the receipt has, or the refusal.
+pub enum Written {
+    Bytes(usize),
+    Refused(u8),
+}
+
+// Writes the receipt of a file into the buffer: 29 for a station or a job out of range, then 25. A refused file gets its receipt too.
+pub fn write(station: u32, job: u32, file: &[u8], buffer: &mut [u8]) -> Written
+    ensures answer { λ r. ⌜ r ≡ told station job (now (file .entry)) (length (now (buffer .entry))) ⌝ }
+    ensures buffer { λ r. ⌜ now (buffer .exit) ≡ left station job (now (file .entry)) (now (buffer .entry)) ⌝ }
+    ensures receipt { λ r. ⌜ ((n : ℕ) → r ≡ Written.Bytes n → Receipted station job (now (file .entry)) (take n (now (buffer .exit)))) ⌝ }
+{
+    if !is_numbered(station, job) {
+        return Written::Refused(refusal::RECEIPT_MALFORMED);
+    }
+    let mut page = blank();
+    let end = put_receipt(&mut page, receipt_of(station, job, file));
+    if buffer.len() < end {
+        return Written::Refused(refusal::BUFFER_TOO_SMALL);
+    }
+    lines::put_bytes(buffer, 0, &page[..end]);
+    Written::Bytes(end)
+}
+
+// The numbers of the receipt of a file.
+fn receipt_of(station: u32, job: u32, file: &[u8]) -> Receipt
+    ensures { λ r. ⌜ r ≡ receiptBy station job (summaryOf (now (file .entry))) ⌝ }
+{
+    let summary = structure::summary_of(file);
+    Receipt {
+        station,
+        job,
+        verdict: wide(summary.verdict),
+        models: summary.models,
+        chains: summary.chains,
+        groups: summary.groups,
+        atoms: summary.atoms,
+        bonds: summary.bonds,
+        fields: u64::count_ones(summary.presence),
+        units: units_of(summary.verdict),
+    }
+}
+
+// One unit for an accepted file, none for a refused one.
+fn units_of(verdict: u8) -> u32
+    ensures { λ r. ⌜ r ≡ unitsOf verdict ⌝ }
+{
+    if verdict == refusal::ACCEPTED {
+        return 1;
+    }
+    0
 }
 
 // Reads a receipt: its numbers exactly if the bytes are a receipt, else 29.

@@ -1,0 +1,181 @@
+-- The receipt of a file: that of its document or of its number, one by the rules, and what is written of it.
+-- Assumes nothing.
+use mathlib.Core.Path.{_≡_, refl, sym, ap, subst, _∙_}
+use mathlib.Core.Bool.{Bool, true, false, cond, _&&_}
+use mathlib.Core.List.{List, _++_}
+use mathlib.Core.Logic.{_⊎_, inl, inr, ⊎-elim}
+use Prim.Native.Nat.{ℕ, _<_, _≤_}
+use native.Mathlib.Omega.{arith}
+use lib.Count.{ones}
+use lib.Dec.{eqb, leb}
+use lib.ListN.{length, take, drop}
+use lib.Seq.{take-at}
+use borrow.Author.Tests.{eq-eqb, ne-eqb, eqb-true, eqb-false, le-leb, lt-leb, leb-true, leb-false}
+use Rattle.refusal.specs.Table.{accepted, bufferTooSmall, receiptMalformed}
+use Rattle.numbers.specs.BigEndian.{Bytes}
+use Rattle.counts.specs.Counts.{countLimit}
+use Rattle.fields.specs.Fields.{presenceOf}
+use Rattle.lines.specs.Put.{Put}
+use Rattle.lines.specs.Laws.Put.{put-all}
+use Rattle.structure.specs.Accepted.{Accepted, verdictOf}
+use Rattle.structure.specs.Summary.{opened, refused, summaryOf}
+use Rattle.structure.specs.Laws.Accepted.{accepted-exactly}
+use Rattle.structure.specs.Laws.Summary.{verdict-most, verdict-refused, summary-accepted, summary-refused, opened-few, opened-fields}
+use Rattle.structure.specs.declared.Summary.{Summary}
+use Rattle.receipt.specs.declared.Receipt.{Receipt}
+use Rattle.receipt.specs.declared.Written.{Written}
+use Rattle.receipt.specs.declared.Written.the-variants as writing
+use Rattle.receipt.specs.Receipt.{numbered, allowed, written, IsReceipt}
+use Rattle.receipt.specs.Laws.Rules.{allowed-small, page-holds}
+use Rattle.receipt.specs.File.{unitsOf, receiptBy, ReceiptOf, accepts, refuses, Receipted, receiptText, told, left}
+
+-- The receipt's numbers
+
+-- a file is accepted or not
+decided : (s : List ℕ) → Bytes s → Accepted s ⊎ (Accepted s → ⊥)
+decided s bytes = go (eqb (verdictOf s) 0) refl
+  where
+    go : (t : Bool) → eqb (verdictOf s) 0 ≡ t → Accepted s ⊎ (Accepted s → ⊥)
+    go true e = inl (accepted-exactly s bytes .0 (eqb-true (verdictOf s) 0 e))
+    go false e = inr (λ a. eqb-false (verdictOf s) 0 e (accepted-exactly s bytes .1 a))
+
+-- what is said of a file is its receipt
+pub receipt-of : (station job : ℕ) (s : List ℕ) → Bytes s → ReceiptOf station job s (receiptBy station job (summaryOf s))
+receipt-of station job s bytes =
+    ⊎-elim (λ a. subst (λ (x : Summary). ReceiptOf station job s (receiptBy station job x)) (sym (summary-accepted s bytes a)) (accepts a))
+    (λ h. subst (λ (x : Summary). ReceiptOf station job s (receiptBy station job x)) (sym (summary-refused s bytes h)) (refuses h)) (decided s bytes)
+
+-- it keeps the rules
+
+rules-accepted : {s : List ℕ} (station job : ℕ) (a : Accepted s) → numbered station job ≡ true → allowed (receiptBy station job (opened (a .entries))) ≡ true
+unfolding allowed
+rules-accepted station job a h =
+    let few = opened-few a in
+    let fields = opened-fields a in
+    rw (
+      h,
+      le-leb _ countLimit (few .models),
+      le-leb _ countLimit (few .chains),
+      le-leb _ countLimit (few .groups),
+      le-leb _ countLimit (few .atoms),
+      le-leb _ countLimit (few .bonds),
+      le-leb 16 _ (fields .0),
+      le-leb _ 39 (fields .1),
+    )
+
+no-ones : ones 0 ≡ 0
+unfolding ones
+no-ones = refl
+
+rules-refused : (station job n : ℕ) → numbered station job ≡ true → n ≤ 24 → (n ≡ 0 → ⊥) → allowed (receiptBy station job (refused n)) ≡ true
+unfolding allowed
+rules-refused station job n h l z = rw (h, le-leb n 24 l, ne-eqb n 0 z, no-ones)
+
+pub rules-kept : (station job : ℕ) (s : List ℕ) → Bytes s → numbered station job ≡ true → allowed (receiptBy station job (summaryOf s)) ≡ true
+rules-kept station job s bytes h =
+    ⊎-elim (λ a. subst (λ (x : Summary). allowed (receiptBy station job x) ≡ true) (sym (summary-accepted s bytes a)) (rules-accepted station job a h))
+    (λ n. subst (λ (x : Summary). allowed (receiptBy station job x) ≡ true) (sym (summary-refused s bytes n))
+    (rules-refused station job (verdictOf s) h (verdict-most s) (verdict-refused s bytes n))) (decided s bytes)
+
+pub text-receipted : (station job : ℕ) (s : List ℕ) → Bytes s → numbered station job ≡ true → Receipted station job s (receiptText station job s)
+unfolding receiptText
+text-receipted station job s bytes h = record {
+  receipt = receiptBy station job (summaryOf s);
+  of = receipt-of station job s bytes;
+  is = record { rules = rules-kept station job s bytes h; text = refl };
+}
+
+-- The cases of writing
+
+module _ (station job : ℕ) (s : List ℕ) where
+  -- station or job out of range
+
+  pub told-29 : (n : ℕ) → numbered station job ≡ false → writing.Refused receiptMalformed ≡ told station job s n
+  unfolding told
+  told-29 n h = rw h
+
+  pub left-29 : (buffer : List ℕ) → numbered station job ≡ false → buffer ≡ left station job s buffer
+  unfolding left
+  left-29 buffer h = rw h
+
+  -- too little room
+
+  pub told-25 : (n : ℕ) → numbered station job ≡ true → n < length (receiptText station job s) → writing.Refused bufferTooSmall ≡ told station job s n
+  unfolding told
+  told-25 n h l = rw (h, lt-leb (length (receiptText station job s)) n l)
+
+  pub left-25 : (buffer : List ℕ) → numbered station job ≡ true → length buffer < length (receiptText station job s) → buffer ≡ left station job s buffer
+  unfolding left
+  left-25 buffer h l = rw (h, lt-leb (length (receiptText station job s)) (length buffer) l)
+
+  -- room enough
+
+  pub told-written : (n : ℕ) → numbered station job ≡ true → length (receiptText station job s) ≤ n → writing.Bytes (length (receiptText station job s)) ≡ told station job s n
+  unfolding told
+  told-written n h l = rw (h, le-leb (length (receiptText station job s)) n l)
+
+  pub left-written : (buffer : List ℕ) → numbered station job ≡ true → length (receiptText station job s) ≤ length buffer
+      → receiptText station job s ++ drop (length (receiptText station job s)) buffer ≡ left station job s buffer
+  unfolding left
+  left-written buffer h l = rw (h, le-leb (length (receiptText station job s)) (length buffer) l)
+
+-- What is written is the receipt of the file
+
+never : {A : Type 0} (o : Written) (r n : ℕ) → writing.Refused r ≡ o → o ≡ writing.Bytes n → A
+never o r n p q = let z : _≡_ {A = ℕ} 0 1 = cc in absurd (omega arith)
+
+same : (o : Written) (m n : ℕ) → writing.Bytes m ≡ o → o ≡ writing.Bytes n → m ≡ n
+same o m n p q = cc
+
+pub receipt-left : (station job : ℕ) (s buffer : List ℕ) (n : ℕ) → Bytes s → told station job s (length buffer) ≡ writing.Bytes n
+    → Receipted station job s (take n (left station job s buffer))
+receipt-left station job s buffer n bytes q = go (numbered station job) refl (leb (length text) (length buffer)) refl
+  where
+    text : List ℕ
+    text = receiptText station job s
+
+    go : (t : Bool) → numbered station job ≡ t → (u : Bool) → leb (length text) (length buffer) ≡ u → Receipted station job s (take n (left station job s buffer))
+    go false e u f = never (told station job s (length buffer)) receiptMalformed n (told-29 station job s (length buffer) e) q
+    go true e false f = never (told station job s (length buffer)) bufferTooSmall n (told-25 station job s (length buffer) e (leb-false (length text) (length buffer) f)) q
+    go true e true f =
+        let l = leb-true (length text) (length buffer) f in
+        let m : length text ≡ n = same (told station job s (length buffer)) (length text) n (told-written station job s (length buffer) e l) q in
+        let t : take n (left station job s buffer) ≡ text = ap (take n) (sym (left-written station job s buffer e l)) ∙ take-at text (drop (length text) buffer) n m in
+        subst (Receipted station job s) (sym t) (text-receipted station job s bytes e)
+
+-- One unit if the file is accepted, none if not
+
+pub unit-accepted : {station job : ℕ} {s : List ℕ} {r : Receipt} → ReceiptOf station job s r → Accepted s → r .units ≡ 1
+unit-accepted (accepts b) a = refl
+unit-accepted (refuses h) a = absurd (h a)
+
+units-none : (n : ℕ) → (n ≡ 0 → ⊥) → unitsOf n ≡ 0
+units-none n h = rw (ne-eqb n 0 h)
+
+pub unit-refused : {station job : ℕ} {s : List ℕ} {r : Receipt} → Bytes s → ReceiptOf station job s r → (Accepted s → ⊥) → r .units ≡ 0
+unit-refused bytes (accepts b) h = absurd (h b)
+unit-refused {station} {job} {s} bytes (refuses g) h = units-none (verdictOf s) (verdict-refused s bytes h)
+
+-- What a call says and leaves
+
+-- the bytes on a page, where a file's receipt has been put
+pub page-text : {old new : List ℕ} {next : ℕ} {r : Receipt} (station job : ℕ) (s : List ℕ) → Bytes s → numbered station job ≡ true → r ≡ receiptBy station job (summaryOf s)
+    → length old ≡ 176 → Put old 0 (written r) next new → (next ≡ length (receiptText station job s)) × (take next new ≡ receiptText station job s)
+unfolding receiptText
+page-text {old} {new} {next} {r} station job s bytes h e l p =
+    let kept : allowed r ≡ true = ap allowed e ∙ rules-kept station job s bytes h in
+    let page = page-holds (allowed-small r kept) l p in
+    (page .0 ∙ ap (λ (x : Receipt). length (written x)) e, page .1 ∙ ap written e)
+
+-- the same bytes put into the buffer
+pub buffer-left : {buffer new page : List ℕ} {next : ℕ} (station job : ℕ) (s : List ℕ) → numbered station job ≡ true → length (receiptText station job s) ≤ length buffer
+    → page ≡ receiptText station job s → Put buffer 0 page next new → new ≡ left station job s buffer
+buffer-left {buffer} {new} {page} {next} station job s h l e p =
+    let q = subst (λ (x : List ℕ). Put buffer 0 x next new) e p in
+    put-all q l .1 ∙ left-written station job s buffer h l
+
+-- the answer and the buffer give the receipt
+pub call-says : (station job : ℕ) (s buffer new : List ℕ) (r : Written) → Bytes s → r ≡ told station job s (length buffer) → new ≡ left station job s buffer
+    → (r ≡ told station job s (length buffer)) × ((new ≡ left station job s buffer) × ((n : ℕ) → r ≡ writing.Bytes n → Receipted station job s (take n new)))
+call-says station job s buffer new r bytes e f =
+    (e, (f, λ n q. subst (λ (x : List ℕ). Receipted station job s (take n x)) (sym f) (receipt-left station job s buffer n bytes (sym e ∙ q))))
