@@ -7,7 +7,7 @@ use lib.Dec.{eqb}
 use lib.ListN.{length}
 use lib.IntN.{ℤ, pos}
 use lib.Ieee.{Float}
-use Rattle.refusal.specs.Table.{accepted}
+use Rattle.refusal.specs.Table.{accepted, receiptMalformed}
 use Rattle.views.specs.View.{shown, Viewable, startOf, viewNumber}
 use Rattle.decoding.specs.declared.Decoded.{Decoded}
 use Rattle.decoding.specs.declared.Decoded.the-variants as decoded
@@ -19,6 +19,10 @@ use Rattle.cells.specs.declared.Cell.{Cell}
 use Rattle.cells.specs.declared.Cell.the-variants as cell
 use Rattle.encoding.specs.declared.Encoded.{Encoded}
 use Rattle.encoding.specs.declared.Encoded.the-variants as encoded
+use Rattle.receipt.specs.Receipt.{numbersOf, IsReceipt}
+use Rattle.receipt.specs.declared.Receipt.{Receipt}
+use Rattle.receipt.specs.declared.Written.{Written}
+use Rattle.receipt.specs.declared.Written.the-variants as writing
 
 -- a view: the part's start and length, or the refusal with the out parameters as they were
 pub data ViewCall (file name : List ℕ) (start size : ℕ) : ℕ → ℕ → ℕ → Type 0 where
@@ -93,3 +97,17 @@ encodedNumber (encoded.Refused r) = r
 abbrev pub encodedCount : Encoded → ℕ → ℕ
 encodedCount (encoded.Written n) old = n
 encodedCount (encoded.Refused r) old = old
+
+-- a receipt written: its number, and the bytes written afterwards
+abbrev pub receiptNumber : Written → ℕ
+receiptNumber (writing.Bytes n) = accepted
+receiptNumber (writing.Refused r) = r
+
+abbrev pub receiptCount : Written → ℕ → ℕ
+receiptCount (writing.Bytes n) old = n
+receiptCount (writing.Refused r) old = old
+
+-- a receipt read: its numbers in the order of its lines, or 29 with the numbers as they were
+pub data ReadCall (bytes old : List ℕ) : ℕ → List ℕ → Type 0 where
+  reads : {r : Receipt} → IsReceipt bytes r → ReadCall bytes old accepted (numbersOf r)
+  refuses-bytes : ((r : Receipt) → IsReceipt bytes r → ⊥) → ReadCall bytes old receiptMalformed old

@@ -3,7 +3,7 @@
 ghost use mathlib.Core.Path.{_≡_};
 ghost use mathlib.Core.Logic.{_↔_};
 ghost use mathlib.Core.List.{map};
-ghost use lib.ListN.{length};
+ghost use lib.ListN.{length, take};
 ghost use lib.IntN.{pos};
 ghost use mir.Syntax.{w32};
 ghost use mir.Val.{toZ, ofZ};
@@ -17,7 +17,10 @@ ghost use Rattle.decoding.specs.Calls as decoding;
 ghost use Rattle.floats.specs.Calls as floats;
 ghost use Rattle.cells.specs.Calls.{cellOf};
 ghost use Rattle.encoding.specs.Calls as encoding;
-ghost use Rattle.mmtf.specs.Calls.{ViewCall, matrixRows, decodedNumber, decodedCount, fixedNumber, fixedCount, fixedDivisor, floatsNumber, floatsCount, cellNumber, cellKind, cellInteger, cellReal, encodedNumber, encodedCount};
+ghost use Rattle.receipt.specs.Receipt.{numbersOf};
+ghost use Rattle.receipt.specs.File as receipt;
+ghost use Rattle.receipt.specs.File.{Receipted};
+ghost use Rattle.mmtf.specs.Calls.{ViewCall, matrixRows, decodedNumber, decodedCount, fixedNumber, fixedCount, fixedDivisor, floatsNumber, floatsCount, cellNumber, cellKind, cellInteger, cellReal, encodedNumber, encodedCount, receiptNumber, receiptCount, ReadCall};
 use cells::Cell;
 use columns::Kind;
 use columns::Wanted;
@@ -25,6 +28,9 @@ use decoding::Decoded;
 use decoding::Fixed;
 use encoding::Encoded;
 use floats::Floats;
+use receipt::Reading;
+use receipt::Receipt;
+use receipt::Written;
 use views::Place;
 
 // The refusal of a file as a container, 1 to 11, or 0.
@@ -314,6 +320,61 @@ pub extern "C" fn mmtf_encode_float32(
     ensures buffer { λ r. ⌜ now (buffer .exit) ≡ encoding.left (encode (Wanted.Only Kind.Float32) (ofZ w32 codec) 0 (map (toZ w32) (now (bits .entry)))) (now (buffer .entry)) ⌝ }
 {
     hand_written(encoding::encode_float32(codec, bits, buffer), written)
+}
+
+// Writes the receipt of a file; or the refusal, 29 for a station or a job out of range, then 25.
+#[no_mangle]
+pub extern "C" fn mmtf_write_receipt(
+    station: u32,
+    job: u32,
+    file: &[u8],
+    buffer: &mut [u8],
+    written: &mut u64,
+) -> u8
+    ensures answer { λ r. ⌜ r ≡ receiptNumber (receipt.told station job (now (file .entry)) (length (now (buffer .entry)))) ⌝ }
+    ensures written { λ r. ⌜ now (written .exit) ≡ receiptCount (receipt.told station job (now (file .entry)) (length (now (buffer .entry)))) (now (written .entry)) ⌝ }
+    ensures buffer { λ r. ⌜ now (buffer .exit) ≡ receipt.left station job (now (file .entry)) (now (buffer .entry)) ⌝ }
+    ensures receipt { λ r. ⌜ (r ≡ 0 → Receipted station job (now (file .entry)) (take (now (written .exit)) (now (buffer .exit)))) ⌝ }
+{
+    match receipt::write(station, job, file, buffer) {
+        Written::Refused(r) => r,
+        Written::Bytes(n) => {
+            *written = n as u64;
+            refusal::ACCEPTED
+        }
+    }
+}
+
+// The ten numbers of a receipt, in the order of its lines; or 29.
+#[no_mangle]
+pub extern "C" fn mmtf_read_receipt(bytes: &[u8], numbers: &mut [u32; 10]) -> u8
+    ensures { λ r. ⌜ ReadCall (now (bytes .entry)) (now (numbers .entry)) r (now (numbers .exit)) ⌝ }
+{
+    match receipt::read(bytes) {
+        Reading::Refused(r) => r,
+        Reading::Numbers(receipt) => {
+            *numbers = in_order(receipt);
+            refusal::ACCEPTED
+        }
+    }
+}
+
+// The numbers of a receipt in the order of its lines.
+fn in_order(receipt: Receipt) -> [u32; 10]
+    ensures { λ r. ⌜ r ≡ numbersOf receipt ⌝ }
+{
+    [
+        receipt.station,
+        receipt.job,
+        receipt.verdict,
+        receipt.models,
+        receipt.chains,
+        receipt.groups,
+        receipt.atoms,
+        receipt.bonds,
+        receipt.fields,
+        receipt.units,
+    ]
 }
 
 // Hands on a decoder's answer: the count where it succeeded.

@@ -57,6 +57,11 @@ unfoldable pub allowed : Receipt → Bool
 allowed r =
     numbered (r .station) (r .job) && (leb (r .verdict) verdictLimit && cond (eqb (r .verdict) accepted) (openedRight r) (refusedRight r))
 
+-- the ten numbers in the order of the lines
+abbrev pub numbersOf : Receipt → List ℕ
+numbersOf r =
+    r .station ∷ r .job ∷ r .verdict ∷ r .models ∷ r .chains ∷ r .groups ∷ r .atoms ∷ r .bonds ∷ r .fields ∷ r .units ∷ []
+
 -- a line by its name
 abbrev pub named : Text.String → ℕ → List ℕ
 named name n = line (bytesIn name) n

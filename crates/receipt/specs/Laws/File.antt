@@ -119,13 +119,27 @@ module _ (station job : ℕ) (s : List ℕ) where
   unfolding left
   left-written buffer h l = rw (h, le-leb (length (receiptText station job s)) (length buffer) l)
 
--- What is written is the receipt of the file
+-- answers of different cases differ, and those of one case agree in their number
 
 never : {A : Type 0} (o : Written) (r n : ℕ) → writing.Refused r ≡ o → o ≡ writing.Bytes n → A
 never o r n p q = let z : _≡_ {A = ℕ} 0 1 = cc in absurd (omega arith)
 
 same : (o : Written) (m n : ℕ) → writing.Bytes m ≡ o → o ≡ writing.Bytes n → m ≡ n
 same o m n p q = cc
+
+refusals : (a b : ℕ) → writing.Refused a ≡ writing.Refused b → a ≡ b
+refusals a b p = cc
+
+-- a refusal has a number
+pub told-number : (station job : ℕ) (s : List ℕ) (n r : ℕ) → writing.Refused r ≡ told station job s n → r ≡ 0 → ⊥
+told-number station job s n r q z = go (numbered station job) refl (leb (length (receiptText station job s)) n) refl
+  where
+    go : (t : Bool) → numbered station job ≡ t → (u : Bool) → leb (length (receiptText station job s)) n ≡ u → ⊥
+    go false e u f = let d : r ≡ 29 = refusals r 29 (q ∙ sym (told-29 station job s n e)) in omega arith
+    go true e false f = let d : r ≡ 25 = refusals r 25 (q ∙ sym (told-25 station job s n e (leb-false (length (receiptText station job s)) n f))) in omega arith
+    go true e true f = never (writing.Refused r) r (length (receiptText station job s)) refl (q ∙ sym (told-written station job s n e (leb-true (length (receiptText station job s)) n f)))
+
+-- What is written is the receipt of the file
 
 pub receipt-left : (station job : ℕ) (s buffer : List ℕ) (n : ℕ) → Bytes s → told station job s (length buffer) ≡ writing.Bytes n
     → Receipted station job s (take n (left station job s buffer))

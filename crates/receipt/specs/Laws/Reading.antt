@@ -16,15 +16,10 @@ use Rattle.fields.specs.Laws.Types.{clash}
 use Rattle.receipt.specs.declared.Receipt.{Receipt}
 use Rattle.receipt.specs.declared.Reading.{Reading}
 use Rattle.receipt.specs.declared.Reading.the-variants.{Numbers, Refused}
-use Rattle.receipt.specs.Receipt.{allowed, named, written, IsReceipt, Reads, is, none}
+use Rattle.receipt.specs.Receipt.{allowed, numbersOf, named, written, IsReceipt, Reads, is, none}
 use Rattle.receipt.specs.Steps.{numbersIn, receiptFrom, readFrom}
 use Rattle.receipt.specs.Laws.Rules.{Small, AllSmall, allowed-small, written-most}
 use Rattle.receipt.specs.Laws.Numbers.{plain, numbers-line}
-
--- the ten numbers in their order
-numbersOf : Receipt → List ℕ
-numbersOf r =
-    r .station ∷ r .job ∷ r .verdict ∷ r .models ∷ r .chains ∷ r .groups ∷ r .atoms ∷ r .bonds ∷ r .fields ∷ r .units ∷ []
 
 -- a line before others that are read already
 before : (name : Text.String) (n : ℕ) (rest ns : List ℕ) → plain (bytesIn name) ≡ true → Small n → numbersIn rest 0 ≡ ns → numbersIn (named name n ++ rest) 0 ≡ n ∷ ns
@@ -42,7 +37,6 @@ unfolding written
 nested r = simp (append-assoc, append-nil)
 
 numbers-written : (r : Receipt) → AllSmall r → numbersIn (written r) 0 ≡ numbersOf r
-unfolding numbersOf
 numbers-written r s =
     ap (λ (bs : List ℕ). numbersIn bs 0) (nested r)
     ∙ before "station" (r .station) _ _ refl (s .station)
@@ -57,7 +51,6 @@ numbers-written r s =
     (before "units" (r .units) _ _ refl (s .units) nothing-read)))))))))
 
 from-numbers : (r : Receipt) → receiptFrom (sets (replicate 10 0) 0 (numbersOf r)) ≡ r
-unfolding numbersOf
 from-numbers r = refl
 
 -- what is written is read back
