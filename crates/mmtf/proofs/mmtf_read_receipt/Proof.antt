@@ -1,36 +1,31 @@
+-- Each case of reading is a case of the call. Assumes nothing.
+use mathlib.Core.Path.{sym, subst}
+use mathlib.Core.List.{List}
+use Prim.Native.Nat.{ℕ}
 use borrow.Author.Needs.{needs}
+use Rattle.refusal.specs.Table.{accepted}
+use Rattle.receipt.specs.Receipt.{numbersOf, Reads, is, none}
+use Rattle.receipt.specs.declared.Receipt.{Receipt}
+use Rattle.receipt.specs.declared.Reading.the-variants.{Numbers, Refused}
+use Rattle.mmtf.specs.Calls.{ReadCall, reads, refuses-bytes}
 use Rattle.mmtf.proofs.mmtf_read_receipt.Statement.{statement}
 use Rattle.mmtf.proofs.mmtf_read_receipt.Tie as tie
-use Rattle.mmtf.proofs.mmtf_read_receipt.Reads as reads
-use Rattle.mmtf.proofs.mmtf_read_receipt.Lts as lts
-use Rattle.mmtf.proofs.in_order.Reads as in-order-reads
-use Rattle.receipt.proofs.read.Reads as read-reads
 
--- src/lib.rt:353:11
-read-requires : tie.Need-read-requires
-read-requires c κs = search needs
+refused-as : {bytes old : List ℕ} {r : ℕ} → Reads bytes (Refused r) → ReadCall bytes old r old
+refused-as (none h) = refuses-bytes h
 
--- src/lib.rt:354:26
-enum-known-r : tie.Need-enum-known-r
-enum-known-r c = search needs
+read-as : {bytes old : List ℕ} {r : Receipt} → Reads bytes (Numbers r) → ReadCall bytes old accepted (numbersOf r)
+read-as (is i) = reads i
 
--- src/lib.rt:355:26
-enum-known-receipt : tie.Need-enum-known-receipt
-enum-known-receipt c = search needs
-
--- src/lib.rt:356:24
-in-order-requires : tie.Need-in-order-requires
-in-order-requires c κs = search needs
-
--- src/lib.rt:349:1
 returns : tie.Need-returns
-returns c = ?
+returns c = refused-as (subst (Reads (c .before .before .before .before .before .args .bytes .now)) (c .before .r .given .1) (c .before .before .before .read .ensures))
 
--- src/lib.rt:349:1
 returns-2 : tie.Need-returns-2
-returns-2 c = ?
+returns-2 c =
+    subst (λ (l : List ℕ). ReadCall (c .before .before .before .before .before .before .args .bytes .now) (c .before .before .before .before .before .before .args .numbers .now) accepted l) (sym (c .in-order .ensures))
+    (read-as (subst (Reads (c .before .before .before .before .before .before .args .bytes .now)) (c .before .before .receipt .given .1) (c .before .before .before .before .read .ensures)))
 
 pub mmtf-read-receipt-spec : {M : Type 1} → statement M
 mmtf-read-receipt-spec =
     tie.close
-    (tie.spec read-requires enum-known-r enum-known-receipt in-order-requires returns returns-2)
+    (tie.spec (λ c κs. search needs) (λ c. search needs) (λ c. search needs) (λ c κs. search needs) returns returns-2)

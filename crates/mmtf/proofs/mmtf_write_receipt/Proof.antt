@@ -1,39 +1,25 @@
+-- Each case of writing is a case of the call; a refusal is not 0. Assumes nothing.
+use mathlib.Core.Path.{sym, ap, _∙_}
 use borrow.Author.Needs.{needs}
+use Rattle.receipt.specs.declared.Written.{Written}
+use Rattle.receipt.specs.Laws.File.{told-number}
+use Rattle.mmtf.specs.Calls.{receiptNumber, receiptCount}
 use Rattle.mmtf.proofs.mmtf_write_receipt.Statement.{statement}
 use Rattle.mmtf.proofs.mmtf_write_receipt.Tie as tie
-use Rattle.mmtf.proofs.mmtf_write_receipt.Reads as reads
-use Rattle.mmtf.proofs.mmtf_write_receipt.Lts as lts
-use Rattle.receipt.proofs.write.Reads as write-reads
 
--- src/lib.rt:339:11
-write-requires : tie.Need-write-requires
-write-requires c κs = search needs
-
--- src/lib.rt:340:26
-enum-known-r : tie.Need-enum-known-r
-enum-known-r c = search needs
-
--- src/lib.rt:341:24
-enum-known-n : tie.Need-enum-known-n
-enum-known-n c = search needs
-
--- src/lib.rt:326:1
-same-length : tie.Need-same-length
-same-length c = search needs
-
--- src/lib.rt:326:1
 returns : tie.Need-returns
-returns c = ?
+returns c =
+    let a = c .before .before .before .before .before .before .before .before .before .args in
+    let e = sym (c .before .r .given .1) ∙ c .before .before .before .before .before .write .ensures .0 in
+    (ap receiptNumber e, (ap (λ (o : Written). receiptCount o (a .written .now)) e, (c .before .before .before .before .before .write .ensures .1 .0, λ z. absurd (told-number _ _ _ _ _ e z))))
 
--- src/lib.rt:326:1
-same-length-2 : tie.Need-same-length-2
-same-length-2 c = search needs
-
--- src/lib.rt:326:1
 returns-2 : tie.Need-returns-2
-returns-2 c = ?
+returns-2 c =
+    let a = c .before .before .before .before .before .before .before .before .before .args in
+    let e = sym (c .before .n .given .1) ∙ c .before .before .before .before .before .write .ensures .0 in
+    (ap receiptNumber e, (ap (λ (o : Written). receiptCount o (a .written .now)) e, (c .before .before .before .before .before .write .ensures .1 .0, λ z. c .before .before .before .before .before .write .ensures .1 .1 _ (c .before .n .given .1))))
 
 pub mmtf-write-receipt-spec : {M : Type 1} → statement M
 mmtf-write-receipt-spec =
     tie.close
-    (tie.spec write-requires enum-known-r enum-known-n same-length returns same-length-2 returns-2)
+    (tie.spec (λ c κs. search needs) (λ c. search needs) (λ c. search needs) (λ c. search needs) returns (λ c. search needs) returns-2)
