@@ -9,7 +9,7 @@ use lib.Dec.{eqb, leb}
 use Rattle.refusal.specs.Table.{accepted, receiptMalformed}
 use Rattle.fields.specs.Types.{bytesIn}
 use Rattle.counts.specs.Counts.{countLimit}
-use Rattle.lines.specs.Line.{line}
+use Rattle.text.specs.Decimal.{decimal}
 use Rattle.receipt.specs.declared.Receipt.{Receipt}
 use Rattle.receipt.specs.declared.Reading.{Reading}
 use Rattle.receipt.specs.declared.Reading.the-variants.{Numbers, Refused}
@@ -62,7 +62,10 @@ abbrev pub numbersOf : Receipt → List ℕ
 numbersOf r =
     r .station ∷ r .job ∷ r .verdict ∷ r .models ∷ r .chains ∷ r .groups ∷ r .atoms ∷ r .bonds ∷ r .fields ∷ r .units ∷ []
 
--- a line by its name
+-- a line: a name, an equals sign, a number in decimal with the higher digits first and no leading zeros, and a line feed
+unfoldable pub line : List ℕ → ℕ → List ℕ
+line name n = name ++ (0x3d ∷ decimal n ++ (0x0a ∷ []))
+
 abbrev pub named : Text.String → ℕ → List ℕ
 named name n = line (bytesIn name) n
 

@@ -5,8 +5,8 @@ ghost use mathlib.Core.Bool.{_&&_};
 ghost use Prim.Native.Nat.{ℕ};
 ghost use lib.ListN.{length, set, take, replicate};
 ghost use lib.Seq.{sets};
-ghost use Rattle.lines.specs.Put.{Put};
-ghost use Rattle.receipt.specs.Receipt.{within, numbered, openedRight, refusedRight, allowed, written, Reads};
+ghost use Rattle.text.specs.Put.{Put};
+ghost use Rattle.receipt.specs.Receipt.{within, numbered, openedRight, refusedRight, allowed, line, written, Reads};
 ghost use Rattle.structure.specs.Summary.{summaryOf};
 ghost use Rattle.receipt.specs.File.{unitsOf, receiptBy, Receipted, told, left};
 ghost use Rattle.receipt.specs.Steps.{shifted, numbersIn, receiptFrom, countsLines, firstLines, lastLines};
@@ -67,7 +67,7 @@ pub fn write(station: u32, job: u32, file: &[u8], buffer: &mut [u8]) -> Written
     if buffer.len() < end {
         return Written::Refused(refusal::BUFFER_TOO_SMALL);
     }
-    lines::put_bytes(buffer, 0, &page[..end]);
+    text::put(buffer, 0, &page[..end]);
     Written::Bytes(end)
 }
 
@@ -265,7 +265,7 @@ fn blank() -> [u8; 176]
 
 // Puts a receipt's lines on a page, and answers where they end.
 fn put_receipt(page: &mut [u8; 176], receipt: Receipt) -> usize
-    ensures { λ r. ⌜ Put (now (page .entry)) 0 (written receipt) r (now (page .exit)) ⌝ }
+    ensures { λ r. ⌜ Put (now (page .entry)) 0 (written receipt) (now (page .exit)) r ⌝ }
 {
     let counts = put_first(page, receipt);
     let last = put_counts(page, counts, receipt);
@@ -274,28 +274,38 @@ fn put_receipt(page: &mut [u8; 176], receipt: Receipt) -> usize
 
 // Puts the lines of station, job and verdict.
 fn put_first(page: &mut [u8], receipt: Receipt) -> usize
-    ensures { λ r. ⌜ Put (now (page .entry)) 0 (firstLines receipt) r (now (page .exit)) ⌝ }
+    ensures { λ r. ⌜ Put (now (page .entry)) 0 (firstLines receipt) (now (page .exit)) r ⌝ }
 {
-    let job = lines::put_line(page, 0, b"station", receipt.station);
-    let verdict = lines::put_line(page, job, b"job", receipt.job);
-    lines::put_line(page, verdict, b"verdict", receipt.verdict)
+    let job = put_line(page, 0, b"station", receipt.station);
+    let verdict = put_line(page, job, b"job", receipt.job);
+    put_line(page, verdict, b"verdict", receipt.verdict)
 }
 
 // Puts the lines of the five counts.
 fn put_counts(page: &mut [u8], at: usize, receipt: Receipt) -> usize
-    ensures { λ r. ⌜ Put (now (page .entry)) at (countsLines receipt) r (now (page .exit)) ⌝ }
+    ensures { λ r. ⌜ Put (now (page .entry)) at (countsLines receipt) (now (page .exit)) r ⌝ }
 {
-    let chains = lines::put_line(page, at, b"models", receipt.models);
-    let groups = lines::put_line(page, chains, b"chains", receipt.chains);
-    let atoms = lines::put_line(page, groups, b"groups", receipt.groups);
-    let bonds = lines::put_line(page, atoms, b"atoms", receipt.atoms);
-    lines::put_line(page, bonds, b"bonds", receipt.bonds)
+    let chains = put_line(page, at, b"models", receipt.models);
+    let groups = put_line(page, chains, b"chains", receipt.chains);
+    let atoms = put_line(page, groups, b"groups", receipt.groups);
+    let bonds = put_line(page, atoms, b"atoms", receipt.atoms);
+    put_line(page, bonds, b"bonds", receipt.bonds)
 }
 
 // Puts the lines of fields and units.
 fn put_last(page: &mut [u8], at: usize, receipt: Receipt) -> usize
-    ensures { λ r. ⌜ Put (now (page .entry)) at (lastLines receipt) r (now (page .exit)) ⌝ }
+    ensures { λ r. ⌜ Put (now (page .entry)) at (lastLines receipt) (now (page .exit)) r ⌝ }
 {
-    let units = lines::put_line(page, at, b"fields", receipt.fields);
-    lines::put_line(page, units, b"units", receipt.units)
+    let units = put_line(page, at, b"fields", receipt.fields);
+    put_line(page, units, b"units", receipt.units)
+}
+
+// Puts a line: a name, an equals sign, a number in decimal and a line feed.
+fn put_line(page: &mut [u8], at: usize, name: &[u8], number: u32) -> usize
+    ensures { λ r. ⌜ Put (now (page .entry)) at (line (now (name .entry)) number) (now (page .exit)) r ⌝ }
+{
+    let sign = text::put(page, at, name);
+    let digits = text::put_byte(page, sign, b'=');
+    let end = text::put_decimal(page, digits, number);
+    text::put_byte(page, end, b'\n')
 }

@@ -1,11 +1,11 @@
 -- Two lines are put one after another. Assumes nothing.
 use borrow.Author.Needs.{needs}
-use Rattle.lines.specs.Laws.Put.{put-then}
+use Rattle.text.specs.Laws.Put.{put-more}
 use Rattle.receipt.proofs.put_last.Statement.{statement}
 use Rattle.receipt.proofs.put_last.Tie as tie
 
 returns : tie.Need-returns
-returns c = put-then (c .before .before .before .before .before .before .before .put-line .ensures) (c .before .before .put-line2 .ensures)
+returns c = put-more (c .before .before .before .before .before .before .before .put-line .ensures) (c .before .before .put-line2 .ensures)
 
 pub put-last-spec : {M : Type 1} → statement M
 put-last-spec =

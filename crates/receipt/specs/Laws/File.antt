@@ -15,8 +15,7 @@ use Rattle.refusal.specs.Table.{accepted, bufferTooSmall, receiptMalformed}
 use Rattle.numbers.specs.BigEndian.{Bytes}
 use Rattle.counts.specs.Counts.{countLimit}
 use Rattle.fields.specs.Fields.{presenceOf}
-use Rattle.lines.specs.Put.{Put}
-use Rattle.lines.specs.Laws.Put.{put-all}
+use Rattle.text.specs.Put.{Put}
 use Rattle.structure.specs.Accepted.{Accepted, verdictOf}
 use Rattle.structure.specs.Summary.{opened, refused, summaryOf}
 use Rattle.structure.specs.Laws.Accepted.{accepted-exactly}
@@ -26,7 +25,7 @@ use Rattle.receipt.specs.declared.Receipt.{Receipt}
 use Rattle.receipt.specs.declared.Written.{Written}
 use Rattle.receipt.specs.declared.Written.the-variants as writing
 use Rattle.receipt.specs.Receipt.{numbered, allowed, written, IsReceipt}
-use Rattle.receipt.specs.Laws.Rules.{allowed-small, page-holds}
+use Rattle.receipt.specs.Laws.Rules.{put-all, page-holds}
 use Rattle.receipt.specs.File.{unitsOf, receiptBy, ReceiptOf, accepts, refuses, Receipted, receiptText, told, left}
 
 -- The receipt's numbers
@@ -173,19 +172,18 @@ unit-refused {station} {job} {s} bytes (refuses g) h = units-none (verdictOf s) 
 -- What a call says and leaves
 
 -- the bytes on a page, where a file's receipt has been put
-pub page-text : {old new : List ℕ} {next : ℕ} {r : Receipt} (station job : ℕ) (s : List ℕ) → Bytes s → numbered station job ≡ true → r ≡ receiptBy station job (summaryOf s)
-    → length old ≡ 176 → Put old 0 (written r) next new → (next ≡ length (receiptText station job s)) × (take next new ≡ receiptText station job s)
+pub page-text : {old new : List ℕ} {next : ℕ} {r : Receipt} (station job : ℕ) (s : List ℕ) → r ≡ receiptBy station job (summaryOf s) → length old ≡ 176
+    → Put old 0 (written r) new next → (next ≡ length (receiptText station job s)) × (take next new ≡ receiptText station job s)
 unfolding receiptText
-page-text {old} {new} {next} {r} station job s bytes h e l p =
-    let kept : allowed r ≡ true = ap allowed e ∙ rules-kept station job s bytes h in
-    let page = page-holds (allowed-small r kept) l p in
+page-text {old} {new} {next} {r} station job s e l p =
+    let page = page-holds l p in
     (page .0 ∙ ap (λ (x : Receipt). length (written x)) e, page .1 ∙ ap written e)
 
 -- the same bytes put into the buffer
 pub buffer-left : {buffer new page : List ℕ} {next : ℕ} (station job : ℕ) (s : List ℕ) → numbered station job ≡ true → length (receiptText station job s) ≤ length buffer
-    → page ≡ receiptText station job s → Put buffer 0 page next new → new ≡ left station job s buffer
+    → page ≡ receiptText station job s → Put buffer 0 page new next → new ≡ left station job s buffer
 buffer-left {buffer} {new} {page} {next} station job s h l e p =
-    let q = subst (λ (x : List ℕ). Put buffer 0 x next new) e p in
+    let q = subst (λ (x : List ℕ). Put buffer 0 x new next) e p in
     put-all q l .1 ∙ left-written station job s buffer h l
 
 -- the answer and the buffer give the receipt

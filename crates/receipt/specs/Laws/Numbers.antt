@@ -12,10 +12,10 @@ use lib.Seq.{drop-cons, sets}
 use borrow.Author.Tests.{eq-eqb, ne-eqb, le-leb, lt-leb, lt-ltb, le-ltb, ltb-true, ltb-false}
 use Rattle.fields.specs.Types.{bytesIn}
 use Rattle.fields.specs.Laws.Types.{and-left, and-right}
-use Rattle.lines.specs.Decimal.{digit, digits}
-use Rattle.lines.specs.Line.{line}
-use Rattle.lines.specs.Laws.Decimal.{digits-one, digits-more, digits-few}
+use Rattle.text.specs.Decimal.{glyph, decimal}
+use Rattle.text.specs.Laws.Decimal.{decimal-one, decimal-more}
 use Rattle.receipt.specs.declared.Receipt.{Receipt}
+use Rattle.receipt.specs.Receipt.{line}
 use Rattle.receipt.specs.Steps.{shifted, numbersIn}
 
 -- one digit more
@@ -77,35 +77,40 @@ numbers-plain : (bs rest : List ℕ) (n : ℕ) → plain bs ≡ true → numbers
 numbers-plain [] rest n h = refl
 numbers-plain (b ∷ bs) rest n h = numbers-other b n (bs ++ rest) (ltb-true 57 b (and-left (ltb 57 b) (plain bs) h)) ∙ numbers-plain bs rest n (and-right (ltb 57 b) (plain bs) h)
 
-numbers-digit : (d n : ℕ) (rest : List ℕ) → d < 10 → n < 100000000 → numbersIn (digit d ∷ rest) n ≡ numbersIn rest (n * 10 + d)
+glyph-digit : (d : ℕ) → d < 10 → glyph d ≡ 48 + d
+glyph-digit d h =
+    let e : d % 16 ≡ d = omega arith in
+    rw (e, lt-ltb d 10 h)
+
+numbers-digit : (d n : ℕ) (rest : List ℕ) → d < 10 → n < 100000000 → numbersIn (glyph d ∷ rest) n ≡ numbersIn rest (n * 10 + d)
 unfolding numbersIn
 numbers-digit d n rest h f =
-    let e : n * 10 + (digit d - 48) ≡ n * 10 + d = omega arith in
-    rw (ne-eqb (digit d) 10 (λ z. omega arith), shifted-digit n (digit d) (omega arith) (omega arith) f, e)
+    let e : n * 10 + (48 + d - 48) ≡ n * 10 + d = omega arith in
+    rw (glyph-digit d h, ne-eqb (48 + d) 10 (λ z. omega arith), shifted-digit n (48 + d) (omega arith) (omega arith) f, e)
 
-numbers-one : (n : ℕ) (rest : List ℕ) → n < 10 → numbersIn (digits n ++ rest) 0 ≡ numbersIn rest n
+numbers-one : (n : ℕ) (rest : List ℕ) → n < 10 → numbersIn (decimal n ++ rest) 0 ≡ numbersIn rest n
 numbers-one n rest h =
     let e : 0 * 10 + n ≡ n = omega arith in
-    ap (λ (ds : List ℕ). numbersIn (ds ++ rest) 0) (digits-one n h) ∙ numbers-digit n 0 rest h (omega arith) ∙ ap (numbersIn rest) e
+    ap (λ (ds : List ℕ). numbersIn (ds ++ rest) 0) (decimal-one n h) ∙ numbers-digit n 0 rest h (omega arith) ∙ ap (numbersIn rest) e
 
 -- by the number of a tenth, which is smaller
-numbers-more : (n : ℕ) (rest : List ℕ) → 10 ≤ n → n < 1000000000 → numbersIn (digits (n / 10) ++ (digit (n % 10) ∷ rest)) 0 ≡ numbersIn (digit (n % 10) ∷ rest) (n / 10)
-    → numbersIn (digits n ++ rest) 0 ≡ numbersIn rest n
+numbers-more : (n : ℕ) (rest : List ℕ) → 10 ≤ n → n < 1000000000 → numbersIn (decimal (n / 10) ++ (glyph (n % 10) ∷ rest)) 0 ≡ numbersIn (glyph (n % 10) ∷ rest) (n / 10)
+    → numbersIn (decimal n ++ rest) 0 ≡ numbersIn rest n
 numbers-more n rest h f q =
     let e : n / 10 * 10 + n % 10 ≡ n = omega arith in
-    ap (λ (ds : List ℕ). numbersIn (ds ++ rest) 0) (digits-more n h)
-    ∙ ap (λ (bs : List ℕ). numbersIn bs 0) (append-assoc (digits (n / 10)) (digit (n % 10) ∷ []) rest)
+    ap (λ (ds : List ℕ). numbersIn (ds ++ rest) 0) (decimal-more n h (omega arith))
+    ∙ ap (λ (bs : List ℕ). numbersIn bs 0) (append-assoc (decimal (n / 10)) (glyph (n % 10) ∷ []) rest)
     ∙ q
-    ∙ numbers-digit (n % 10) (n / 10) rest (omega arith) (omega arith)
+    ∙ numbers-glyph (n % 10) (n / 10) rest (omega arith) (omega arith)
     ∙ ap (numbersIn rest) e
 
-numbers-digits : (steps n : ℕ) (rest : List ℕ) → n ≤ steps → n < 1000000000 → numbersIn (digits n ++ rest) 0 ≡ numbersIn rest n
+numbers-digits : (steps n : ℕ) (rest : List ℕ) → n ≤ steps → n < 1000000000 → numbersIn (decimal n ++ rest) 0 ≡ numbersIn rest n
 numbers-digits zero n rest h f = numbers-one n rest (omega arith)
 numbers-digits (suc steps) n rest h f =
-    go (ltb n 10) refl (λ l. numbers-digits steps (n / 10) (digit (n % 10) ∷ rest) (omega arith) (omega arith))
+    go (ltb n 10) refl (λ l. numbers-digits steps (n / 10) (glyph (n % 10) ∷ rest) (omega arith) (omega arith))
   where
-    go : (t : Bool) → ltb n 10 ≡ t → (10 ≤ n → numbersIn (digits (n / 10) ++ (digit (n % 10) ∷ rest)) 0 ≡ numbersIn (digit (n % 10) ∷ rest) (n / 10))
-        → numbersIn (digits n ++ rest) 0 ≡ numbersIn rest n
+    go : (t : Bool) → ltb n 10 ≡ t → (10 ≤ n → numbersIn (decimal (n / 10) ++ (glyph (n % 10) ∷ rest)) 0 ≡ numbersIn (glyph (n % 10) ∷ rest) (n / 10))
+        → numbersIn (decimal n ++ rest) 0 ≡ numbersIn rest n
     go true e q = numbers-one n rest (ltb-true n 10 e)
     go false e q = let l : 10 ≤ n = ltb-false n 10 e in numbers-more n rest l f (q l)
 
@@ -116,9 +121,9 @@ numbers-feed n rest = refl
 pub numbers-line : (name rest : List ℕ) (n : ℕ) → plain name ≡ true → n < 1000000000 → numbersIn (line name n ++ rest) 0 ≡ n ∷ numbersIn rest 0
 unfolding line
 numbers-line name rest n h f =
-    let e : line name n ++ rest ≡ name ++ (0x3d ∷ (digits n ++ (0x0a ∷ rest))) = simp append-assoc in
+    let e : line name n ++ rest ≡ name ++ (0x3d ∷ (decimal n ++ (0x0a ∷ rest))) = simp append-assoc in
     ap (λ (bs : List ℕ). numbersIn bs 0) e
-    ∙ numbers-plain name (0x3d ∷ (digits n ++ (0x0a ∷ rest))) 0 h
-    ∙ numbers-other 0x3d 0 (digits n ++ (0x0a ∷ rest)) (omega arith)
-    ∙ numbers-digits n n (0x0a ∷ rest) (omega arith) f
+    ∙ numbers-plain name (0x3d ∷ (decimal n ++ (0x0a ∷ rest))) 0 h
+    ∙ numbers-other 0x3d 0 (decimal n ++ (0x0a ∷ rest)) (omega arith)
+    ∙ numbers-decimal n n (0x0a ∷ rest) (omega arith) f
     ∙ numbers-feed n rest

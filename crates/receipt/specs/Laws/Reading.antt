@@ -75,7 +75,7 @@ one-reading (none m) (none n) = refl
 -- the cases of reading
 
 pub reads-long : (bytes : List ℕ) → 176 < length bytes → Reads bytes (Refused receiptMalformed)
-reads-long bytes h = none (λ r i. let l = written-most r (allowed-small r (i .rules)) in let e = ap length (i .text) in omega arith)
+reads-long bytes h = none (λ r i. let l = written-most r in let e = ap length (i .text) in omega arith)
 
 module _ (bytes : List ℕ) (r : Receipt) (e : r ≡ readFrom bytes) where
   pub reads-broken : allowed r ≡ false → Reads bytes (Refused receiptMalformed)

@@ -8,19 +8,17 @@ use Prim.Native.String as Text
 use native.Mathlib.Omega.{arith}
 use lib.Dec.{eqb, ltb, leb}
 use lib.ListN.{length, length-append, take, drop}
-use lib.Seq.{take-at}
+use lib.Seq.{take-at, sets-eq}
 use borrow.Author.Tests.{eqb-true, ltb-true, leb-true}
 use Rattle.refusal.specs.Table.{accepted}
 use Rattle.fields.specs.Types.{bytesIn}
 use Rattle.fields.specs.Laws.Types.{and-left, and-right}
 use Rattle.counts.specs.Counts.{countLimit}
-use Rattle.lines.specs.Decimal.{digits}
-use Rattle.lines.specs.Line.{line}
-use Rattle.lines.specs.Put.{Put}
-use Rattle.lines.specs.Laws.Decimal.{digits-few}
-use Rattle.lines.specs.Laws.Put.{put-all}
+use Rattle.text.specs.Decimal.{decimal}
+use Rattle.text.specs.Put.{Put}
+use Rattle.text.specs.Laws.Decimal.{decimal-few}
 use Rattle.receipt.specs.declared.Receipt.{Receipt}
-use Rattle.receipt.specs.Receipt.{stationLimit, jobLimit, verdictLimit, fieldsLeast, fieldsMost, within, numbered, openedRight, refusedRight, allowed, named, written}
+use Rattle.receipt.specs.Receipt.{stationLimit, jobLimit, verdictLimit, fieldsLeast, fieldsMost, within, numbered, openedRight, refusedRight, allowed, line, named, written}
 use Rattle.receipt.specs.Steps.{firstLines, countsLines, lastLines}
 
 -- below 1,000,000,000
@@ -133,32 +131,38 @@ pub written-parts : (r : Receipt) → firstLines r ++ countsLines r ++ lastLines
 unfolding written
 written-parts r = simp append-assoc
 
--- a line has its name, a sign, at most nine digits and a line feed
-line-most : (name : Text.String) (n : ℕ) → Small n → length (named name n) ≤ length (bytesIn name) + 11
+-- a line has its name, a sign, at most ten digits and a line feed
+line-most : (name : Text.String) (n : ℕ) → length (named name n) ≤ length (bytesIn name) + 12
 unfolding line
-line-most name n h =
-    let d : length (digits n) ≤ 9 = digits-few 8 n h in
+line-most name n =
+    let d : length (decimal n) ≤ 10 = decimal-few n in
     simp length-append (omega arith)
 
 -- ten lines have at most 176 bytes
-pub written-most : (r : Receipt) → AllSmall r → length (written r) ≤ 176
+pub written-most : (r : Receipt) → length (written r) ≤ 176
 unfolding written
-written-most r s =
-    let a = line-most "station" (r .station) (s .station) in
-    let b = line-most "job" (r .job) (s .job) in
-    let c = line-most "verdict" (r .verdict) (s .verdict) in
-    let d = line-most "models" (r .models) (s .models) in
-    let e = line-most "chains" (r .chains) (s .chains) in
-    let f = line-most "groups" (r .groups) (s .groups) in
-    let g = line-most "atoms" (r .atoms) (s .atoms) in
-    let h = line-most "bonds" (r .bonds) (s .bonds) in
-    let i = line-most "fields" (r .fields) (s .fields) in
-    let j = line-most "units" (r .units) (s .units) in
+written-most r =
+    let a = line-most "station" (r .station) in
+    let b = line-most "job" (r .job) in
+    let c = line-most "verdict" (r .verdict) in
+    let d = line-most "models" (r .models) in
+    let e = line-most "chains" (r .chains) in
+    let f = line-most "groups" (r .groups) in
+    let g = line-most "atoms" (r .atoms) in
+    let h = line-most "bonds" (r .bonds) in
+    let i = line-most "fields" (r .fields) in
+    let j = line-most "units" (r .units) in
     simp length-append (omega arith)
 
+-- all bytes are put where there is room for them
+pub put-all : {old xs new : List ℕ} {next : ℕ} → Put old 0 xs new next → length xs ≤ length old → (next ≡ length xs) × (new ≡ xs ++ drop (length xs) old)
+put-all {old} {xs} {new} {next} p h =
+    let z : 0 + length xs ≡ length xs = omega arith in
+    (omega (arith, p .place), p .bytes ∙ sets-eq xs old 0 (omega arith) ∙ ap (λ (k : ℕ). xs ++ drop k old) z)
+
 -- a page has room for them
-pub page-holds : {r : Receipt} {old new : List ℕ} {next : ℕ} → AllSmall r → length old ≡ 176 → Put old 0 (written r) next new → (next ≡ length (written r)) × (take next new ≡ written r)
-page-holds {r} {old} {new} {next} s l p =
-    let m = written-most r s in
+pub page-holds : {r : Receipt} {old new : List ℕ} {next : ℕ} → length old ≡ 176 → Put old 0 (written r) new next → (next ≡ length (written r)) × (take next new ≡ written r)
+page-holds {r} {old} {new} {next} l p =
+    let m = written-most r in
     let a = put-all p (omega arith) in
     (a .0, ap (take next) (a .1) ∙ take-at (written r) (drop (length (written r)) old) next (sym (a .0)))

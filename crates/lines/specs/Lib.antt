@@ -1,4 +1,0 @@
-pub mod Decimal
-pub mod Line
-pub mod Put
-pub mod Laws
