@@ -83,5 +83,9 @@ fn with_digit(number: u32, digit: u8) -> u32
     ensures { λ r. ⌜ r ≡ most (number * 10 + digit) ⌝ }
 {
     let sum = (number as u64) * 10 + (digit as u64);
-    if sum <= 4294967295 { sum as u32 } else { 4294967295 }
+    if sum <= 4294967295 {
+        sum as u32
+    } else {
+        4294967295
+    }
 }

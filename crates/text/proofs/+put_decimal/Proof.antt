@@ -42,7 +42,7 @@ returns-2 t c =
     let start = c .before .before .before .before .before .before .before .before .before .before .before in
     let n = start .args .number in
     put-as (put-more (c .before .before .before .before .before .before .before .put-decimal .ensures) (c .before .before .put-byte2 .ensures))
-        (decimal-more n (omega arith) (omega (arith, start .fits .number)) ∙ rw (c .before .before .before .digit2 .ensures))
+    (decimal-more n (omega arith) (omega (arith, start .fits .number)) ∙ rw (c .before .before .before .digit2 .ensures))
 
 pub +put-decimal-spec : {M : Type 1} → statement M
 +put-decimal-spec =

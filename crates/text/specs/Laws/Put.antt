@@ -46,7 +46,7 @@ module _ {s t new : List ℕ} {at next : ℕ} (h : Put s at t new next) where
       let a = length-append t u in
       record {
         bytes = k .bytes ∙ ap (λ (x : List ℕ). sets x next u) (h .bytes) ∙ ap (λ (n : ℕ). sets (sets s at t) n u) (h .place) ∙ sets-more t u s at;
-        place = omega (arith, h .place, k .place)
+        place = omega (arith, h .place, k .place);
       }
 
   -- a piece for which there is room
