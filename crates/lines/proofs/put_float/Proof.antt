@@ -1,0 +1,40 @@
+-- The tests are the definition's; the line feed comes after the text.
+use mathlib.Core.Path.{ap, _∙_}
+use mathlib.Core.List.{List, [], _∷_, _++_, append-assoc}
+use Prim.Native.Nat.{ℕ}
+use borrow.Author.Needs.{needs}
+use borrow.Author.Tests.{eq-eqb, ne-eqb, not-true, not-false}
+use Rattle.text.specs.Laws.Put.{put-more, put-as}
+use Rattle.lines.proofs.put_float.Statement.{statement}
+use Rattle.lines.proofs.put_float.Tie as tie
+
+returns : tie.Need-returns
+returns c =
+    put-as (put-more (put-more (c .before .before .before .before .before .before .before .before .before .before .put-sign .ensures) (c .before .before .before .before .before .before .put-finite .ensures)) (c .before .before .put-byte .ensures)) (simp (ne-eqb _ _ (c .before .before .before .before .before .before .before .before .before .before .before .before .if1 .taken)))
+
+returns-2 : tie.Need-returns-2
+returns-2 c =
+    put-as (put-more (c .before .before .before .before .before .before .before .put-sign2 .ensures) (c .before .before .put .ensures))
+    (simp (eq-eqb _ _ (c .before .before .before .before .before .before .before .before .before .before .if1 .left), eq-eqb _ _ (c .before .before .before .before .before .before .before .before .before .if2 .taken), append-assoc))
+
+returns-3 : tie.Need-returns-3
+returns-3 c = put-as (c .before .before .put2 .ensures) (simp (eq-eqb _ _ (c .before .before .before .before .before .before .if1 .left), ne-eqb _ _ (c .before .before .before .before .before .if2 .left)))
+
+pub put-float-spec : {M : Type 1} → statement M
+put-float-spec =
+    tie.close
+    (tie.spec
+    (λ c κs. search needs)
+    (λ c κs. search needs)
+    (λ c κs. search needs)
+    (λ c. search needs)
+    returns
+    (λ c κs. search needs)
+    (λ c. search needs)
+    (λ c κs. search needs)
+    (λ c. search needs)
+    returns-2
+    (λ c. search needs)
+    (λ c κs. search needs)
+    (λ c. search needs)
+    returns-3)
