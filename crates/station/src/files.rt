@@ -1,0 +1,63 @@
+// Reading a file by its name.
+ghost use Prim.Native.Nat.{_≤_};
+ghost use lib.ListN.{length};
+ghost use Rattle.station.specs.Reading.{Within};
+use crate::sentences;
+
+// What reading a file gives: how many bytes it has, that it has too many, or that it failed and why was said.
+pub enum Contents {
+    Bytes(usize),
+    TooLong,
+    Failed,
+}
+
+// Reads the whole of a file into a buffer, or says why that cannot be done.
+pub fn read(path: &[u8], buffer: &mut [u8]) -> Contents
+    ensures { λ r. ⌜ Within r (length (now (buffer .exit))) ⌝ }
+{
+    let descriptor = os::open_read(path);
+    if descriptor < 0 {
+        sentences::say_unreadable(path);
+        return Contents::Failed;
+    }
+    let got = read_all(descriptor, buffer);
+    if let Contents::Failed = got {
+        sentences::say_unreadable(path);
+    }
+    libc::close(descriptor);
+    got
+}
+
+// Reads until the input ends, a read fails, or there are more bytes than the buffer has.
+fn read_all(descriptor: i32, buffer: &mut [u8]) -> Contents
+    ensures { λ r. ⌜ Within r (length (now (buffer .exit))) ⌝ }
+{
+    let mut done: usize = 0;
+    while done < buffer.len() {
+        let got = libc::read(descriptor, &mut buffer[done..]);
+        if got < 0 {
+            return Contents::Failed;
+        }
+        let n = io::count(got, &buffer[done..]);
+        if n == 0 {
+            return Contents::Bytes(done);
+        }
+        done += n;
+    }
+    end_at(descriptor, done)
+}
+
+// Whether the input ends here, after so many bytes.
+fn end_at(descriptor: i32, done: usize) -> Contents
+    ensures { λ r. ⌜ Within r done ⌝ }
+{
+    let mut byte = [0u8; 1];
+    let got = libc::read(descriptor, &mut byte);
+    if got < 0 {
+        return Contents::Failed;
+    }
+    if got == 0 {
+        return Contents::Bytes(done);
+    }
+    Contents::TooLong
+}

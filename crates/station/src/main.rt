@@ -1,0 +1,90 @@
+// The service desk's command: whether a structure file is accepted, its parts and its columns. Data go to standard output, sentences to
+// standard error.
+mod files;
+mod output;
+mod sentences;
+mod shown;
+mod words;
+
+use files::Contents;
+use words::Command;
+
+fn main() {
+    if os::arg_count() < 2 {
+        words::say_usage(libc::STDERR_FILENO);
+        return;
+    }
+    let mut word = io::buffer();
+    let n = os::arg(1, &mut word);
+    start(words::command_of(&word[..n]), &word[..n]);
+}
+
+// Starts a command, if it is one and has as many words as it takes.
+fn start(command: Command, word: &[u8]) {
+    match command {
+        Command::Help => words::say_usage(libc::STDOUT_FILENO),
+        Command::Unknown => words::say_unknown(word),
+        _ => {
+            if os::arg_count() == words::count_of(command) {
+                run(command);
+            } else {
+                words::say_takes(command);
+            }
+        }
+    }
+}
+
+// Reads the file of a command, and does what the command says.
+fn run(command: Command) {
+    let mut path = io::buffer();
+    let n = os::arg(2, &mut path);
+    if os::errno() != 0 {
+        words::say_long_word();
+        return;
+    }
+    let mut file = io::large_buffer();
+    match files::read(&path[..n], &mut file) {
+        Contents::Bytes(m) => answer(command, &path[..n], &file[..m]),
+        Contents::TooLong => sentences::say_too_long(&path[..n]),
+        Contents::Failed => {}
+    }
+}
+
+// Answers a command about a file.
+fn answer(command: Command, path: &[u8], file: &[u8]) {
+    match command {
+        Command::View => view(path, file),
+        Command::Column => column(path, file),
+        _ => sentences::say_verdict(path, structure::verdict(file)),
+    }
+}
+
+// Writes the part of a file under a name.
+fn view(path: &[u8], file: &[u8]) {
+    let mut name = io::buffer();
+    let n = os::arg(3, &mut name);
+    if os::errno() != 0 {
+        words::say_long_word();
+        return;
+    }
+    let number = views::view_refusal(file, &name[..n]);
+    if number == refusal::ACCEPTED {
+        output::write(views::view(file, &name[..n]));
+    } else {
+        sentences::say_no_view(path, &name[..n], number);
+    }
+}
+
+// Writes the values of the column under a name.
+fn column(path: &[u8], file: &[u8]) {
+    let mut name = io::buffer();
+    let n = os::arg(3, &mut name);
+    if os::errno() != 0 {
+        words::say_long_word();
+        return;
+    }
+    let number = shown::write_column(file, &name[..n]);
+    if number != refusal::ACCEPTED {
+        sentences::say_no_column(path, &name[..n], number);
+    }
+}

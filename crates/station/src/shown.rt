@@ -1,0 +1,107 @@
+// A column's values on standard output, by its own codec.
+ghost use mathlib.Core.Path.{_≡_};
+ghost use Prim.Native.Nat.{_≤_};
+ghost use lib.ListN.{length};
+ghost use Rattle.station.specs.Reading.{wholeOf, FixedWithin, DecodedWithin};
+use crate::output;
+use columns::Header;
+use columns::Kind;
+use columns::Wanted;
+use decoding::Decoded;
+use decoding::Fixed;
+use floats::Floats;
+
+// The most values that are shown, and the most floats that a file of 65,536 bytes can hold.
+const VALUES: usize = 1048576;
+
+const FLOATS: usize = 16384;
+
+// Writes the values of the column under a name of a file; or answers the refusal.
+pub fn write_column(file: &[u8], name: &[u8]) -> u8 {
+    let number = views::view_refusal(file, name);
+    if number != refusal::ACCEPTED {
+        return number;
+    }
+    show_column(views::view(file, name))
+}
+
+// Writes the values of a column; or answers the refusal.
+fn show_column(column: &[u8]) -> u8 {
+    match columns::read_header(column, Wanted::Any) {
+        Header::Refused(r) => r,
+        Header::Good(_, size, kind, _, _) => match kind {
+            Kind::Float32 => show_floats(column),
+            Kind::Strings => show_bytes(column, kind, size as usize),
+            Kind::Chars => show_bytes(column, kind, 1),
+            _ => show_numbers(column, kind),
+        },
+    }
+}
+
+// Writes the values of a column of integers or fixed point; or answers the refusal.
+fn show_numbers(column: &[u8], kind: Kind) -> u8 {
+    let mut buffer = [0i32; VALUES];
+    match decode_numbers(column, kind, &mut buffer) {
+        Fixed::Refused(r) => r,
+        Fixed::Column(n, divisor) => {
+            output::write_numbers(&buffer[..n], numbers::to_u32(divisor));
+            refusal::ACCEPTED
+        }
+    }
+}
+
+// Decodes a column of integers or fixed point; integers have the divisor 1.
+fn decode_numbers(column: &[u8], kind: Kind, buffer: &mut [i32]) -> Fixed
+    ensures { λ r. ⌜ FixedWithin r (length (now (buffer .exit))) ⌝ }
+{
+    match kind {
+        Kind::FixedPoint => decoding::decode_fixed_point(column, buffer),
+        Kind::Int8 => whole(decoding::decode_int8(column, buffer)),
+        Kind::Int16 => whole(decoding::decode_int16(column, buffer)),
+        _ => whole(decoding::decode_int32(column, buffer)),
+    }
+}
+
+// An answer about integers, with the divisor 1.
+fn whole(answer: Decoded) -> Fixed
+    ensures { λ r. ⌜ r ≡ wholeOf answer ⌝ }
+{
+    match answer {
+        Decoded::Count(n) => Fixed::Column(n, 1),
+        Decoded::Refused(r) => Fixed::Refused(r),
+    }
+}
+
+// Writes the floats of a column; or answers the refusal.
+fn show_floats(column: &[u8]) -> u8 {
+    let mut buffer = [0u32; FLOATS];
+    match floats::decode_float32(column, &mut buffer) {
+        Floats::Refused(r) => r,
+        Floats::Count(n) => {
+            output::write_floats(&buffer[..n]);
+            refusal::ACCEPTED
+        }
+    }
+}
+
+// Writes the characters or the strings of a column; or answers the refusal.
+fn show_bytes(column: &[u8], kind: Kind, size: usize) -> u8 {
+    let mut buffer = [0u8; VALUES];
+    match decode_bytes(column, kind, &mut buffer) {
+        Decoded::Refused(r) => r,
+        Decoded::Count(n) => {
+            output::write_names(&buffer[..n], size);
+            refusal::ACCEPTED
+        }
+    }
+}
+
+// Decodes a column of characters or strings.
+fn decode_bytes(column: &[u8], kind: Kind, buffer: &mut [u8]) -> Decoded
+    ensures { λ r. ⌜ DecodedWithin r (length (now (buffer .exit))) ⌝ }
+{
+    match kind {
+        Kind::Strings => decoding::decode_strings(column, buffer),
+        _ => decoding::decode_chars(column, buffer),
+    }
+}
