@@ -1,4 +1,3 @@
 pub mod Words
 pub mod Reading
-pub mod Sentences
 pub mod Laws

@@ -23,3 +23,11 @@ countOf View = 4
 countOf Column = 4
 countOf Help = 2
 countOf Unknown = 2
+
+-- which of the words is the file's name
+abbrev pub filePlace : Command → ℕ
+filePlace Check = 2
+filePlace View = 2
+filePlace Column = 2
+filePlace Help = 0
+filePlace Unknown = 0

@@ -2,7 +2,7 @@
 ghost use Prim.Native.Nat.{_≤_};
 ghost use lib.ListN.{length};
 ghost use Rattle.station.specs.Reading.{Within};
-use crate::sentences;
+use crate::say;
 
 // What reading a file gives: how many bytes it has, that it has too many, or that it failed and why was said.
 pub enum Contents {
@@ -17,12 +17,12 @@ pub fn read(path: &[u8], buffer: &mut [u8]) -> Contents
 {
     let descriptor = os::open_read(path);
     if descriptor < 0 {
-        sentences::say_unreadable(path);
+        say::say_unreadable(path);
         return Contents::Failed;
     }
     let got = read_all(descriptor, buffer);
     if let Contents::Failed = got {
-        sentences::say_unreadable(path);
+        say::say_unreadable(path);
     }
     libc::close(descriptor);
     got

@@ -2,11 +2,12 @@
 // standard error.
 mod files;
 mod output;
-mod sentences;
+mod say;
 mod shown;
 mod words;
 
 use files::Contents;
+use sentences::Sentence;
 use words::Command;
 
 fn main() {
@@ -34,18 +35,18 @@ fn start(command: Command, word: &[u8]) {
     }
 }
 
-// Reads the file of a command, and does what the command says.
+// Reads the file of a command, and answers the command.
 fn run(command: Command) {
     let mut path = io::buffer();
-    let n = os::arg(2, &mut path);
+    let n = os::arg(words::file_place(command), &mut path);
     if os::errno() != 0 {
-        words::say_long_word();
+        say::say_long_word();
         return;
     }
     let mut file = io::large_buffer();
     match files::read(&path[..n], &mut file) {
         Contents::Bytes(m) => answer(command, &path[..n], &file[..m]),
-        Contents::TooLong => sentences::say_too_long(&path[..n]),
+        Contents::TooLong => say::say(&path[..n], b"", Sentence::TooLong),
         Contents::Failed => {}
     }
 }
@@ -55,8 +56,13 @@ fn answer(command: Command, path: &[u8], file: &[u8]) {
     match command {
         Command::View => view(path, file),
         Command::Column => column(path, file),
-        _ => sentences::say_verdict(path, structure::verdict(file)),
+        _ => check(path, file),
     }
+}
+
+// Says the verdict on a file.
+fn check(path: &[u8], file: &[u8]) {
+    say::say(path, b"", Sentence::Verdict(structure::verdict(file)));
 }
 
 // Writes the part of a file under a name.
@@ -64,27 +70,27 @@ fn view(path: &[u8], file: &[u8]) {
     let mut name = io::buffer();
     let n = os::arg(3, &mut name);
     if os::errno() != 0 {
-        words::say_long_word();
+        say::say_long_word();
         return;
     }
     let number = views::view_refusal(file, &name[..n]);
     if number == refusal::ACCEPTED {
         output::write(views::view(file, &name[..n]));
     } else {
-        sentences::say_no_view(path, &name[..n], number);
+        say::say(path, &name[..n], Sentence::NoView(number));
     }
 }
 
-// Writes the values of the column under a name.
+// Writes the values of the column under a name of a file.
 fn column(path: &[u8], file: &[u8]) {
     let mut name = io::buffer();
     let n = os::arg(3, &mut name);
     if os::errno() != 0 {
-        words::say_long_word();
+        say::say_long_word();
         return;
     }
     let number = shown::write_column(file, &name[..n]);
     if number != refusal::ACCEPTED {
-        sentences::say_no_column(path, &name[..n], number);
+        say::say(path, &name[..n], Sentence::NoColumn(number));
     }
 }

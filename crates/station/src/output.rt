@@ -50,6 +50,9 @@ pub fn write_names(names: &[u8], size: usize) {
         let part = lines::name_lines(&names[from..], size, &mut buffer);
         let n = part.bytes;
         let step = part.values * size;
+        if step == 0 {
+            return;
+        }
         if !write(&buffer[..n]) {
             return;
         }

@@ -12,9 +12,9 @@ use decoding::Fixed;
 use floats::Floats;
 
 // The most values that are shown, and the most floats that a file of 65,536 bytes can hold.
-const VALUES: usize = 1048576;
+const VALUES: usize = 4096;
 
-const FLOATS: usize = 16384;
+const FLOATS: usize = 4096;
 
 // Writes the values of the column under a name of a file; or answers the refusal.
 pub fn write_column(file: &[u8], name: &[u8]) -> u8 {

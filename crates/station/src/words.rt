@@ -1,8 +1,9 @@
 // The words of a command.
 ghost use mathlib.Core.Path.{_≡_};
-ghost use Rattle.station.specs.Words.{commandOf, countOf};
+ghost use Rattle.station.specs.Words.{commandOf, countOf, filePlace};
 use crate::output;
-use crate::sentences;
+use crate::say;
+use sentences::Sentence;
 
 pub enum Command {
     Check,
@@ -44,25 +45,43 @@ pub fn count_of(command: Command) -> usize
     }
 }
 
-// Says which words a command takes.
+// Which of the words is the file's name.
+pub fn file_place(command: Command) -> usize
+    ensures { λ r. ⌜ r ≡ filePlace command ⌝ }
+{
+    match command {
+        Command::Check => 2,
+        Command::View => 2,
+        Command::Column => 2,
+        Command::Help => 0,
+        Command::Unknown => 0,
+    }
+}
+
+// Says that a command takes other words.
 pub fn say_takes(command: Command) {
     match command {
-        Command::Check => sentences::say(b"station check takes a FILE.\n"),
-        Command::View => sentences::say(b"station view takes a FILE and a NAME.\n"),
-        Command::Column => sentences::say(b"station column takes a FILE and a NAME.\n"),
-        _ => say_usage(libc::STDERR_FILENO),
+        Command::Check => output::write_to(
+            libc::STDERR_FILENO,
+            b"station check takes one word more: FILE.\n",
+        ),
+        Command::View => output::write_to(
+            libc::STDERR_FILENO,
+            b"station view takes two words more: FILE NAME.\n",
+        ),
+        Command::Column => output::write_to(
+            libc::STDERR_FILENO,
+            b"station column takes two words more: FILE NAME.\n",
+        ),
+        _ => true,
     }
+    ;
 }
 
 // Says that a word is no command, and which there are.
 pub fn say_unknown(word: &[u8]) {
-    sentences::say_unknown(word);
+    say::say(word, b"", Sentence::NoCommand);
     say_usage(libc::STDERR_FILENO);
-}
-
-// Says that a word is too long.
-pub fn say_long_word() {
-    sentences::say(b"A word has more than 4,096 bytes.\n");
 }
 
 // Writes how the program is used.

@@ -4,8 +4,9 @@ use mathlib.Core.Bool.{Bool, true, false, cond}
 use mathlib.Core.List.{List, [], _∷_, _++_, append-assoc, append-nil}
 use Prim.Native.Nat.{ℕ, zero, suc, _+_, _-_, _*_, _/_, _<_, _≤_}
 use native.Mathlib.Omega.{arith}
-use native.Mathlib.Nat.{sub-zero, div-zero, div-eq-of-lt, div-eq-sub-div, pos-of-ne-zero}
+use native.Mathlib.Nat.{sub-zero, div-zero, div-eq-of-lt, div-eq-sub-div, pos-of-ne-zero, mul-zero, le-div-iff-mul-le}
 use native.Mathlib.Numerals.{add-one}
+use lib.Dec.{leb}
 use lib.ListN.{length, getD, take, drop, length-append, length-drop, take-append-drop, drop-of-length-le}
 use lib.Seq.{sets, take-at, take-suc, drop-cons, drop-drop, length-take-le}
 use borrow.Author.Tests.{le-leb, lt-leb}
@@ -160,3 +161,39 @@ module _ (text : List ℕ → List ℕ) (size : ℕ) (s : List ℕ) where
 
     pub from-done : length s - from < size → Lines text (size + 1) (namesIn size s) old now (record { values = i; bytes = at })
     from-done h = let l = length-drop from s in going-done text (size + 1) (g .going) (g .parts) (g .count) (names-none size (drop from s) (omega arith))
+
+-- How many lines there are
+
+gathered-most : {A : Type 0} (text : A → List ℕ) (room left : ℕ) (xs : List A) → gathered text room left xs ≤ length xs
+unfolding gathered
+gathered-most text room left [] = omega arith
+gathered-most text room left (x ∷ xs) = by (leb room left) (gathered-most text room (left - length (line text x)) xs)
+  where
+    by : (test : Bool) → gathered text room (left - length (line text x)) xs ≤ length xs → cond test (suc (gathered text room (left - length (line text x)) xs)) 0 ≤ suc (length xs)
+    by true h = omega arith
+    by false h = omega arith
+
+module _ {A : Type 0} {text : A → List ℕ} {room : ℕ} {xs : List A} {old new : List ℕ} {r : Gathered} (h : Lines text room xs old new r) where
+  pub lines-most : r .values ≤ length xs
+  lines-most = let m = gathered-most text room (length old) xs in omega (arith, h .values)
+
+  pub lines-some : room ≤ length old → 0 < length xs → 0 < r .values
+  lines-some k n = go xs n (h .values)
+    where
+      go : (l : List A) → 0 < length l → r .values ≡ gathered text room (length old) l → 0 < r .values
+      go [] n e = absurd (omega arith)
+      go (x ∷ l) n e = omega (arith, e, gathered-one text room (length old) x l k)
+
+namesFrom-length : (n size : ℕ) (s : List ℕ) → length (namesFrom n size s) ≡ n
+unfolding namesFrom
+namesFrom-length zero size s = refl
+namesFrom-length (suc n) size s = ap suc (namesFrom-length n size (drop size s))
+
+-- the names put as lines are all in the bytes
+pub names-most : {text : List ℕ → List ℕ} {room : ℕ} (size : ℕ) (s : List ℕ) {old new : List ℕ} {r : Gathered} → Lines text room (namesIn size s) old new r → r .values * size ≤ length s
+unfolding namesIn
+names-most zero s {r = r} h = rw (mul-zero (r .values)) (omega arith)
+names-most (suc size) s {r = r} h =
+    let m = lines-most h in
+    let e = namesFrom-length (length s / suc size) (suc size) s in
+    le-div-iff-mul-le {k = suc size} {x = r .values} {y = length s} (omega arith) .0 (omega arith)

@@ -1,80 +1,37 @@
+-- Each turn writes some of the names that are left.
+use mathlib.Core.Path.{_≡_, sym, _∙_}
+use Prim.Native.Nat.{_-_, _≤_}
+use native.Mathlib.Nat.{pos-of-ne-zero}
+use native.Mathlib.Omega.{arith}
+use lib.ListN.{length}
+use borrow.Author.Needs.{needs}
+use Rattle.station.specs.Laws.Output.{turn-part, step-inside}
 use Rattle.station.proofs.output.write_names.Statement.{statement}
 use Rattle.station.proofs.output.write_names.Tie as tie
-use Rattle.station.proofs.output.write_names.Reads as reads
-use Rattle.station.proofs.output.write_names.Lts as lts
-use Rattle.io.proofs.large_buffer.Reads as large-buffer-reads
-use Rattle.lines.proofs.name_lines.Reads as name-lines-reads
-use Rattle.station.proofs.output.write.Reads as write-reads
 
 abbrev Inv-loop : tie.InvT-loop
-Inv-loop names size buffer₀ from₀ buffer from = ?
+Inv-loop names size buffer₀ from₀ buffer from = (from ≤ length names) × (length buffer ≡ 65536)
 
 abbrev μ-loop : tie.MeasureT-loop
-μ-loop names size buffer₀ from₀ buffer from = ?
+μ-loop names size buffer₀ from₀ buffer from = length names - from
 
--- src/output.rt:47:22
-large-buffer-requires : tie.Need-large-buffer-requires Inv-loop μ-loop
-large-buffer-requires c κs = ?
-
--- src/output.rt:49:5
-loop-holds : tie.Need-loop-holds Inv-loop μ-loop
-loop-holds c = ?
-
--- src/output.rt:50:38
-sub-name-lines : tie.Need-sub-name-lines Inv-loop μ-loop
-sub-name-lines c = ?
-
--- src/output.rt:50:38
-part-name-lines-start : tie.Need-part-name-lines-start Inv-loop μ-loop
-part-name-lines-start c = ?
-
--- src/output.rt:50:38
-part-name-lines-end : tie.Need-part-name-lines-end Inv-loop μ-loop
-part-name-lines-end c = ?
-
--- src/output.rt:50:60
-slice-aggregate-name-lines : tie.Need-slice-aggregate-name-lines Inv-loop μ-loop
-slice-aggregate-name-lines c = ?
-
--- src/output.rt:50:13
-name-lines-requires : tie.Need-name-lines-requires Inv-loop μ-loop
-name-lines-requires c κs = ?
-
--- src/output.rt:52:20
 mul-step : tie.Need-mul-step Inv-loop μ-loop
-mul-step c = ?
+mul-step c = let a = c .before .before .before .before .before .before .before .before .before .args in let t = step-inside (a .size) (a .names .now) (c .before .before .before .before .before .before .loop .from) (c .before .before .name-lines .ensures) (c .before .before .before .before .before .before .loop .inv .0) in omega arith
 
--- src/output.rt:53:19
-array-share-prefix-buffer : tie.Need-array-share-prefix-buffer Inv-loop μ-loop
-array-share-prefix-buffer c = ?
-
--- src/output.rt:53:19
-slice-aggregate-write : tie.Need-slice-aggregate-write Inv-loop μ-loop
-slice-aggregate-write c = ?
-
--- src/output.rt:53:13
-write-requires : tie.Need-write-requires Inv-loop μ-loop
-write-requires c κs = ?
-
--- src/output.rt:54:13
-returns : tie.Need-returns Inv-loop μ-loop
-returns c = ?
-
--- src/output.rt:56:9
 add-from : tie.Need-add-from Inv-loop μ-loop
-add-from c = ?
+add-from c = let a = c .before .before .before .before .before .before .before .before .before .before .before .before .before .args in let t = step-inside (a .size) (a .names .now) (c .before .before .before .before .before .before .before .before .before .before .loop .from) (c .before .before .before .before .before .before .name-lines .ensures) (c .before .before .before .before .before .before .before .before .before .before .loop .inv .0) in omega arith
 
--- src/output.rt:49:5
 loop-less : tie.Need-loop-less Inv-loop μ-loop
-loop-less c = ?
+loop-less c =
+    let a = c .before .before .before .before .before .before .before .before .before .before .before .before .before .args in
+    let t = step-inside (a .size) (a .names .now) (c .before .before .before .before .before .before .before .before .before .before .loop .from) (c .before .before .before .before .before .before .name-lines .ensures) (c .before .before .before .before .before .before .before .before .before .before .loop .inv .0) in
+    let z = pos-of-ne-zero (c .before .before .before .if1 .left) in
+    omega arith
 
--- src/output.rt:49:5
 loop-again : tie.Need-loop-again Inv-loop μ-loop
-loop-again c = ?
-
--- src/output.rt:46:1
-returns-2 : tie.Need-returns-2 Inv-loop μ-loop
-returns-2 c = ?
+loop-again c =
+    let a = c .before .before .before .before .before .before .before .before .before .before .before .before .before .args in
+    (step-inside (a .size) (a .names .now) (c .before .before .before .before .before .before .before .before .before .before .loop .from) (c .before .before .before .before .before .before .name-lines .ensures) (c .before .before .before .before .before .before .before .before .before .before .loop .inv .0), c .before .before .before .before .before .before .name-lines .kept .1 .1 .0 ∙ c .before .before .before .before .before .before .before .before .before .before .loop .inv .1)
 
 pub write-names-spec : {M : Type 1} → statement M
 write-names-spec =
@@ -82,19 +39,20 @@ write-names-spec =
     (tie.spec
     Inv-loop
     μ-loop
-    large-buffer-requires
-    loop-holds
-    sub-name-lines
-    part-name-lines-start
-    part-name-lines-end
-    slice-aggregate-name-lines
-    name-lines-requires
+    (λ c κs. tt)
+    (λ c. (omega arith, sym (c .large-buffer .ensures)))
+    (λ c. omega arith)
+    (λ c. omega arith)
+    (λ c. omega arith)
+    (λ c. sym (c .before .before .before .loop .inv .1))
+    (λ c κs. tt)
     mul-step
-    array-share-prefix-buffer
-    slice-aggregate-write
-    write-requires
-    returns
+    (λ c. tt)
+    (λ c. omega (arith, c .before .before .before .name-lines .ensures .inside, c .before .before .before .name-lines .kept .1 .1 .0))
+    (λ c. turn-part (c .before .before .before .before .name-lines .ensures) (c .before .before .before .before .name-lines .kept .1 .1 .0))
+    (λ c κs. tt)
+    (λ c. tt)
     add-from
     loop-less
     loop-again
-    returns-2)
+    (λ c. tt))
