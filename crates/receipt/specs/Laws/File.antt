@@ -176,7 +176,7 @@ pub page-text : {old new : List ℕ} {next : ℕ} {r : Receipt} (station job : �
     → Put old 0 (written r) new next → (next ≡ length (receiptText station job s)) × (take next new ≡ receiptText station job s)
 unfolding receiptText
 page-text {old} {new} {next} {r} station job s e l p =
-    let page = page-holds l p in
+    let page = page-holds r l p in
     (page .0 ∙ ap (λ (x : Receipt). length (written x)) e, page .1 ∙ ap written e)
 
 -- the same bytes put into the buffer

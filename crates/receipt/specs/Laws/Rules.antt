@@ -161,8 +161,8 @@ put-all {old} {xs} {new} {next} p h =
     (omega (arith, p .place), p .bytes ∙ sets-eq xs old 0 (omega arith) ∙ ap (λ (k : ℕ). xs ++ drop k old) z)
 
 -- a page has room for them
-pub page-holds : {r : Receipt} {old new : List ℕ} {next : ℕ} → length old ≡ 176 → Put old 0 (written r) new next → (next ≡ length (written r)) × (take next new ≡ written r)
-page-holds {r} {old} {new} {next} l p =
+pub page-holds : (r : Receipt) {old new : List ℕ} {next : ℕ} → length old ≡ 176 → Put old 0 (written r) new next → (next ≡ length (written r)) × (take next new ≡ written r)
+page-holds r {old} {new} {next} l p =
     let m = written-most r in
     let a = put-all p (omega arith) in
     (a .0, ap (take next) (a .1) ∙ take-at (written r) (drop (length (written r)) old) next (sym (a .0)))
