@@ -46,8 +46,8 @@ fn not_allowed(rng: &mut Rng) -> [u32; 2] {
 /// How many calls of each file are compared.
 const COMPARED: u64 = 12;
 
-/// How many files with fields are run, how many of them by construction, and how
-/// many containers.
+/// How many files with fields are run, how many whose numbers are known from the
+/// making of them, and how many containers.
 const FILES: u64 = 8_000;
 const MADE: u64 = 2_000;
 const CONTAINERS: u64 = 4_000;
@@ -115,7 +115,7 @@ impl Tally {
         assert!(run >= files, "{run} files");
         for &verdict in verdicts {
             let times = self.0[usize::from(verdict)];
-            assert!(times > 0, "verdict {verdict} never came up: {:?}", self.0);
+            assert!(times >= 3, "verdict {verdict}: {times} times");
         }
     }
 }
@@ -176,10 +176,7 @@ fn large_files() {
     for more in [1, 2, 4_096, FILE_LIMIT] {
         let file = vec![0; FILE_LIMIT + more];
         for _ in 0..10 {
-            if let Err(difference) = run(&mut rng, &file) {
-                panic!("{more} bytes more: {difference}");
-            }
-            tally.0[1] += u64::from(library::verdict(&file) == 1);
+            tally.note(&mut rng, &file, Some(1));
         }
     }
     tally.meets(40, &OF_LARGE);
