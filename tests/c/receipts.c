@@ -19,7 +19,8 @@ static void expect(int holds, const char *sentence) {
 
 /* The receipt of an empty map, which has no field: verdict 12. */
 static const uint8_t file[] = {0x80};
-static const char refused[] = "station=7\njob=12\nverdict=12\nmodels=0\nchains=0\ngroups=0\natoms=0\nbonds=0\nfields=0\nunits=0\n";
+static const char refused[] = "station=7\njob=12\nverdict=12\nmodels=0\nchains=0\ngroups=0\n"
+                              "atoms=0\nbonds=0\nfields=0\nunits=0\n";
 enum { BYTES = sizeof refused - 1 };
 
 /* The receipt with the largest numbers, which is the longest. */
