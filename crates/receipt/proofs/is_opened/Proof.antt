@@ -4,7 +4,8 @@ use Rattle.receipt.proofs.is_opened.Statement.{statement}
 use Rattle.receipt.proofs.is_opened.Tie as tie
 
 returns : tie.Need-returns
-returns c = cc
+returns c =
+    rw (c .both6 .ensures, c .before .before .before .before .both4 .ensures, c .before .before .before .before .before .before .both3 .ensures, c .before .before .before .before .before .before .before .before .both2 .ensures, c .before .before .before .before .before .before .before .before .before .before .both .ensures, c .before .both5 .ensures, c .before .before .before .is-within .ensures)
 
 pub is-opened-spec : {M : Type 1} → statement M
 is-opened-spec =
