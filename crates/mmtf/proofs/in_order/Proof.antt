@@ -1,6 +1,5 @@
 -- The numbers stand in the order of the lines. Assumes nothing.
 use mathlib.Core.Path.{refl}
-use borrow.Author.Needs.{needs}
 use Rattle.mmtf.proofs.in_order.Statement.{statement}
 use Rattle.mmtf.proofs.in_order.Tie as tie
 
