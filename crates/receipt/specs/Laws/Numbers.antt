@@ -10,7 +10,7 @@ use lib.Dec.{eqb, ltb, leb}
 use lib.ListN.{length, getD, set, drop, drop-of-length-le}
 use lib.Seq.{drop-cons, sets}
 use borrow.Author.Tests.{eq-eqb, ne-eqb, le-leb, lt-leb, lt-ltb, le-ltb, ltb-true, ltb-false}
-use Rattle.fields.specs.Types.{bytesIn}
+use Rattle.text.specs.Put.{ascii}
 use Rattle.fields.specs.Laws.Types.{and-left, and-right}
 use Rattle.text.specs.Decimal.{glyph, decimal}
 use Rattle.text.specs.Laws.Decimal.{decimal-one, decimal-more}
