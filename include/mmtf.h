@@ -2,7 +2,7 @@
  * libmmtf.a: an MMTF reader whose calls are proved to meet their contracts.
  *
  * Today: the check of a whole file and of its container alone, views by name, columns: decoded, encoded, and one cell alone,
- * and the matrices of transforms. For x86-64 Linux.
+ * the matrices of transforms, and receipts: written for a file, and read. For x86-64 Linux.
  *
  * Every call takes any bytes and any numbers, and ends with an answer. It keeps nothing between calls, allocates nothing and
  * writes to nothing but its buffer and its out parameters, so threads may call at the same time. The answer is a refusal
@@ -15,8 +15,8 @@
  * - An out parameter points to an object of its type, which is no other out parameter and no part of what is read or of the
  *   buffer.
  * - Floats are rounded to nearest, as C starts: mmtf_decode_float32 and mmtf_cell divide.
- * - There is room on the stack: 96 KiB are enough for a call. Of mmtf_verdict 62 KiB were measured, of every other call at
- *   most 29 KiB, at twelve levels, the most.
+ * - There is room on the stack: 96 KiB are enough for a call. Of mmtf_verdict and mmtf_write_receipt 37 KiB were measured, of
+ *   every other call at most 31 KiB, at twelve levels, the most.
  */
 #ifndef MMTF_H
 #define MMTF_H
@@ -284,6 +284,64 @@ uint8_t mmtf_encode_float32(int32_t codec, const uint32_t *bits, size_t m, uint8
  * - MMTF_NO_SUCH_ENTRY: there is no assembly of that number, or it has no transform of that number.
  */
 uint8_t mmtf_matrix(const uint8_t *file, size_t n, uint64_t assembly, uint64_t transform, float rows[4][4]);
+
+/*
+ * Receipts. A receipt is ten lines of text in this order, with nothing before and nothing after. A line is its name, an
+ * equals sign, a number in decimal digits without leading zeros, and one line feed; the last line has it too.
+ *
+ * line       number
+ * station    1 to 99
+ * job        1 to 999,999
+ * verdict    0 to 24, the number that mmtf_verdict gives for the file
+ * models     numModels of the file, 0 to 16,777,216
+ * chains     numChains, likewise
+ * groups     numGroups, likewise
+ * atoms      numAtoms, likewise
+ * bonds      numBonds, likewise
+ * fields     how many of the 39 named fields are in the file, 16 to 39
+ * units      1
+ *
+ * So it is with verdict 0. With any other verdict the seven lines after it are 0: a refused file costs no unit.
+ */
+
+/* The places of the numbers that mmtf_read_receipt hands over. */
+enum mmtf_receipt_number {
+    MMTF_RECEIPT_STATION = 0,
+    MMTF_RECEIPT_JOB = 1,
+    MMTF_RECEIPT_VERDICT = 2,
+    MMTF_RECEIPT_MODELS = 3,
+    MMTF_RECEIPT_CHAINS = 4,
+    MMTF_RECEIPT_GROUPS = 5,
+    MMTF_RECEIPT_ATOMS = 6,
+    MMTF_RECEIPT_BONDS = 7,
+    MMTF_RECEIPT_FIELDS = 8,
+    MMTF_RECEIPT_UNITS = 9
+};
+
+/* The bytes of the longest receipt. A buffer with this room is never too small. */
+#define MMTF_RECEIPT_ROOM 128
+
+/*
+ * Writes the receipt of the file of n bytes, by a station and its job.
+ *
+ * Answers MMTF_ACCEPTED with the receipt at the buffer's start and the number of its bytes in *written; every byte of the
+ * buffer beyond is as it was, and no end mark is written. A refused file gets its receipt too, one of more than 67,108,864
+ * bytes with verdict 1, so that this answer says nothing of the file: the receipt's verdict does. Else the buffer and
+ * *written are as they were, and the answer is the first of these that applies:
+ * - MMTF_RECEIPT_MALFORMED: the station is not 1 to 99, or the job is not 1 to 999,999.
+ * - MMTF_BUFFER_TOO_SMALL: the receipt has more bytes than the buffer has room for.
+ */
+uint8_t mmtf_write_receipt(uint32_t station, uint32_t job, const uint8_t *file, size_t n,
+    uint8_t *buffer, size_t room, uint64_t *written);
+
+/*
+ * Reads the n bytes as one receipt.
+ *
+ * Answers MMTF_ACCEPTED, with its ten numbers in the order of the lines, exactly if the bytes are a receipt by the rules
+ * above. Else it answers MMTF_RECEIPT_MALFORMED, and the numbers are as they were. No file is looked at: whether there is one
+ * with these counts is not asked.
+ */
+uint8_t mmtf_read_receipt(const uint8_t *bytes, size_t n, uint32_t numbers[10]);
 
 #ifdef __cplusplus
 }

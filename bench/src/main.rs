@@ -1,10 +1,12 @@
 //! The same work by libmmtf.a and by the independent Rust, side by side.
-//! With the argument `container`, `columns` or `check`, that part alone.
+//! With the argument `container`, `columns`, `check` or `receipts`, that part
+//! alone.
 
 mod check;
 mod check_data;
 mod column_data;
 mod columns;
+mod receipts;
 mod timing;
 mod workloads;
 
@@ -23,10 +25,11 @@ fn main() {
     println!("read. Both write to the same buffer, which is not cleared between runs. Ratio:");
     println!("time by the library to time by the Rust.");
     let asked = std::env::args().nth(1);
-    let parts: [(&str, fn()); 3] = [
+    let parts: [(&str, fn()); 4] = [
         ("container", container),
         ("columns", columns::tables),
         ("check", check::tables),
+        ("receipts", receipts::tables),
     ];
     for (part, tables) in parts {
         if asked.as_deref().is_none_or(|asked| asked == part) {

@@ -1,11 +1,12 @@
 //! Runs one file through the library and through the independent
 //! implementation, the container and views by name; columns stand in `columns`,
-//! the whole check and matrices in `files`.
+//! the whole check and matrices in `files`, receipts in `receipts`.
 
 pub mod calls;
 pub mod columns;
 pub mod files;
 pub mod made;
+pub mod receipts;
 pub mod sample;
 pub mod watch;
 

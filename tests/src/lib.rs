@@ -1,5 +1,6 @@
-//! An independent implementation of the MMTF container, of columns and of the
-//! whole check, the library's C calls, and what is needed to compare the two.
+//! An independent implementation of the MMTF container, of columns, of the
+//! whole check and of receipts, the library's C calls, and what is needed to
+//! compare the two.
 
 pub mod check;
 pub mod corpus;

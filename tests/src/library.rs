@@ -2,6 +2,7 @@
 
 pub mod columns;
 pub mod matrix;
+pub mod receipt;
 
 extern "C" {
     fn mmtf_container(file: *const u8, n: usize) -> u8;

@@ -21,13 +21,6 @@ fn expect(sample: &Sample, number: u8, case: &str) {
     expect_bytes(&sample.bytes(), number, case);
 }
 
-/// The sample with an unknown field, so that the file has this many bytes.
-fn of_size(size: usize) -> Vec<u8> {
-    let with = |count| Sample::full().with("filler", Binary(vec![0xff; count]));
-    let more = size - with(1 << 20).bytes().len();
-    with((1 << 20) + more).bytes()
-}
-
 #[test]
 fn bytes_of_a_file() {
     const BYTES: usize = 67_108_864;
@@ -36,30 +29,6 @@ fn bytes_of_a_file() {
     let mut file = of_size(BYTES);
     file.push(0);
     expect_bytes(&file, 1, "1 before 11");
-}
-
-/// One model of one chain, with as many groups of one type; runs make up the
-/// columns of atoms and groups.
-fn uniform(group: Value, groups: i32, atoms: i32, bonds: i32) -> Sample {
-    let run = |codec, length| match length {
-        0 => Binary(wide([codec, 0, 1], &[])),
-        _ => Binary(wide([codec, length, 1], &[0, length])),
-    };
-    Sample::new()
-        .without("bondAtomList")
-        .with("numBonds", Integer(bonds))
-        .with("numAtoms", Integer(atoms))
-        .with("numGroups", Integer(groups))
-        .with("numChains", Integer(1))
-        .with("groupList", Array(vec![group]))
-        .with("xCoordList", run(9, atoms))
-        .with("yCoordList", run(9, atoms))
-        .with("zCoordList", run(9, atoms))
-        .with("groupIdList", run(8, groups))
-        .with("groupTypeList", run(7, groups))
-        .with("chainIdList", names(b"A\0\0\0"))
-        .with("groupsPerChain", Value::integers(&[groups]))
-        .with("chainsPerModel", Value::integers(&[1]))
 }
 
 /// Type 0 for every group, by sums of deltas that are 0.

@@ -1,5 +1,6 @@
--- Demand 3, whole, as one statement. What it names of acceptance is stated from documents outwards. No lemma stands here: that it holds is
--- `demand-3` of Laws/Demand.antt. Assumes nothing.
+-- Demand 3, whole, as one statement. `Accepted` and `ReceiptOf` are stated from documents outwards; `verdictOf`, `told` and `left` are what
+-- `structure::verdict` and `receipt::write` answer and leave, by their contracts. No lemma stands here: that it holds is `demand-3` of
+-- Laws/Demand.antt. Assumes nothing.
 use mathlib.Core.Path.{_≡_}
 use mathlib.Core.List.{List}
 use mathlib.Core.Logic.{_↔_}

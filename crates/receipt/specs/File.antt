@@ -1,5 +1,5 @@
--- The receipt of a file (paper 01, "Views and the receipt"; demand 3): its numbers, stated from documents outwards and by what is said of the file;
--- what writing it answers, and what it leaves in the buffer. No lemma stands here: the laws are in Laws/File.antt. Assumes nothing.
+-- The receipt of a file (paper 01, "Views and the receipt"; demand 3), stated twice: from documents outwards (`ReceiptOf`) and by the summary of the
+-- file check (`receiptBy`); what writing it answers, and what it leaves in the buffer. No lemma stands here: the laws are in Laws/File.antt. Assumes nothing.
 use mathlib.Core.Bool.{cond}
 use mathlib.Core.List.{List, _++_}
 use Prim.Native.Nat.{ℕ}
@@ -8,14 +8,14 @@ use lib.Dec.{eqb, leb}
 use lib.ListN.{length, drop}
 use Rattle.refusal.specs.Table.{accepted, bufferTooSmall, receiptMalformed}
 use Rattle.structure.specs.Accepted.{Accepted, verdictOf}
-use Rattle.structure.specs.Summary.{opened, refused, summaryOf}
+use Rattle.structure.specs.Summary.{acceptedSummary, refused, summaryOf}
 use Rattle.structure.specs.declared.Summary.{Summary}
 use Rattle.receipt.specs.Receipt.{numbered, written, IsReceipt}
 use Rattle.receipt.specs.declared.Receipt.{Receipt}
 use Rattle.receipt.specs.declared.Written.{Written}
 use Rattle.receipt.specs.declared.Written.the-variants as writing
 
--- one unit if the file is accepted, none if not
+-- one unit for verdict 0, none for any other
 abbrev pub unitsOf : ℕ → ℕ
 unitsOf verdict = cond (eqb verdict accepted) 1 0
 
@@ -38,7 +38,7 @@ receiptBy station job s =
 -- the receipt of a file: of an accepted one with verdict 0, the counts and fields of its document and one unit; of any other with its verdict,
 -- zeros and no unit
 pub data ReceiptOf (station job : ℕ) (file : List ℕ) : Receipt → Type 0 where
-  accepts : (a : Accepted file) → ReceiptOf station job file (receiptBy station job (opened (a .entries)))
+  accepts : (a : Accepted file) → ReceiptOf station job file (receiptBy station job (acceptedSummary (a .entries)))
   refuses : (Accepted file → ⊥) → ReceiptOf station job file (receiptBy station job (refused (verdictOf file)))
 
 -- the bytes are a receipt, and the receipt of a file

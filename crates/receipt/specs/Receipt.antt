@@ -7,7 +7,8 @@ use Prim.Native.Nat.{ℕ}
 use Prim.Native.String as Text
 use lib.Dec.{eqb, leb}
 use Rattle.refusal.specs.Table.{accepted, receiptMalformed}
-use Rattle.fields.specs.Types.{bytesIn}
+use Rattle.text.specs.Put.{ascii}
+use Rattle.fields.specs.Table.{fieldCount}
 use Rattle.counts.specs.Counts.{countLimit}
 use Rattle.text.specs.Decimal.{decimal}
 use Rattle.receipt.specs.declared.Receipt.{Receipt}
@@ -30,7 +31,7 @@ abbrev pub fieldsLeast : ℕ
 fieldsLeast = 16
 
 abbrev pub fieldsMost : ℕ
-fieldsMost = 39
+fieldsMost = fieldCount
 
 -- is n from low to high?
 abbrev pub within : ℕ → ℕ → ℕ → Bool
@@ -41,8 +42,8 @@ abbrev pub numbered : ℕ → ℕ → Bool
 numbered station job = within 1 stationLimit station && within 1 jobLimit job
 
 -- with verdict 0 the five counts are 0 to 16,777,216, fields 16 to 39, units 1
-abbrev pub openedRight : Receipt → Bool
-openedRight r =
+abbrev pub acceptedRight : Receipt → Bool
+acceptedRight r =
     (leb (r .models) countLimit && (leb (r .chains) countLimit && (leb (r .groups) countLimit && (leb (r .atoms) countLimit && leb (r .bonds) countLimit))))
     && (within fieldsLeast fieldsMost (r .fields) && eqb (r .units) 1)
 
@@ -55,7 +56,7 @@ refusedRight r =
 -- station and job are in range, the verdict is 0 to 24, and the lines after it are right
 unfoldable pub allowed : Receipt → Bool
 allowed r =
-    numbered (r .station) (r .job) && (leb (r .verdict) verdictLimit && cond (eqb (r .verdict) accepted) (openedRight r) (refusedRight r))
+    numbered (r .station) (r .job) && (leb (r .verdict) verdictLimit && cond (eqb (r .verdict) accepted) (acceptedRight r) (refusedRight r))
 
 -- the ten numbers in the order of the lines
 abbrev pub numbersOf : Receipt → List ℕ
@@ -66,22 +67,23 @@ numbersOf r =
 unfoldable pub line : List ℕ → ℕ → List ℕ
 line name n = name ++ (0x3d ∷ decimal n ++ (0x0a ∷ []))
 
-abbrev pub named : Text.String → ℕ → List ℕ
-named name n = line (bytesIn name) n
+-- a line by its name in ASCII
+abbrev pub namedLine : Text.String → ℕ → List ℕ
+namedLine name n = line (ascii name) n
 
 -- the ten lines
 unfoldable pub written : Receipt → List ℕ
 written r =
-    named "station" (r .station)
-    ++ named "job" (r .job)
-    ++ named "verdict" (r .verdict)
-    ++ named "models" (r .models)
-    ++ named "chains" (r .chains)
-    ++ named "groups" (r .groups)
-    ++ named "atoms" (r .atoms)
-    ++ named "bonds" (r .bonds)
-    ++ named "fields" (r .fields)
-    ++ named "units" (r .units)
+    namedLine "station" (r .station)
+    ++ namedLine "job" (r .job)
+    ++ namedLine "verdict" (r .verdict)
+    ++ namedLine "models" (r .models)
+    ++ namedLine "chains" (r .chains)
+    ++ namedLine "groups" (r .groups)
+    ++ namedLine "atoms" (r .atoms)
+    ++ namedLine "bonds" (r .bonds)
+    ++ namedLine "fields" (r .fields)
+    ++ namedLine "units" (r .units)
 
 -- the bytes are the receipt r
 pub record IsReceipt (bytes : List ℕ) (r : Receipt) : Type 0 where

@@ -7,17 +7,17 @@ use lib.Dec.{eqb, ltb, leb}
 use lib.ListN.{getD, replicate}
 use lib.Seq.{sets}
 use Rattle.receipt.specs.declared.Receipt.{Receipt}
-use Rattle.receipt.specs.Receipt.{named}
+use Rattle.receipt.specs.Receipt.{namedLine}
 
 -- the lines in three parts
 abbrev pub firstLines : Receipt → List ℕ
-firstLines r = named "station" (r .station) ++ named "job" (r .job) ++ named "verdict" (r .verdict)
+firstLines r = namedLine "station" (r .station) ++ namedLine "job" (r .job) ++ namedLine "verdict" (r .verdict)
 
 abbrev pub countsLines : Receipt → List ℕ
-countsLines r = named "models" (r .models) ++ named "chains" (r .chains) ++ named "groups" (r .groups) ++ named "atoms" (r .atoms) ++ named "bonds" (r .bonds)
+countsLines r = namedLine "models" (r .models) ++ namedLine "chains" (r .chains) ++ namedLine "groups" (r .groups) ++ namedLine "atoms" (r .atoms) ++ namedLine "bonds" (r .bonds)
 
 abbrev pub lastLines : Receipt → List ℕ
-lastLines r = named "fields" (r .fields) ++ named "units" (r .units)
+lastLines r = namedLine "fields" (r .fields) ++ namedLine "units" (r .units)
 
 -- a number with one digit more; as it was where the byte is no digit, or the number has nine digits already
 unfoldable pub shifted : ℕ → ℕ → ℕ

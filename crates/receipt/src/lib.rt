@@ -6,7 +6,7 @@ ghost use Prim.Native.Nat.{ℕ};
 ghost use lib.ListN.{length, set, take, replicate};
 ghost use lib.Seq.{sets};
 ghost use Rattle.text.specs.Put.{Put};
-ghost use Rattle.receipt.specs.Receipt.{within, numbered, openedRight, refusedRight, allowed, line, written, Reads};
+ghost use Rattle.receipt.specs.Receipt.{within, numbered, acceptedRight, refusedRight, allowed, line, written, Reads};
 ghost use Rattle.structure.specs.Summary.{summaryOf};
 ghost use Rattle.receipt.specs.File.{unitsOf, receiptBy, Receipted, told, left};
 ghost use Rattle.receipt.specs.Steps.{shifted, numbersIn, receiptFrom, countsLines, firstLines, lastLines};
@@ -202,7 +202,7 @@ fn is_allowed(receipt: Receipt) -> bool
         return false;
     }
     if receipt.verdict == 0 {
-        return is_opened(receipt);
+        return is_accepted(receipt);
     }
     is_refused(receipt)
 }
@@ -218,8 +218,8 @@ fn is_numbered(station: u32, job: u32) -> bool
 }
 
 // Whether the seven lines after a verdict 0 are right: counts, fields and one unit.
-fn is_opened(receipt: Receipt) -> bool
-    ensures { λ r. ⌜ r ≡ openedRight receipt ⌝ }
+fn is_accepted(receipt: Receipt) -> bool
+    ensures { λ r. ⌜ r ≡ acceptedRight receipt ⌝ }
 {
     let inner = both(receipt.atoms <= COUNT_LIMIT, receipt.bonds <= COUNT_LIMIT);
     let middle = both(receipt.groups <= COUNT_LIMIT, inner);
@@ -257,14 +257,14 @@ fn both(a: bool, b: bool) -> bool
 }
 
 // A page with nothing on it.
-fn blank() -> [u8; 176]
+fn blank() -> [u8; ROOM]
     ensures { λ r. ⌜ length r ≡ 176 ⌝ }
 {
-    [0u8; 176]
+    [0u8; ROOM]
 }
 
 // Puts a receipt's lines on a page, and answers where they end.
-fn put_receipt(page: &mut [u8; 176], receipt: Receipt) -> usize
+fn put_receipt(page: &mut [u8; ROOM], receipt: Receipt) -> usize
     ensures { λ r. ⌜ Put (now (page .entry)) 0 (written receipt) (now (page .exit)) r ⌝ }
 {
     let counts = put_first(page, receipt);

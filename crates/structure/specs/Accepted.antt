@@ -1,5 +1,5 @@
 -- Demand 3: the files that are accepted, stated from documents outwards, and the number of every file. No reader, no cursor and no place stands
--- in `Accepted`, nor in what it names. No lemma stands here; that the number is 0 exactly for an accepted file is `accepted-exactly` of
+-- in `Accepted`, nor in what it names, but for a column's own bytes, which demand 2's definition decodes. No lemma stands here; that the number is 0 exactly for an accepted file is `accepted-exactly` of
 -- Laws/Accepted.antt. Assumes nothing.
 use mathlib.Core.List.{List}
 use Prim.Native.Nat.{ℕ, _≤_}

@@ -14,8 +14,8 @@ use Rattle.structure.specs.Accepted.{verdictOf}
 use Rattle.structure.specs.declared.Summary.{Summary}
 
 -- of an accepted file, by the entries of its document
-abbrev pub opened : Entries → Summary
-opened es =
+abbrev pub acceptedSummary : Entries → Summary
+acceptedSummary es =
     record {
       verdict = accepted;
       models = natural "numModels" es;
@@ -32,7 +32,7 @@ refused n = record { verdict = n; models = 0; chains = 0; groups = 0; atoms = 0;
 
 -- by a file's number and the entries of its document
 abbrev pub said : ℕ → Entries → Summary
-said n es = cond (eqb n accepted) (opened es) (refused n)
+said n es = cond (eqb n accepted) (acceptedSummary es) (refused n)
 
 -- of any file
 unfoldable pub summaryOf : List ℕ → Summary

@@ -1,12 +1,13 @@
 //! compare_files COUNT [SEED]: runs generated files through the library and
-//! through the independent implementation, the whole check and matrices, and
-//! shows the smallest file that differs.
+//! through the independent implementation, the whole check, matrices and
+//! receipts, and shows the smallest file that differs.
 
 use std::collections::BTreeMap;
 use std::process::ExitCode;
 
 use mmtf_tests::check::files::{agree_on_matrix, agree_on_verdict};
 use mmtf_tests::check::hex;
+use mmtf_tests::check::receipts::agree_on_receipt;
 use mmtf_tests::generate::files::{file_case, matrix_numbers, FileCase, FileKind, FILE_KINDS};
 use mmtf_tests::generate::Rng;
 use mmtf_tests::library::matrix::Matrix;
@@ -77,9 +78,14 @@ fn run(kind: FileKind, files: u64, seed: u64, smallest: &mut Option<Failure>) ->
     tally
 }
 
-/// The numbers of the verdict, which the case expects, and of a matrix.
+/// The numbers of the verdict, which the case expects and the receipt shows, and
+/// of a matrix.
 fn judge(case: &FileCase, [assembly, transform]: [u64; 2]) -> Result<(u8, u8), String> {
     let verdict = agree_on_verdict(&case.file)?;
+    let (_, [_, _, shown, ..]) = agree_on_receipt([7, 12], &case.file)?;
+    if shown != u32::from(verdict) {
+        return Err(format!("verdict {verdict}, the receipt shows {shown}"));
+    }
     let matrix = match agree_on_matrix(&case.file, assembly, transform)? {
         Matrix::Refused(number) => number,
         _ => 0,

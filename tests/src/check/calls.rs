@@ -78,7 +78,7 @@ pub const TO_FLOAT32: Encoder<u32> = encoder!(encode_float32);
 pub const TO_STRINGS: Encoder<u8> = encoder!(encode_strings, with a parameter);
 pub const TO_FIXED_POINT: Encoder<i32> = encoder!(encode_fixed_point, with a parameter);
 
-fn given(answer: Result<usize, Refusal>) -> Outcome<Answer> {
+pub(super) fn given(answer: Result<usize, Refusal>) -> Outcome<Answer> {
     match answer {
         Ok(count) => Outcome::Done(Answer {
             count: count as u64,
@@ -155,7 +155,7 @@ impl<T: Element> Encoder<T> {
     }
 }
 
-fn alike<T: PartialEq + Debug>(
+pub(super) fn alike<T: PartialEq + Debug>(
     answer: Outcome<T>,
     expected: Outcome<T>,
     call: impl FnOnce() -> String,
@@ -173,7 +173,7 @@ fn alike<T: PartialEq + Debug>(
 
 /// Holds what both gave to an answer written down beforehand.
 #[track_caller]
-fn hold<T: PartialEq + Debug>(agreed: Result<T, String>, expected: T, case: &str) {
+pub(super) fn hold<T: PartialEq + Debug>(agreed: Result<T, String>, expected: T, case: &str) {
     match agreed {
         Ok(agreed) if agreed == expected => (),
         Ok(agreed) => panic!(

@@ -92,6 +92,12 @@ impl Sample {
         self
     }
 
+    /// With the fields from this place on first, and those before it behind.
+    pub fn rotated(mut self, place: usize) -> Sample {
+        self.0.rotate_left(place);
+        self
+    }
+
     pub fn value(&self) -> Value {
         Map(self.0.clone())
     }
@@ -176,6 +182,37 @@ pub fn without_entry(map: Value, name: &str) -> Value {
         panic!("{map:?} is no map");
     };
     Sample(entries).without(name).value()
+}
+
+/// One model of one chain, with as many groups of one type; runs make up the
+/// columns of atoms and groups.
+pub fn uniform(group: Value, groups: i32, atoms: i32, bonds: i32) -> Sample {
+    let run = |codec, length| match length {
+        0 => Binary(wide([codec, 0, 1], &[])),
+        _ => Binary(wide([codec, length, 1], &[0, length])),
+    };
+    Sample::new()
+        .without("bondAtomList")
+        .with("numBonds", Integer(bonds))
+        .with("numAtoms", Integer(atoms))
+        .with("numGroups", Integer(groups))
+        .with("numChains", Integer(1))
+        .with("groupList", Array(vec![group]))
+        .with("xCoordList", run(9, atoms))
+        .with("yCoordList", run(9, atoms))
+        .with("zCoordList", run(9, atoms))
+        .with("groupIdList", run(8, groups))
+        .with("groupTypeList", run(7, groups))
+        .with("chainIdList", names(b"A\0\0\0"))
+        .with("groupsPerChain", Value::integers(&[groups]))
+        .with("chainsPerModel", Value::integers(&[1]))
+}
+
+/// The full sample with an unknown field, so that the file has this many bytes.
+pub fn of_size(size: usize) -> Vec<u8> {
+    let with = |count| Sample::full().with("filler", Binary(vec![0xff; count]));
+    let more = size - with(1 << 20).bytes().len();
+    with((1 << 20) + more).bytes()
 }
 
 /// A column of int32 by codec 4.

@@ -8,17 +8,39 @@ use super::Refusal;
 /// The refusal number of a file, 0 when it is accepted.
 pub fn verdict(file: &[u8]) -> u8 {
     match accept(file) {
-        Ok(()) => 0,
+        Ok(_) => 0,
         Err(refusal) => refusal.number(),
     }
 }
 
-fn accept(file: &[u8]) -> Result<(), Refusal> {
+/// What a receipt says of an accepted file.
+#[derive(Clone, Copy, Debug, PartialEq, Eq)]
+pub struct Summary {
+    pub models: u32,
+    pub chains: u32,
+    pub groups: u32,
+    pub atoms: u32,
+    pub bonds: u32,
+    /// How many of the named fields are there.
+    pub fields: u32,
+}
+
+/// The check itself.
+pub fn accept(file: &[u8]) -> Result<Summary, Refusal> {
     let fields = Fields::find(file)?;
     let typed = Typed::read(&fields)?;
     typed.version()?;
     let columns = Columns::read(&typed)?;
-    counts::agree(&typed, &columns)
+    counts::agree(&typed, &columns)?;
+    // The counts have been found to be 0 to 16,777,216.
+    Ok(Summary {
+        models: typed.models as u32,
+        chains: typed.chains as u32,
+        groups: typed.groups as u32,
+        atoms: typed.atoms as u32,
+        bonds: typed.bonds as u32,
+        fields: fields.present(),
+    })
 }
 
 /// The columns, each without a fault.

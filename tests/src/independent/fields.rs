@@ -100,6 +100,11 @@ impl<'a> Fields<'a> {
         }
     }
 
+    /// How many of the named fields are there.
+    pub fn present(&self) -> u32 {
+        self.0.iter().flatten().count() as u32
+    }
+
     /// What is read of a field, if it is there.
     fn get<T>(
         &self,

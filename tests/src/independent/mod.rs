@@ -1,6 +1,6 @@
-//! The container walk, views by name, columns, the whole check and transform
-//! matrices, written from the format's rules alone, with nothing taken from the
-//! library that it is compared with.
+//! The container walk, views by name, columns, the whole check, transform
+//! matrices and receipts, written from the format's rules alone, with nothing
+//! taken from the library that it is compared with.
 
 mod check;
 pub mod columns;
@@ -9,6 +9,7 @@ mod fields;
 mod groups;
 mod lists;
 mod matrix;
+pub mod receipt;
 mod refusal;
 pub mod utf8;
 mod value;

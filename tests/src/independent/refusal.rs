@@ -1,6 +1,6 @@
 //! The refusal numbers.
 
-/// Why a file, a view, a column or a matrix is refused.
+/// Why a file, a view, a column, a matrix or a receipt is refused.
 #[derive(Clone, Copy, Debug, PartialEq, Eq)]
 #[repr(u8)]
 pub enum Refusal {
@@ -32,6 +32,7 @@ pub enum Refusal {
     NoSuchField = 26,
     NotExact = 27,
     NoSuchEntry = 28,
+    ReceiptMalformed = 29,
 }
 
 impl Refusal {

@@ -122,7 +122,7 @@ extern "C" {
     ) -> u8;
 }
 
-/// What a call on a column came to.
+/// What a call came to.
 #[derive(Clone, Copy, Debug, PartialEq)]
 pub enum Outcome<T> {
     Done(T),
@@ -140,7 +140,7 @@ pub struct Answer {
 }
 
 /// What stands in the out parameters before a call.
-const COUNT: u64 = 0xa5a5_5a5a_0f0f_1e1e;
+pub(super) const COUNT: u64 = 0xa5a5_5a5a_0f0f_1e1e;
 const DIVISOR: i32 = -0x5a5a_0f1f;
 const KIND: u8 = 0xa5;
 const INTEGER: i32 = 0x5aa5_0ff0;
@@ -319,7 +319,7 @@ fn encode_with<T>(
     outcome(refusal, written)
 }
 
-fn outcome(refusal: u8, count: u64) -> Outcome<Answer> {
+pub(super) fn outcome(refusal: u8, count: u64) -> Outcome<Answer> {
     match refusal {
         0 => Outcome::Done(Answer {
             count,

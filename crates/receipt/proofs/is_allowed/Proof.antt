@@ -16,7 +16,7 @@ returns-2 c = rw (sym (c .before .before .before .is-numbered .ensures) ∙ not-
 
 returns-3 : tie.Need-returns-3
 unfolding allowed
-returns-3 c = rw (sym (c .before .before .before .before .before .before .is-numbered .ensures) ∙ not-false (c .before .before .before .before .before .before .is-numbered .result) (c .before .before .before .before .before .if1 .left), le-leb _ 24 (c .before .before .before .if2 .left), eq-eqb _ 0 (c .before .if3 .taken)) (c .is-opened .ensures)
+returns-3 c = rw (sym (c .before .before .before .before .before .before .is-numbered .ensures) ∙ not-false (c .before .before .before .before .before .before .is-numbered .result) (c .before .before .before .before .before .if1 .left), le-leb _ 24 (c .before .before .before .if2 .left), eq-eqb _ 0 (c .before .if3 .taken)) (c .is-accepted .ensures)
 
 returns-4 : tie.Need-returns-4
 unfolding allowed

@@ -4,7 +4,7 @@ use Rattle.receipt.proofs.is_numbered.Statement.{statement}
 use Rattle.receipt.proofs.is_numbered.Tie as tie
 
 returns : tie.Need-returns
-returns c = cc
+returns c = rw (c .both .ensures, c .before .before .is-within .ensures, c .before .is-within2 .ensures)
 
 pub is-numbered-spec : {M : Type 1} → statement M
 is-numbered-spec =

@@ -4,7 +4,7 @@ use Rattle.receipt.proofs.is_refused.Statement.{statement}
 use Rattle.receipt.proofs.is_refused.Tie as tie
 
 returns : tie.Need-returns
-returns c = cc
+returns c = rw (c .both6 .ensures, c .before .before .before .before .both4 .ensures, c .before .before .before .before .before .before .both3 .ensures, c .before .before .before .before .before .before .before .before .both2 .ensures, c .before .before .before .before .before .before .before .before .before .before .both .ensures, c .before .both5 .ensures)
 
 pub is-refused-spec : {M : Type 1} → statement M
 is-refused-spec =

@@ -33,7 +33,7 @@ returns-3 : tie.Need-returns-3
 unfolding readFrom
 returns-3 c =
     let right : allowed (c .before .before .before .before .before .before .before .before .from-numbers .result) ≡ true = sym (c .before .before .before .before .before .before .before .is-allowed .ensures) ∙ not-false (c .before .before .before .before .before .before .before .is-allowed .result) (c .before .before .before .before .before .before .if2 .left) in
-    let page = page-holds (c .before .before .before .before .before .blank .ensures) (c .before .before .before .put-receipt .ensures) in
+    let page = page-holds (c .before .before .before .before .before .before .before .before .from-numbers .result) (c .before .before .before .before .before .blank .ensures) (c .before .before .before .put-receipt .ensures) in
     reads-other (c .before .before .before .before .before .before .before .before .before .before .before .before .before .args .bytes .now) (c .before .before .before .before .before .before .before .before .from-numbers .result) (c .before .before .before .before .before .before .before .before .from-numbers .ensures ∙ ap receiptFrom (c .before .before .before .before .before .before .before .before .before .before .numbers-in .ensures)) _ (page .1)
     (sym (c .before .same-bytes .ensures) ∙ not-true (c .before .same-bytes .result) (c .if3 .taken))
 
@@ -41,7 +41,7 @@ returns-4 : tie.Need-returns-4
 unfolding readFrom
 returns-4 c =
     let right : allowed (c .before .before .before .before .before .before .before .before .from-numbers .result) ≡ true = sym (c .before .before .before .before .before .before .before .is-allowed .ensures) ∙ not-false (c .before .before .before .before .before .before .before .is-allowed .result) (c .before .before .before .before .before .before .if2 .left) in
-    let page = page-holds (c .before .before .before .before .before .blank .ensures) (c .before .before .before .put-receipt .ensures) in
+    let page = page-holds (c .before .before .before .before .before .before .before .before .from-numbers .result) (c .before .before .before .before .before .blank .ensures) (c .before .before .before .put-receipt .ensures) in
     reads-is (c .before .before .before .before .before .before .before .before .before .before .before .before .before .args .bytes .now) (c .before .before .before .before .before .before .before .before .from-numbers .result) (c .before .before .before .before .before .before .before .before .from-numbers .ensures ∙ ap receiptFrom (c .before .before .before .before .before .before .before .before .before .before .numbers-in .ensures)) _ (page .1)
     (sym (c .before .same-bytes .ensures) ∙ not-false (c .before .same-bytes .result) (c .if3 .left)) right
 

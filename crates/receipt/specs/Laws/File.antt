@@ -17,15 +17,15 @@ use Rattle.counts.specs.Counts.{countLimit}
 use Rattle.fields.specs.Fields.{presenceOf}
 use Rattle.text.specs.Put.{Put}
 use Rattle.structure.specs.Accepted.{Accepted, verdictOf}
-use Rattle.structure.specs.Summary.{opened, refused, summaryOf}
+use Rattle.structure.specs.Summary.{acceptedSummary, refused, summaryOf}
 use Rattle.structure.specs.Laws.Accepted.{accepted-exactly}
-use Rattle.structure.specs.Laws.Summary.{verdict-most, verdict-refused, summary-accepted, summary-refused, opened-few, opened-fields}
+use Rattle.structure.specs.Laws.Summary.{verdict-most, verdict-refused, summary-accepted, summary-refused, accepted-few, accepted-fields}
 use Rattle.structure.specs.declared.Summary.{Summary}
 use Rattle.receipt.specs.declared.Receipt.{Receipt}
 use Rattle.receipt.specs.declared.Written.{Written}
 use Rattle.receipt.specs.declared.Written.the-variants as writing
 use Rattle.receipt.specs.Receipt.{numbered, allowed, written, IsReceipt}
-use Rattle.receipt.specs.Laws.Rules.{put-all, page-holds}
+use Rattle.receipt.specs.Laws.Rules.{put-all, page-holds, receipt-most}
 use Rattle.receipt.specs.File.{unitsOf, receiptBy, ReceiptOf, accepts, refuses, Receipted, receiptText, told, left}
 
 -- The receipt's numbers
@@ -46,11 +46,11 @@ receipt-of station job s bytes =
 
 -- it keeps the rules
 
-rules-accepted : {s : List ℕ} (station job : ℕ) (a : Accepted s) → numbered station job ≡ true → allowed (receiptBy station job (opened (a .entries))) ≡ true
+rules-accepted : {s : List ℕ} (station job : ℕ) (a : Accepted s) → numbered station job ≡ true → allowed (receiptBy station job (acceptedSummary (a .entries))) ≡ true
 unfolding allowed
 rules-accepted station job a h =
-    let few = opened-few a in
-    let fields = opened-fields a in
+    let few = accepted-few a in
+    let fields = accepted-fields a in
     rw (
       h,
       le-leb _ countLimit (few .models),
@@ -83,6 +83,11 @@ text-receipted station job s bytes h = record {
   of = receipt-of station job s bytes;
   is = record { rules = rules-kept station job s bytes h; text = refl };
 }
+
+-- it has at most 128 bytes
+pub text-most : (station job : ℕ) (s : List ℕ) → Bytes s → numbered station job ≡ true → length (receiptText station job s) ≤ 128
+unfolding receiptText
+text-most station job s bytes h = receipt-most (receiptBy station job (summaryOf s)) (rules-kept station job s bytes h)
 
 -- The cases of writing
 
@@ -138,6 +143,16 @@ told-number station job s n r q z = go (numbered station job) refl (leb (length 
     go true e false f = let d : r ≡ 25 = refusals r 25 (q ∙ sym (told-25 station job s n e (leb-false (length (receiptText station job s)) n f))) in omega arith
     go true e true f = never (writing.Refused r) r (length (receiptText station job s)) refl (q ∙ sym (told-written station job s n e (leb-true (length (receiptText station job s)) n f)))
 
+-- a buffer of 128 bytes is never too small
+pub told-room : (station job : ℕ) (s : List ℕ) (n : ℕ) → Bytes s → 128 ≤ n → told station job s n ≡ writing.Refused bufferTooSmall → ⊥
+told-room station job s n bytes l q = go (numbered station job) refl
+  where
+    go : (t : Bool) → numbered station job ≡ t → ⊥
+    go false e = let d : _≡_ {A = ℕ} 29 25 = refusals 29 25 (told-29 station job s n e ∙ q) in omega arith
+    go true e =
+        let m = text-most station job s bytes e in
+        never (told station job s n) bufferTooSmall (length (receiptText station job s)) (sym q) (sym (told-written station job s n e (omega arith)))
+
 -- What is written is the receipt of the file
 
 pub receipt-left : (station job : ℕ) (s buffer : List ℕ) (n : ℕ) → Bytes s → told station job s (length buffer) ≡ writing.Bytes n
@@ -176,7 +191,7 @@ pub page-text : {old new : List ℕ} {next : ℕ} {r : Receipt} (station job : �
     → Put old 0 (written r) new next → (next ≡ length (receiptText station job s)) × (take next new ≡ receiptText station job s)
 unfolding receiptText
 page-text {old} {new} {next} {r} station job s e l p =
-    let page = page-holds l p in
+    let page = page-holds r l p in
     (page .0 ∙ ap (λ (x : Receipt). length (written x)) e, page .1 ∙ ap written e)
 
 -- the same bytes put into the buffer

@@ -10,7 +10,7 @@ use lib.Dec.{eqb, ltb, leb}
 use lib.ListN.{length, getD, set, drop, drop-of-length-le}
 use lib.Seq.{drop-cons, sets}
 use borrow.Author.Tests.{eq-eqb, ne-eqb, le-leb, lt-leb, lt-ltb, le-ltb, ltb-true, ltb-false}
-use Rattle.fields.specs.Types.{bytesIn}
+use Rattle.text.specs.Put.{ascii}
 use Rattle.fields.specs.Laws.Types.{and-left, and-right}
 use Rattle.text.specs.Decimal.{glyph, decimal}
 use Rattle.text.specs.Laws.Decimal.{decimal-one, decimal-more}
@@ -101,7 +101,7 @@ numbers-more n rest h f q =
     ap (λ (ds : List ℕ). numbersIn (ds ++ rest) 0) (decimal-more n h (omega arith))
     ∙ ap (λ (bs : List ℕ). numbersIn bs 0) (append-assoc (decimal (n / 10)) (glyph (n % 10) ∷ []) rest)
     ∙ q
-    ∙ numbers-glyph (n % 10) (n / 10) rest (omega arith) (omega arith)
+    ∙ numbers-digit (n % 10) (n / 10) rest (omega arith) (omega arith)
     ∙ ap (numbersIn rest) e
 
 numbers-digits : (steps n : ℕ) (rest : List ℕ) → n ≤ steps → n < 1000000000 → numbersIn (decimal n ++ rest) 0 ≡ numbersIn rest n
@@ -125,5 +125,5 @@ numbers-line name rest n h f =
     ap (λ (bs : List ℕ). numbersIn bs 0) e
     ∙ numbers-plain name (0x3d ∷ (decimal n ++ (0x0a ∷ rest))) 0 h
     ∙ numbers-other 0x3d 0 (decimal n ++ (0x0a ∷ rest)) (omega arith)
-    ∙ numbers-decimal n n (0x0a ∷ rest) (omega arith) f
+    ∙ numbers-digits n n (0x0a ∷ rest) (omega arith) f
     ∙ numbers-feed n rest

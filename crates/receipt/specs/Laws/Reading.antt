@@ -11,28 +11,28 @@ use lib.Seq.{sets}
 use Rattle.refusal.specs.Table.{receiptMalformed}
 use Rattle.messagepack.specs.Equal.{equal}
 use Rattle.messagepack.specs.Laws.Keys.{equal-true, false-equal}
-use Rattle.fields.specs.Types.{bytesIn}
+use Rattle.text.specs.Put.{ascii}
 use Rattle.fields.specs.Laws.Types.{clash}
 use Rattle.receipt.specs.declared.Receipt.{Receipt}
 use Rattle.receipt.specs.declared.Reading.{Reading}
 use Rattle.receipt.specs.declared.Reading.the-variants.{Numbers, Refused}
-use Rattle.receipt.specs.Receipt.{allowed, numbersOf, named, written, IsReceipt, Reads, is, none}
+use Rattle.receipt.specs.Receipt.{allowed, numbersOf, namedLine, written, IsReceipt, Reads, is, none}
 use Rattle.receipt.specs.Steps.{numbersIn, receiptFrom, readFrom}
 use Rattle.receipt.specs.Laws.Rules.{Small, AllSmall, allowed-small, written-most}
 use Rattle.receipt.specs.Laws.Numbers.{plain, numbers-line}
 
 -- a line before others that are read already
-before : (name : Text.String) (n : ℕ) (rest ns : List ℕ) → plain (bytesIn name) ≡ true → Small n → numbersIn rest 0 ≡ ns → numbersIn (named name n ++ rest) 0 ≡ n ∷ ns
-before name n rest ns h f q = numbers-line (bytesIn name) rest n h f ∙ ap (λ (l : List ℕ). n ∷ l) q
+before : (name : Text.String) (n : ℕ) (rest ns : List ℕ) → plain (ascii name) ≡ true → Small n → numbersIn rest 0 ≡ ns → numbersIn (namedLine name n ++ rest) 0 ≡ n ∷ ns
+before name n rest ns h f q = numbers-line (ascii name) rest n h f ∙ ap (λ (l : List ℕ). n ∷ l) q
 
 nothing-read : numbersIn [] 0 ≡ []
 unfolding numbersIn
 nothing-read = refl
 
 -- the lines, each before the rest
-nested : (r : Receipt) → written r ≡ named "station" (r .station) ++ (named "job" (r .job) ++ (named "verdict" (r .verdict) ++ (named "models" (r .models)
-    ++ (named "chains" (r .chains) ++ (named "groups" (r .groups) ++ (named "atoms" (r .atoms) ++ (named "bonds" (r .bonds)
-    ++ (named "fields" (r .fields) ++ (named "units" (r .units) ++ [])))))))))
+nested : (r : Receipt) → written r ≡ namedLine "station" (r .station) ++ (namedLine "job" (r .job) ++ (namedLine "verdict" (r .verdict) ++ (namedLine "models" (r .models)
+    ++ (namedLine "chains" (r .chains) ++ (namedLine "groups" (r .groups) ++ (namedLine "atoms" (r .atoms) ++ (namedLine "bonds" (r .bonds)
+    ++ (namedLine "fields" (r .fields) ++ (namedLine "units" (r .units) ++ [])))))))))
 unfolding written
 nested r = simp (append-assoc, append-nil)
 

@@ -31,7 +31,7 @@ use Rattle.counts.specs.Columns.{columnsNumber}
 use Rattle.counts.specs.Counts.{countLimit, integer, integers, numbersRight, CountsAgree, countsNumber}
 use Rattle.lists.specs.Integers.{noneNegative}
 use Rattle.structure.specs.Accepted.{Accepted, entriesNumber, verdictOf}
-use Rattle.structure.specs.Summary.{opened, refused, said, summaryOf}
+use Rattle.structure.specs.Summary.{acceptedSummary, refused, said, summaryOf}
 use Rattle.structure.specs.Steps.{CountsIn, counted}
 use Rattle.structure.specs.Laws.Columns.{orElse-most, columns-most}
 use Rattle.structure.specs.Laws.Counts.{counts-most}
@@ -57,11 +57,11 @@ verdict-refused s bytes h z = h (accepted-exactly s bytes .0 z)
 
 -- What is said by a number
 
-pub said-accepted : (n : ℕ) (es : Entries) → n ≡ accepted → said n es ≡ opened es
+pub said-accepted : (n : ℕ) (es : Entries) → n ≡ accepted → said n es ≡ acceptedSummary es
 said-accepted n es z = rw z
 
 pub said-refused : (n : ℕ) (es : Entries) → (n ≡ accepted → ⊥) → said n es ≡ refused n
-said-refused n es h = ap (λ (b : Bool). cond b (opened es) (refused n)) (ne-eqb n accepted h)
+said-refused n es h = ap (λ (b : Bool). cond b (acceptedSummary es) (refused n)) (ne-eqb n accepted h)
 
 said-verdict : (n : ℕ) (es : Entries) → said n es .verdict ≡ n
 said-verdict zero es = refl
@@ -75,10 +75,10 @@ unfolding summaryOf
 summary-verdict s = said-verdict (verdictOf s) (entriesOf (documentOf s))
 
 -- of an accepted one
-pub summary-accepted : (s : List ℕ) → Bytes s → (a : Accepted s) → summaryOf s ≡ opened (a .entries)
+pub summary-accepted : (s : List ℕ) → Bytes s → (a : Accepted s) → summaryOf s ≡ acceptedSummary (a .entries)
 unfolding summaryOf
 summary-accepted s bytes a =
-    said-accepted (verdictOf s) (entriesOf (documentOf s)) (accepted-exactly s bytes .1 a) ∙ ap (λ (d : Document). opened (entriesOf d)) (one-document a)
+    said-accepted (verdictOf s) (entriesOf (documentOf s)) (accepted-exactly s bytes .1 a) ∙ ap (λ (d : Document). acceptedSummary (entriesOf d)) (one-document a)
 
 -- of a refused one
 pub summary-refused : (s : List ℕ) → Bytes s → (Accepted s → ⊥) → summaryOf s ≡ refused (verdictOf s)
@@ -99,9 +99,9 @@ pub record Few (r : Summary) : Type 0 where
 in-range : (es : Entries) → numbersRight es ≡ true → allBetween (pos 0) (pos countLimit) (integer "numBonds" es ∷ integer "numAtoms" es ∷ integer "numGroups" es ∷ integer "numChains" es ∷ integer "numModels" es ∷ []) ≡ true
 in-range es e = and-left _ (noneNegative (integers "groupsPerChain" es) && noneNegative (integers "chainsPerModel" es)) e
 
-pub opened-few : {s : List ℕ} (a : Accepted s) → Few (opened (a .entries))
+pub accepted-few : {s : List ℕ} (a : Accepted s) → Few (acceptedSummary (a .entries))
 unfolding Every
-opened-few a =
+accepted-few a =
     let e = allPass-every (between (pos 0) (pos countLimit)) _ (in-range (a .entries) (a .counts .numbers)) in
     record {
       models = natural-few (integer "numModels" (a .entries)) (e .1 .1 .1 .1 .0);
@@ -112,8 +112,8 @@ opened-few a =
     }
 
 -- the named fields are 16 to 39
-pub opened-fields : {s : List ℕ} (a : Accepted s) → (16 ≤ ones (presenceOf (a .entries))) × (ones (presenceOf (a .entries)) ≤ 39)
-opened-fields a =
+pub accepted-fields : {s : List ℕ} (a : Accepted s) → (16 ≤ ones (presenceOf (a .entries))) × (ones (presenceOf (a .entries)) ≤ 39)
+accepted-fields a =
     let es = a .entries in
     (rw (ones-presence es) (present-least es (have-exactly named es .1 (a .required))), rw (ones-presence es) (present-most es))
 
@@ -134,7 +134,7 @@ summary-document s c z =
     ap₂ said (verdict-document s (entriesNumber (c .entries)) c z refl) (ap entriesOf (sym d))
 
 -- by the counts and the set of fields of a document whose counts agree
-pub summary-counted : {es : Entries} {c : Counts} {presence : ℕ} → CountsIn es c → CountsAgree es → presence ≡ presenceOf es → counted c presence ≡ opened es
+pub summary-counted : {es : Entries} {c : Counts} {presence : ℕ} → CountsIn es c → CountsAgree es → presence ≡ presenceOf es → counted c presence ≡ acceptedSummary es
 summary-counted {es} {c} {presence} k a p =
     let r = counts-are k (fit-is k ∙ in-range es (a .numbers)) in
     rw (r .models, r .chains, r .groups, r .atoms, r .bonds, p)
