@@ -43,7 +43,7 @@ meanings =
     ∷ says valueOutside "a value is outside its list"
     ∷ says tooManyGroupTypes "there are too many group types"
     ∷ says versionNot1 "the major version is not 1"
-    ∷ says bufferTooSmall "there are more values than are shown, 1,048,576"
+    ∷ says bufferTooSmall "there are more values than are shown, 65,536"
     ∷ says noSuchField "there is no such field"
     ∷ says notExact "a number is not exact in single precision"
     ∷ says noSuchEntry "there is no such entry"

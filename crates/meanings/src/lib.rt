@@ -4,7 +4,7 @@ ghost use Rattle.text.specs.Put.{Put};
 ghost use Rattle.meanings.specs.Meanings.{meaningOf, meaningTable};
 
 // The bytes of the table.
-const TABLE_SIZE: usize = 992;
+const TABLE_SIZE: usize = 989;
 
 // For each refusal its number, the length of its meaning and its meaning.
 const TABLE: [u8; TABLE_SIZE] = *b"\x01\x2ethe file is over the limit of 67,108,864 bytes\
@@ -31,7 +31,7 @@ const TABLE: [u8; TABLE_SIZE] = *b"\x01\x2ethe file is over the limit of 67,108,
     \x16\x1ba value is outside its list\
     \x17\x1ethere are too many group types\
     \x18\x1athe major version is not 1\
-    \x19\x2fthere are more values than are shown, 1,048,576\
+    \x19\x2cthere are more values than are shown, 65,536\
     \x1a\x16there is no such field\
     \x1b\x29a number is not exact in single precision\
     \x1c\x16there is no such entry\

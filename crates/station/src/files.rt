@@ -28,22 +28,11 @@ pub fn read(path: &[u8], buffer: &mut [u8]) -> Contents
     got
 }
 
-// Reads until the input ends, a read fails, or there are more bytes than the buffer has.
+// Reads until the input ends, a read fails, or the buffer is full.
 fn read_all(descriptor: i32, buffer: &mut [u8]) -> Contents
     ensures { λ r. ⌜ Within r (length (now (buffer .exit))) ⌝ }
 {
-    let mut done: usize = 0;
-    while done < buffer.len() {
-        let got = libc::read(descriptor, &mut buffer[done..]);
-        if got < 0 {
-            return Contents::Failed;
-        }
-        let n = io::count(got, &buffer[done..]);
-        if n == 0 {
-            return Contents::Bytes(done);
-        }
-        done += n;
-    }
+    let done = io::read_full(descriptor, buffer);
     end_at(descriptor, done)
 }
 

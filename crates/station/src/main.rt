@@ -1,4 +1,4 @@
-// The service desk's command: whether a structure file is accepted, its parts and its columns. Data go to standard output, sentences to
+// The service desk's command: whether a structure file is accepted, its receipt, its parts and its columns. Data go to standard output, sentences to
 // standard error.
 mod files;
 mod output;
@@ -7,7 +7,9 @@ mod shown;
 mod words;
 
 use files::Contents;
+use receipt::Written;
 use sentences::Sentence;
+use text::Number;
 use words::Command;
 
 fn main() {
@@ -54,6 +56,7 @@ fn run(command: Command) {
 // Answers a command about a file.
 fn answer(command: Command, path: &[u8], file: &[u8]) {
     match command {
+        Command::Receipt => write_receipt(path, file),
         Command::View => view(path, file),
         Command::Column => column(path, file),
         _ => check(path, file),
@@ -63,6 +66,39 @@ fn answer(command: Command, path: &[u8], file: &[u8]) {
 // Says the verdict on a file.
 fn check(path: &[u8], file: &[u8]) {
     say::say(path, b"", Sentence::Verdict(structure::verdict(file)));
+}
+
+// Writes the receipt of a file, and says the verdict.
+fn write_receipt(path: &[u8], file: &[u8]) {
+    let Number::Is(station) = number_at(2) else {
+        return;
+    };
+    let Number::Is(job) = number_at(3) else {
+        return;
+    };
+    let mut buffer = io::buffer();
+    match receipt::write(station, job, file, &mut buffer) {
+        Written::Refused(r) => say::say(path, b"", Sentence::NoReceipt(r)),
+        Written::Bytes(n) => {
+            output::write(&buffer[..n]);
+            check(path, file);
+        }
+    }
+}
+
+// The number that a word of the command says; or says that it is none.
+fn number_at(place: usize) -> Number {
+    let mut word = io::buffer();
+    let n = os::arg(place, &mut word);
+    if os::errno() != 0 {
+        say::say_long_word();
+        return Number::None;
+    }
+    let number = text::number_of(&word[..n]);
+    if let Number::None = number {
+        say::say(&word[..n], b"", Sentence::NoNumber);
+    }
+    number
 }
 
 // Writes the part of a file under a name.

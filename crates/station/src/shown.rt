@@ -12,9 +12,9 @@ use decoding::Fixed;
 use floats::Floats;
 
 // The most values that are shown, and the most floats that a file of 65,536 bytes can hold.
-const VALUES: usize = 4096;
+const VALUES: usize = 65536;
 
-const FLOATS: usize = 4096;
+const FLOATS: usize = 16384;
 
 // Writes the values of the column under a name of a file; or answers the refusal.
 pub fn write_column(file: &[u8], name: &[u8]) -> u8 {
@@ -40,7 +40,7 @@ fn show_column(column: &[u8]) -> u8 {
 
 // Writes the values of a column of integers or fixed point; or answers the refusal.
 fn show_numbers(column: &[u8], kind: Kind) -> u8 {
-    let mut buffer = [0i32; VALUES];
+    let mut buffer = no_numbers();
     match decode_numbers(column, kind, &mut buffer) {
         Fixed::Refused(r) => r,
         Fixed::Column(n, divisor) => {
@@ -74,7 +74,7 @@ fn whole(answer: Decoded) -> Fixed
 
 // Writes the floats of a column; or answers the refusal.
 fn show_floats(column: &[u8]) -> u8 {
-    let mut buffer = [0u32; FLOATS];
+    let mut buffer = no_floats();
     match floats::decode_float32(column, &mut buffer) {
         Floats::Refused(r) => r,
         Floats::Count(n) => {
@@ -86,7 +86,7 @@ fn show_floats(column: &[u8]) -> u8 {
 
 // Writes the characters or the strings of a column; or answers the refusal.
 fn show_bytes(column: &[u8], kind: Kind, size: usize) -> u8 {
-    let mut buffer = [0u8; VALUES];
+    let mut buffer = io::large_buffer();
     match decode_bytes(column, kind, &mut buffer) {
         Decoded::Refused(r) => r,
         Decoded::Count(n) => {
@@ -104,4 +104,18 @@ fn decode_bytes(column: &[u8], kind: Kind, buffer: &mut [u8]) -> Decoded
         Kind::Strings => decoding::decode_strings(column, buffer),
         _ => decoding::decode_chars(column, buffer),
     }
+}
+
+// Room for the numbers of a column.
+fn no_numbers() -> [i32; VALUES]
+    ensures { λ r. ⌜ length r ≡ 65536 ⌝ }
+{
+    [0i32; VALUES]
+}
+
+// Room for the floats of a column.
+fn no_floats() -> [u32; FLOATS]
+    ensures { λ r. ⌜ length r ≡ 16384 ⌝ }
+{
+    [0u32; FLOATS]
 }

@@ -7,6 +7,7 @@ use sentences::Sentence;
 
 pub enum Command {
     Check,
+    Receipt,
     View,
     Column,
     Help,
@@ -19,6 +20,9 @@ pub fn command_of(word: &[u8]) -> Command
 {
     if messagepack::same_bytes(word, b"check") {
         return Command::Check;
+    }
+    if messagepack::same_bytes(word, b"receipt") {
+        return Command::Receipt;
     }
     if messagepack::same_bytes(word, b"view") {
         return Command::View;
@@ -38,6 +42,7 @@ pub fn count_of(command: Command) -> usize
 {
     match command {
         Command::Check => 3,
+        Command::Receipt => 5,
         Command::View => 4,
         Command::Column => 4,
         Command::Help => 2,
@@ -51,6 +56,7 @@ pub fn file_place(command: Command) -> usize
 {
     match command {
         Command::Check => 2,
+        Command::Receipt => 4,
         Command::View => 2,
         Command::Column => 2,
         Command::Help => 0,
@@ -64,6 +70,10 @@ pub fn say_takes(command: Command) {
         Command::Check => output::write_to(
             libc::STDERR_FILENO,
             b"station check takes one word more: FILE.\n",
+        ),
+        Command::Receipt => output::write_to(
+            libc::STDERR_FILENO,
+            b"station receipt takes three words more: STATION JOB FILE.\n",
         ),
         Command::View => output::write_to(
             libc::STDERR_FILENO,
@@ -88,12 +98,13 @@ pub fn say_unknown(word: &[u8]) {
 pub fn say_usage(descriptor: i32) {
     output::write_to(
         descriptor,
-        b"station check FILE         says whether a structure file is accepted, or why it is refused\n\
-        station view FILE NAME     writes the part of the file under NAME\n\
-        station column FILE NAME   writes the values of the column under NAME, one to a line\n\
-        station help               writes this text\n\
+        b"station check FILE                 says whether a structure file is accepted, or why it is refused\n\
+        station receipt STATION JOB FILE   writes the receipt of the file\n\
+        station view FILE NAME             writes the part of the file under NAME\n\
+        station column FILE NAME           writes the values of the column under NAME, one to a line\n\
+        station help                       writes this text\n\
         \n\
-        FILE has at most 65,536 bytes. NAME is an outer key of the file, as structureId or xCoordList.\n\
-        Data go to standard output, sentences to standard error.\n",
+        STATION is 1 to 99, JOB 1 to 999,999. FILE has at most 65,536 bytes. NAME is an outer key of the file,\n\
+        as structureId or xCoordList. Data go to standard output, sentences to standard error.\n",
     );
 }

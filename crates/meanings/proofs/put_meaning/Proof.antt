@@ -13,10 +13,10 @@ use Rattle.meanings.proofs.put_meaning.Statement.{statement}
 use Rattle.meanings.proofs.put_meaning.Tie as tie
 
 abbrev Inv-loop : tie.InvT-loop
-Inv-loop buffer₀ at number table row₀ buffer row = (length table ≡ 992) × Seeking table number row × (buffer ≡ buffer₀)
+Inv-loop buffer₀ at number table row₀ buffer row = (length table ≡ 989) × Seeking table number row × (buffer ≡ buffer₀)
 
 abbrev μ-loop : tie.MeasureT-loop
-μ-loop buffer₀ at number table row₀ buffer row = 992 - row
+μ-loop buffer₀ at number table row₀ buffer row = 989 - row
 
 loop-holds : tie.Need-loop-holds Inv-loop μ-loop
 loop-holds c =

@@ -79,6 +79,6 @@ seek-none {table} {n} {row} g h = go (g .rest) (g .left) (g .text)
     go [] e t = sym t
     go (m ∷ ms) e t = let l = length-drop row table in absurd (omega (arith, ap length e))
 
-pub table-length : length meaningTable ≡ 992
+pub table-length : length meaningTable ≡ 989
 unfolding meaningTable cells meanings
 table-length = refl

@@ -143,6 +143,18 @@ told-number station job s n r q z = go (numbered station job) refl (leb (length 
     go true e false f = let d : r ≡ 25 = refusals r 25 (q ∙ sym (told-25 station job s n e (leb-false (length (receiptText station job s)) n f))) in omega arith
     go true e true f = never (writing.Refused r) r (length (receiptText station job s)) refl (q ∙ sym (told-written station job s n e (leb-true (length (receiptText station job s)) n f)))
 
+-- what is written fits
+pub told-fits : (station job : ℕ) (s : List ℕ) (n m : ℕ) → told station job s n ≡ writing.Bytes m → m ≤ n
+told-fits station job s n m q = go (numbered station job) refl (leb (length (receiptText station job s)) n) refl
+  where
+    go : (t : Bool) → numbered station job ≡ t → (u : Bool) → leb (length (receiptText station job s)) n ≡ u → m ≤ n
+    go false e u f = never (told station job s n) receiptMalformed m (told-29 station job s n e) q
+    go true e false f = never (told station job s n) bufferTooSmall m (told-25 station job s n e (leb-false (length (receiptText station job s)) n f)) q
+    go true e true f =
+        let l = leb-true (length (receiptText station job s)) n f in
+        let d = same (told station job s n) (length (receiptText station job s)) m (told-written station job s n e l) q in
+        omega arith
+
 -- a buffer of 128 bytes is never too small
 pub told-room : (station job : ℕ) (s : List ℕ) (n : ℕ) → Bytes s → 128 ≤ n → told station job s n ≡ writing.Refused bufferTooSmall → ⊥
 told-room station job s n bytes l q = go (numbered station job) refl

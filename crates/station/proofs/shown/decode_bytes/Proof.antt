@@ -1,47 +1,27 @@
+-- A decoder writes no more than there is room for. Assumes nothing.
+use Rattle.columns.specs.Decode.{decode}
+use Rattle.columns.specs.declared.Kind.{Kind}
+use Rattle.columns.specs.declared.Wanted.{Wanted}
+use lib.ListN.{length}
+use Rattle.station.specs.Laws.Reading.{told-within}
 use borrow.Author.Needs.{needs}
 use Rattle.station.proofs.shown.decode_bytes.Statement.{statement}
 use Rattle.station.proofs.shown.decode_bytes.Tie as tie
-use Rattle.station.proofs.shown.decode_bytes.Reads as reads
-use Rattle.station.proofs.shown.decode_bytes.Lts as lts
-use Rattle.decoding.proofs.decode_chars.Reads as decode-chars-reads
-use Rattle.decoding.proofs.decode_strings.Reads as decode-strings-reads
 
--- src/shown.rt:104:59
-enum-told : tie.Need-enum-told
-enum-told c = search needs
-
--- src/shown.rt:104:26
-decode-strings-requires : tie.Need-decode-strings-requires
-decode-strings-requires c κs = search needs
-
--- src/shown.rt:105:14
-decode-chars-requires : tie.Need-decode-chars-requires
-decode-chars-requires c κs = search needs
-
--- src/shown.rt:100:1
-same-length : tie.Need-same-length
-same-length c = search needs
-
--- src/shown.rt:100:1
 returns : tie.Need-returns
-returns c = ?
+returns c = told-within (decode (Wanted.Only Kind.Strings) (c .before .before .before .before .before .before .before .before .args .column .now)) (c .before .before .decode-strings .result) (length (c .before .before .before .before .before .before .before .before .args .buffer .now)) _ (c .before .before .decode-strings .ensures .0) (c .before .before .decode-strings .kept .1 .0)
 
--- src/shown.rt:100:1
-same-length-2 : tie.Need-same-length-2
-same-length-2 c = search needs
-
--- src/shown.rt:100:1
 returns-2 : tie.Need-returns-2
-returns-2 c = ?
+returns-2 c = told-within (decode (Wanted.Only Kind.Chars) (c .before .before .before .before .before .before .before .args .column .now)) (c .before .before .decode-chars .result) (length (c .before .before .before .before .before .before .before .args .buffer .now)) _ (c .before .before .decode-chars .ensures .0) (c .before .before .decode-chars .kept .1 .0)
 
 pub decode-bytes-spec : {M : Type 1} → statement M
 decode-bytes-spec =
     tie.close
     (tie.spec
-    enum-told
-    decode-strings-requires
-    decode-chars-requires
-    same-length
+    (λ c. search needs)
+    (λ c κs. search needs)
+    (λ c κs. search needs)
+    (λ c. search needs)
     returns
-    same-length-2
+    (λ c. search needs)
     returns-2)

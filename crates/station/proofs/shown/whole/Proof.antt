@@ -1,24 +1,15 @@
+-- Each case of the answer has its own. Assumes nothing.
+use mathlib.Core.Path.{sym, ap}
 use borrow.Author.Needs.{needs}
+use Rattle.station.specs.Reading.{wholeOf}
 use Rattle.station.proofs.shown.whole.Statement.{statement}
 use Rattle.station.proofs.shown.whole.Tie as tie
-use Rattle.station.proofs.shown.whole.Reads as reads
-use Rattle.station.proofs.shown.whole.Lts as lts
 
--- src/shown.rt:70:24
-enum-known-answer : tie.Need-enum-known-answer
-enum-known-answer c = search needs
-
--- src/shown.rt:71:26
-enum-known-answer-2 : tie.Need-enum-known-answer-2
-enum-known-answer-2 c = search needs
-
--- src/shown.rt:66:1
 returns : tie.Need-returns
-returns c = ?
+returns c = ap wholeOf (sym (c .before .answer .given .1))
 
--- src/shown.rt:66:1
 returns-2 : tie.Need-returns-2
-returns-2 c = ?
+returns-2 c = ap wholeOf (sym (c .before .answer2 .given .1))
 
 pub whole-spec : {M : Type 1} → statement M
-whole-spec = tie.close (tie.spec enum-known-answer enum-known-answer-2 returns returns-2)
+whole-spec = tie.close (tie.spec (λ c. search needs) (λ c. search needs) returns returns-2)
