@@ -22,6 +22,10 @@ verdictText file n = cond (eqb n accepted) (file ++ ascii " is accepted.\n") (fi
 abbrev pub partText : List ℕ → List ℕ → List ℕ → ℕ → List ℕ
 partText file part name n = file ++ (part ++ (name ++ (ascii "\": " ++ refusalText n)))
 
+-- what is said of a word, which stands after a quotation mark
+abbrev pub wordText : List ℕ → List ℕ → List ℕ
+wordText word said = ascii "\"" ++ word ++ said
+
 -- The sentence about a subject, with the name of a part. After an unreadable file the reason is said.
 abbrev pub sentenceText : List ℕ → List ℕ → Sentence → List ℕ
 sentenceText subject name (Verdict n) = verdictText subject n
@@ -30,5 +34,5 @@ sentenceText subject name (NoColumn n) = partText subject (ascii " has no column
 sentenceText subject name (NoReceipt n) = subject ++ (ascii " gets no receipt: " ++ refusalText n)
 sentenceText subject name TooLong = subject ++ ascii " has more than 65,536 bytes, the most that are read.\n"
 sentenceText subject name Unreadable = subject ++ ascii " cannot be read"
-sentenceText subject name NoCommand = subject ++ ascii " is not a command.\n"
-sentenceText subject name NoNumber = subject ++ ascii " is not a number.\n"
+sentenceText subject name NoCommand = wordText subject (ascii "\" is not a command.\n")
+sentenceText subject name NoNumber = wordText subject (ascii "\" is not a number.\n")

@@ -1,7 +1,7 @@
 // The sentences that the program says about a file or a word.
 ghost use mathlib.Core.List.{_++_};
 ghost use Rattle.text.specs.Put.{Put};
-ghost use Rattle.sentences.specs.Sentences.{refusalText, verdictText, partText, sentenceText};
+ghost use Rattle.sentences.specs.Sentences.{refusalText, verdictText, partText, wordText, sentenceText};
 
 // What is said of a subject, which is a file or a word. A refusal has its number.
 pub enum Sentence {
@@ -30,8 +30,8 @@ pub fn put_sentence(buffer: &mut [u8], subject: &[u8], name: &[u8], sentence: Se
             b" has more than 65,536 bytes, the most that are read.\n",
         ),
         Sentence::Unreadable => put_two(buffer, subject, b" cannot be read"),
-        Sentence::NoCommand => put_two(buffer, subject, b" is not a command.\n"),
-        Sentence::NoNumber => put_two(buffer, subject, b" is not a number.\n"),
+        Sentence::NoCommand => put_word(buffer, subject, b"\" is not a command.\n"),
+        Sentence::NoNumber => put_word(buffer, subject, b"\" is not a number.\n"),
     }
 }
 
@@ -72,6 +72,14 @@ fn put_refusal(buffer: &mut [u8], at: usize, number: u8) -> usize
     let meaning = text::put(buffer, comma, b", ");
     let end = meanings::put_meaning(buffer, meaning, number);
     text::put(buffer, end, b".\n")
+}
+
+// Puts a word after a quotation mark, and what is said of it.
+fn put_word(buffer: &mut [u8], word: &[u8], said: &[u8]) -> usize
+    ensures { λ r. ⌜ Put (now (buffer .entry)) 0 (wordText (now (word .entry)) (now (said .entry))) (now (buffer .exit)) r ⌝ }
+{
+    let begin = put_two(buffer, b"\"", word);
+    text::put(buffer, begin, said)
 }
 
 // Puts two pieces at the start of a buffer.

@@ -12,7 +12,7 @@ pub enum Contents {
 }
 
 // Reads the whole of a file into a buffer, or says why that cannot be done.
-pub fn read(path: &[u8], buffer: &mut [u8]) -> Contents
+pub(crate) fn read(path: &[u8], buffer: &mut [u8]) -> Contents
     ensures { λ r. ⌜ Within r (length (now (buffer .exit))) ⌝ }
 {
     let descriptor = os::open_read(path);
@@ -33,20 +33,23 @@ fn read_all(descriptor: i32, buffer: &mut [u8]) -> Contents
     ensures { λ r. ⌜ Within r (length (now (buffer .exit))) ⌝ }
 {
     let done = io::read_full(descriptor, buffer);
-    end_at(descriptor, done)
+    end_at(descriptor, done, done == buffer.len())
 }
 
-// Whether the input ends here, after so many bytes.
-fn end_at(descriptor: i32, done: usize) -> Contents
+// Whether the input ends here, after so many bytes; where it does not, and the buffer is not full, a read had failed.
+fn end_at(descriptor: i32, done: usize, full: bool) -> Contents
     ensures { λ r. ⌜ Within r done ⌝ }
 {
     let mut byte = [0u8; 1];
     let got = libc::read(descriptor, &mut byte);
-    if got < 0 {
-        return Contents::Failed;
-    }
     if got == 0 {
         return Contents::Bytes(done);
     }
-    Contents::TooLong
+    if got < 0 {
+        return Contents::Failed;
+    }
+    if full {
+        return Contents::TooLong;
+    }
+    Contents::Failed
 }

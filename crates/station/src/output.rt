@@ -1,12 +1,12 @@
 // Data on standard output, in large pieces.
 
 // Writes bytes to standard output, and says so where that fails.
-pub fn write(bytes: &[u8]) -> bool {
+pub(crate) fn write(bytes: &[u8]) -> bool {
     write_to(libc::STDOUT_FILENO, bytes)
 }
 
 // Writes bytes to a descriptor, and says so where that fails.
-pub fn write_to(descriptor: i32, bytes: &[u8]) -> bool {
+pub(crate) fn write_to(descriptor: i32, bytes: &[u8]) -> bool {
     let written = io::write_all(descriptor, bytes);
     if !written {
         os::fail(b"The output cannot be written");
@@ -15,7 +15,7 @@ pub fn write_to(descriptor: i32, bytes: &[u8]) -> bool {
 }
 
 // Writes numbers over a divisor, a line each.
-pub fn write_numbers(values: &[i32], divisor: u32) {
+pub(crate) fn write_numbers(values: &[i32], divisor: u32) {
     let mut buffer = io::large_buffer();
     let mut from: usize = 0;
     while from < values.len() {
@@ -29,7 +29,7 @@ pub fn write_numbers(values: &[i32], divisor: u32) {
 }
 
 // Writes floats by their bits, a line each.
-pub fn write_floats(values: &[u32]) {
+pub(crate) fn write_floats(values: &[u32]) {
     let mut buffer = io::large_buffer();
     let mut from: usize = 0;
     while from < values.len() {
@@ -43,7 +43,7 @@ pub fn write_floats(values: &[u32]) {
 }
 
 // Writes names of a size, a line each.
-pub fn write_names(names: &[u8], size: usize) {
+pub(crate) fn write_names(names: &[u8], size: usize) {
     let mut buffer = io::large_buffer();
     let mut from: usize = 0;
     while from < names.len() {

@@ -17,7 +17,7 @@ const VALUES: usize = 65536;
 const FLOATS: usize = 16384;
 
 // Writes the values of the column under a name of a file; or answers the refusal.
-pub fn write_column(file: &[u8], name: &[u8]) -> u8 {
+pub(crate) fn write_column(file: &[u8], name: &[u8]) -> u8 {
     let number = views::view_refusal(file, name);
     if number != refusal::ACCEPTED {
         return number;

@@ -15,7 +15,7 @@ pub enum Command {
 }
 
 // The command that a word names.
-pub fn command_of(word: &[u8]) -> Command
+pub(crate) fn command_of(word: &[u8]) -> Command
     ensures { λ r. ⌜ r ≡ commandOf (now (word .entry)) ⌝ }
 {
     if messagepack::same_bytes(word, b"check") {
@@ -37,7 +37,7 @@ pub fn command_of(word: &[u8]) -> Command
 }
 
 // How many words a command has, the program's name and its own among them.
-pub fn count_of(command: Command) -> usize
+pub(crate) fn count_of(command: Command) -> usize
     ensures { λ r. ⌜ r ≡ countOf command ⌝ }
 {
     match command {
@@ -51,7 +51,7 @@ pub fn count_of(command: Command) -> usize
 }
 
 // Which of the words is the file's name.
-pub fn file_place(command: Command) -> usize
+pub(crate) fn file_place(command: Command) -> usize
     ensures { λ r. ⌜ r ≡ filePlace command ⌝ }
 {
     match command {
@@ -65,7 +65,7 @@ pub fn file_place(command: Command) -> usize
 }
 
 // Says that a command takes other words.
-pub fn say_takes(command: Command) {
+pub(crate) fn say_takes(command: Command) {
     match command {
         Command::Check => output::write_to(
             libc::STDERR_FILENO,
@@ -89,13 +89,13 @@ pub fn say_takes(command: Command) {
 }
 
 // Says that a word is no command, and which there are.
-pub fn say_unknown(word: &[u8]) {
+pub(crate) fn say_unknown(word: &[u8]) {
     say::say(word, b"", Sentence::NoCommand);
     say_usage(libc::STDERR_FILENO);
 }
 
 // Writes how the program is used.
-pub fn say_usage(descriptor: i32) {
+pub(crate) fn say_usage(descriptor: i32) {
     output::write_to(
         descriptor,
         b"station check FILE                 says whether a structure file is accepted, or why it is refused\n\

@@ -25,10 +25,10 @@ returns-6 : tie.Need-returns-6
 returns-6 c = let a = c .before .before .before .before .before .before .before .before .before .before .args in put-as (c .before .before .put-two2 .ensures) (ap (sentenceText (a .subject .now) (a .name .now)) (c .before .before .before .before .before .enum-told2 .given .1))
 
 returns-7 : tie.Need-returns-7
-returns-7 c = let a = c .before .before .before .before .before .before .before .before .before .before .args in put-as (c .before .before .put-two3 .ensures) (ap (sentenceText (a .subject .now) (a .name .now)) (c .before .before .before .before .before .enum-told3 .given .1))
+returns-7 c = let a = c .before .before .before .before .before .before .before .before .before .before .args in put-as (c .before .before .put-word .ensures) (ap (sentenceText (a .subject .now) (a .name .now)) (c .before .before .before .before .before .enum-told3 .given .1))
 
 returns-8 : tie.Need-returns-8
-returns-8 c = let a = c .before .before .before .before .before .before .before .before .before .before .args in put-as (c .before .before .put-two4 .ensures) (ap (sentenceText (a .subject .now) (a .name .now)) (c .before .before .before .before .before .enum-told4 .given .1))
+returns-8 c = let a = c .before .before .before .before .before .before .before .before .before .before .args in put-as (c .before .before .put-word2 .ensures) (ap (sentenceText (a .subject .now) (a .name .now)) (c .before .before .before .before .before .enum-told4 .given .1))
 
 pub put-sentence-spec : {M : Type 1} → statement M
 put-sentence-spec =
