@@ -1,5 +1,6 @@
 -- One cell of a column, with its refusals in their order: the column's own, 15 for strings, 28, 27. No lemma stands here: the laws are
 -- in Laws/. Assumes nothing.
+use mathlib.Core.Path.{_≡_}
 use mathlib.Core.Bool.{Bool, cond, not, _&&_}
 use Prim.Native.Nat.{ℕ}
 use lib.ListN.{length, getD}
@@ -11,11 +12,18 @@ use Rattle.columns.specs.declared.Kind.{Kind}
 use Rattle.columns.specs.declared.Kind.the-variants as kind
 use Rattle.columns.specs.Table.{kindNumber}
 use Rattle.columns.specs.Decode.{Decoding, refused, column}
+use Rattle.payloads.specs.declared.Outcome.{Outcome}
+use Rattle.payloads.specs.declared.Outcome.the-variants as outcome
 use Rattle.payloads.specs.Held.{exact}
 use Rattle.decoding.specs.Calls.{asByte}
 use Rattle.floats.specs.Calls.{quotient, kept}
 use Rattle.cells.specs.declared.Cell.{Cell}
 use Rattle.cells.specs.declared.Cell.the-variants.{Int, Char, Float, Refused}
+
+-- whether an outcome says what a scan says, but for whether the results are exact
+abbrev pub Says : Outcome → Outcome → Type 0
+Says (outcome.Fine e x) o = (t : Bool) × (o ≡ outcome.Fine t x)
+Says (outcome.Refused r) o = o ≡ outcome.Refused r
 
 -- the quotient of a cell by the divisor m; 27 where one of them is not exact
 abbrev pub quotientCell : ℕ → ℤ → Cell

@@ -1,3 +1,4 @@
 -- Laws. Assumes nothing.
 pub mod Table
 pub mod Calls
+pub mod Found

@@ -1,2 +1,3 @@
+-- What is answered for one cell.
 pub mod Calls
 pub mod Laws

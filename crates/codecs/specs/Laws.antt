@@ -1,3 +1,4 @@
+-- What is proved of the definitions of `codecs`.
 pub mod Numbers
 pub mod Packing
 pub mod Payload

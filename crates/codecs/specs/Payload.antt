@@ -15,7 +15,7 @@ use Rattle.codecs.specs.declared.Range.{Range}
 use Rattle.codecs.specs.declared.Range.the-variants.{Int8, Int16, Int32, Ascii}
 use Rattle.codecs.specs.declared.Form.{Form}
 use Rattle.codecs.specs.declared.Form.the-variants.{Plain, Packed, Runs, Names}
-use Rattle.codecs.specs.Numbers.{numbersIn, bytesFor}
+use Rattle.codecs.specs.Numbers.{numbersIn}
 use Rattle.codecs.specs.RunLength.{expand, runsOf}
 use Rattle.codecs.specs.Packing.{unpack, pack}
 

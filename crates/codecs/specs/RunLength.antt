@@ -1,6 +1,5 @@
 -- Run-length (paper 01: runs): a value, then how many cells have it. No lemma stands here: the laws are in Laws/RunLength.antt.
 -- Assumes nothing.
-use mathlib.Core.Path.{_≡_}
 use mathlib.Core.Bool.{Bool, cond}
 use mathlib.Core.Option.{Option, none, some, Option·map}
 use mathlib.Core.List.{List, [], _∷_, _++_}

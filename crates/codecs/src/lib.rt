@@ -1,10 +1,9 @@
 // The steps that the codecs are made of: signed big-endian numbers of 1, 2 and 4 bytes, run-length, delta and recursive index
 // (packing), each defined once on lists in specs/. The calls here are the steps on single numbers, and every call is total.
 ghost use mathlib.Core.Path.{_≡_};
-ghost use mathlib.Core.Bool.{Bool};
-ghost use Prim.Native.Nat.{_+_, _*_, _%_, _^_, _≤_};
-ghost use mir.Syntax.{w8, w32};
-ghost use mir.Val.{toZ, ofZ};
+ghost use Prim.Native.Nat.{_+_};
+ghost use mir.Syntax.{w8};
+ghost use mir.Val.{toZ};
 ghost use Rattle.numbers.specs.BigEndian.{signedAt};
 ghost use Rattle.codecs.specs.Width.{widthOf, sizeOf, upper, lower};
 ghost use Rattle.codecs.specs.Delta.{plusDelta, minusDelta};

@@ -1,6 +1,6 @@
 -- A column's header: codec, length and parameter, 32 bits each, and its refusals in their order (14, 15, 16, 17). No lemma stands
 -- here. Assumes nothing.
-use mathlib.Core.Bool.{Bool, cond, _&&_}
+use mathlib.Core.Bool.{cond, _&&_}
 use mathlib.Core.List.{List, _++_}
 use Prim.Native.Nat.{ℕ, _-_}
 use lib.ListN.{length}

@@ -1,3 +1,4 @@
+-- What is proved of the definitions of `columns`.
 pub mod Table
 pub mod Rows
 pub mod Header

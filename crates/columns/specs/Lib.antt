@@ -1,3 +1,4 @@
+-- The sixteen codecs. To read: `Table`, `Header`, `Decode`, `Encode`, `WriterForm`.
 pub mod Table
 pub mod Header
 pub mod Decode

@@ -67,97 +67,32 @@ pub fn read_header(column: &[u8], wanted: Wanted) -> Header
     )
 }
 
+// What the parameter is for, as the table of codecs has it.
+const UNUSED: Parameter = Parameter::Unused;
+
+const DIVISOR: Parameter = Parameter::Divisor;
+
 // The codec of a number.
 pub fn codec_of(number: u32) -> Codec
     ensures { λ r. ⌜ r ≡ codecOf number ⌝ }
 {
     match number {
-        1 => Codec::Known(
-            Kind::Float32,
-            Form::Plain(Size::Four),
-            false,
-            Parameter::Unused,
-        ),
-        2 => Codec::Known(Kind::Int8, Form::Plain(Size::One), false, Parameter::Unused),
-        3 => Codec::Known(
-            Kind::Int16,
-            Form::Plain(Size::Two),
-            false,
-            Parameter::Unused,
-        ),
-        4 => Codec::Known(
-            Kind::Int32,
-            Form::Plain(Size::Four),
-            false,
-            Parameter::Unused,
-        ),
+        1 => Codec::Known(Kind::Float32, Form::Plain(Size::Four), false, UNUSED),
+        2 => Codec::Known(Kind::Int8, Form::Plain(Size::One), false, UNUSED),
+        3 => Codec::Known(Kind::Int16, Form::Plain(Size::Two), false, UNUSED),
+        4 => Codec::Known(Kind::Int32, Form::Plain(Size::Four), false, UNUSED),
         5 => Codec::Known(Kind::Strings, Form::Names, false, Parameter::NameSize),
-        6 => Codec::Known(
-            Kind::Chars,
-            Form::Runs(Range::Ascii),
-            false,
-            Parameter::Unused,
-        ),
-        7 => Codec::Known(
-            Kind::Int32,
-            Form::Runs(Range::Int32),
-            false,
-            Parameter::Unused,
-        ),
-        8 => Codec::Known(
-            Kind::Int32,
-            Form::Runs(Range::Int32),
-            true,
-            Parameter::Unused,
-        ),
-        9 => Codec::Known(
-            Kind::FixedPoint,
-            Form::Runs(Range::Int32),
-            false,
-            Parameter::Divisor,
-        ),
-        10 => Codec::Known(
-            Kind::FixedPoint,
-            Form::Packed(Size::Two),
-            true,
-            Parameter::Divisor,
-        ),
-        11 => Codec::Known(
-            Kind::FixedPoint,
-            Form::Plain(Size::Two),
-            false,
-            Parameter::Divisor,
-        ),
-        12 => Codec::Known(
-            Kind::FixedPoint,
-            Form::Packed(Size::Two),
-            false,
-            Parameter::Divisor,
-        ),
-        13 => Codec::Known(
-            Kind::FixedPoint,
-            Form::Packed(Size::One),
-            false,
-            Parameter::Divisor,
-        ),
-        14 => Codec::Known(
-            Kind::Int32,
-            Form::Packed(Size::Two),
-            false,
-            Parameter::Unused,
-        ),
-        15 => Codec::Known(
-            Kind::Int32,
-            Form::Packed(Size::One),
-            false,
-            Parameter::Unused,
-        ),
-        16 => Codec::Known(
-            Kind::Int8,
-            Form::Runs(Range::Int8),
-            false,
-            Parameter::Unused,
-        ),
+        6 => Codec::Known(Kind::Chars, Form::Runs(Range::Ascii), false, UNUSED),
+        7 => Codec::Known(Kind::Int32, Form::Runs(Range::Int32), false, UNUSED),
+        8 => Codec::Known(Kind::Int32, Form::Runs(Range::Int32), true, UNUSED),
+        9 => Codec::Known(Kind::FixedPoint, Form::Runs(Range::Int32), false, DIVISOR),
+        10 => Codec::Known(Kind::FixedPoint, Form::Packed(Size::Two), true, DIVISOR),
+        11 => Codec::Known(Kind::FixedPoint, Form::Plain(Size::Two), false, DIVISOR),
+        12 => Codec::Known(Kind::FixedPoint, Form::Packed(Size::Two), false, DIVISOR),
+        13 => Codec::Known(Kind::FixedPoint, Form::Packed(Size::One), false, DIVISOR),
+        14 => Codec::Known(Kind::Int32, Form::Packed(Size::Two), false, UNUSED),
+        15 => Codec::Known(Kind::Int32, Form::Packed(Size::One), false, UNUSED),
+        16 => Codec::Known(Kind::Int8, Form::Runs(Range::Int8), false, UNUSED),
         _ => Codec::Unknown,
     }
 }

@@ -1,7 +1,7 @@
 -- The columns among the named fields, in field order: of which kind each is, and what it has an entry for (paper 01, "Fields, in order" and
 -- rule 4 of "Counts that must agree"). No reader, no place and no lemma stands here. Assumes nothing.
 use mathlib.Core.Path.{_≡_}
-use mathlib.Core.Bool.{Bool, true, cond, _&&_}
+use mathlib.Core.Bool.{Bool, true, _&&_}
 use mathlib.Core.List.{List, [], _∷_}
 use mathlib.Core.Option.{Option, some, none as nothing}
 use Prim.Native.Nat.{ℕ}
@@ -11,7 +11,8 @@ use lib.IntN.{ℤ}
 use Rattle.refusal.specs.Table.{accepted}
 use Rattle.messagepack.specs.Document.{Document, Entries}
 use Rattle.values.specs.Parts.{textOf}
-use Rattle.fields.specs.Types.{bytesIn, look}
+use Rattle.fields.specs.Types.{look}
+use Rattle.utf8.specs.Ascii.{ascii}
 use Rattle.columns.specs.declared.Kind.{Kind}
 use Rattle.columns.specs.declared.Kind.the-variants.{Int8, Int32, Strings, Chars}
 use Rattle.columns.specs.declared.Wanted.{Wanted}
@@ -22,7 +23,7 @@ use Rattle.groups.specs.Group.{orElse}
 
 -- the value of a named field
 abbrev pub field : Text.String → Entries → Option Document
-field name es = look (bytesIn name) es
+field name es = look (ascii name) es
 
 -- what a column has one entry for; bonds are counted by rules of their own
 pub data Per : Type 0 where

@@ -1,7 +1,7 @@
 -- The eleven rules of paper 01, "Counts that must agree", in its order, as tests on a file's document, and the number of the first that is
 -- broken. No reader, no place and no lemma stands here. Assumes nothing.
 use mathlib.Core.Path.{_≡_}
-use mathlib.Core.Bool.{Bool, true, false, cond, _&&_}
+use mathlib.Core.Bool.{Bool, true, false, _&&_}
 use mathlib.Core.List.{List, [], _∷_}
 use mathlib.Core.Option.{Option, some, none as nothing}
 use Prim.Native.Nat.{ℕ, _+_}
@@ -10,22 +10,18 @@ use lib.Dec.{eqb, leb}
 use lib.IntN.{ℤ, pos, negsuc, natAbs}
 use lib.ListN.{length}
 use Rattle.refusal.specs.Table.{accepted, countsDisagree, indexOutside, valueOutside, tooManyGroupTypes}
-use Rattle.messagepack.specs.Document.{Document, Documents, Entries, none, item, count}
+use Rattle.messagepack.specs.Document.{Document, Documents, Entries, count}
 use Rattle.values.specs.Parts.{integerOf}
 use Rattle.fields.specs.Types.{Each}
 use Rattle.fields.specs.Tests.{all}
 use Rattle.columns.specs.declared.Kind.the-variants.{Int8, Int32}
 use Rattle.columns.specs.declared.Wanted.{Wanted}
 use Rattle.columns.specs.declared.Wanted.the-variants.{Only}
-use Rattle.survey.specs.Cells.{allBetween, allBelow, total}
-use Rattle.lists.specs.Integers.{integersOf, noneNegative, sum}
+use Rattle.survey.specs.Cells.{allBetween, allBelow, total, typeLimit}
+use Rattle.lists.specs.Integers.{noneNegative, sum}
 use Rattle.groups.specs.Group.{itemsIn, integersIn, listIn, bondsAgree, pairs, ordersRight, atomsOf, bondsOf, groupNumber, orElse, groupsNumber, each}
 use Rattle.indices.specs.Indices.{chainsInside, transformsInside}
 use Rattle.counts.specs.Columns.{field, columns, cellsIn, allLong}
-
--- the most group types
-abbrev pub typeLimit : ℕ
-typeLimit = 4096
 
 -- the most models, chains, groups, atoms or bonds
 abbrev pub countLimit : ℕ

@@ -3,14 +3,13 @@
 ghost use mathlib.Core.Path.{_≡_};
 ghost use mathlib.Core.List.{List};
 ghost use mathlib.Core.Option.{Option};
-ghost use Prim.Native.Nat.{ℕ, _≤_, _<_};
-ghost use lib.ListN.{length, getD};
-ghost use lib.IntN.{ℤ};
+ghost use Prim.Native.Nat.{_≤_, _<_};
+ghost use lib.ListN.{getD};
 ghost use Rattle.heads.specs.Table.{leadTable};
 ghost use Rattle.messagepack.specs.Document.{Document, Entries};
 ghost use Rattle.fields.specs.Noted.{PlaceSays};
 ghost use Rattle.numbers.specs.BigEndian.{unsignedAt};
-ghost use Rattle.survey.specs.Cells.{allBetween, TotalsOf};
+ghost use Rattle.survey.specs.Cells.{typeLimit, allBetween, TotalsOf};
 ghost use Rattle.groups.specs.Group.{listIn};
 ghost use Rattle.counts.specs.Columns.{columns, AllRight, columnsNumber, cellsIn, isLong, longPer, allLong};
 ghost use Rattle.counts.specs.Steps.{PlacesOf, fieldNumbers, kindNumbers, perNumbers, kindFrom, perFrom, refusalOf, listOf, Right};
@@ -167,10 +166,10 @@ pub fn totals(
     at: usize,
     wanted: Wanted,
     types: usize,
-    atoms: &[u32; 4096],
-    bonds: &[u32; 4096],
+    atoms: &[u32; survey::TYPE_LIMIT],
+    bonds: &[u32; survey::TYPE_LIMIT],
 ) -> Sums
-    ensures { λ r. ⌜ (now (leads .entry) ≡ leadTable → (o : Option Document) → PlaceSays (now (file .entry)) at o → (at ≡ 0 → ⊥) → Right wanted o → types ≤ 4096 → TotalsOf types (now (atoms .entry)) (now (bonds .entry)) (listIn (cellsIn wanted o)) r) ⌝ }
+    ensures { λ r. ⌜ (now (leads .entry) ≡ leadTable → (o : Option Document) → PlaceSays (now (file .entry)) at o → (at ≡ 0 → ⊥) → Right wanted o → types ≤ typeLimit → TotalsOf types (now (atoms .entry)) (now (bonds .entry)) (listIn (cellsIn wanted o)) r) ⌝ }
 {
     let part = values::text_at(leads, file, at);
     let a = part.at;

@@ -1,7 +1,7 @@
 -- What a decoder answers, and what it leaves in the lent buffer: both functions of what the column decodes to. No lemma stands here:
 -- the laws are in Laws/Calls.antt. Assumes nothing.
 use mathlib.Core.Path.{_≡_}
-use mathlib.Core.Bool.{Bool, true, false, cond}
+use mathlib.Core.Bool.{Bool, cond}
 use mathlib.Core.Option.{some}
 use mathlib.Core.List.{List, _++_, map}
 use Prim.Native.Nat.{ℕ, _%_}
@@ -12,7 +12,6 @@ use mir.Syntax.{w32}
 use mir.Val.{toZ, ofZ}
 use Rattle.refusal.specs.Table.{accepted, bufferTooSmall}
 use Rattle.codecs.specs.declared.Form.{Form}
-use Rattle.codecs.specs.declared.Form.the-variants.{Plain, Packed, Runs, Names}
 use Rattle.codecs.specs.Delta.{sumsIf}
 use Rattle.payloads.specs.Items.{readIn}
 use Rattle.columns.specs.Decode.{Decoding, refused, column}

@@ -1,2 +1,3 @@
+-- What the decoders answer and leave.
 pub mod Calls
 pub mod Laws

@@ -1,7 +1,7 @@
 // Decoders of columns of numbers, characters and strings into a lent buffer, for any bytes and any buffer: one pass to check, one to
 // write. On success the buffer begins with the column and everything beyond is unchanged; on refusal nothing has changed.
 ghost use mathlib.Core.Path.{_≡_};
-ghost use mathlib.Core.Bool.{true, false};
+ghost use mathlib.Core.Bool.{false};
 ghost use mathlib.Core.List.{_++_};
 ghost use Prim.Native.Nat.{_+_, _*_, _<_, _≤_};
 ghost use lib.ListN.{length, drop};
@@ -259,27 +259,33 @@ fn write_runs(payload: &[u8], range: Range, n: usize, buffer: &mut [i32])
     let mut at: usize = 0;
     let mut o: usize = 0;
     while 8 <= payload.len() - at {
-        let value = numbers::read_i32(payload, at);
-        let count = numbers::to_u32(numbers::read_i32(payload, at + 4)) as usize;
+        let run = &payload[at..];
+        let value = numbers::read_i32(run, 0);
+        let count = numbers::to_u32(numbers::read_i32(run, 4));
         at += 8;
         write_run(buffer, o, count, value, n - o);
-        o += count;
+        o += count as usize;
     }
 }
 
-// Writes a run from a place on. A short one is written as four cells, where so many are left: the next run is written over them.
-fn write_run(buffer: &mut [i32], from: usize, count: usize, value: i32, left: usize)
+// Writes a run from a place on. A short one is written as four cells, where so many are left: the next run is written over them. The first
+// test is of the 32 bits that were read, so that they are read at once.
+fn write_run(buffer: &mut [i32], from: usize, count: u32, value: i32, left: usize)
     requires { ⌜ (count ≤ left) × (from + left ≤ length (now buffer)) ⌝ }
     ensures { λ r. ⌜ Covered value (now (buffer .entry)) from count left (now (buffer .exit)) ⌝ }
 {
-    if payloads::is_short(count, left) {
+    if 4 < count {
+        fill_integers(buffer, from, count as usize, 0, value, false);
+        return;
+    }
+    if payloads::is_short(count as usize, left) {
         buffer[from] = value;
         buffer[from + 1] = value;
         buffer[from + 2] = value;
         buffer[from + 3] = value;
         return;
     }
-    fill_integers(buffer, from, count, 0, value, false);
+    fill_integers(buffer, from, count as usize, 0, value, false);
 }
 
 // Writes the results of a run from a place on, and gives the last.

@@ -1,3 +1,4 @@
+-- What is proved of the definitions of `fields`.
 pub mod Types
 pub mod Fields
 pub mod Sets

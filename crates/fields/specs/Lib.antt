@@ -1,3 +1,4 @@
+-- The named fields and their types. To read: `Types`, `Table`, `Tests`, `Fields`. `Noted`, `Numbers` and `Steps` are for the code inside.
 pub mod Types
 pub mod Table
 pub mod Tests

@@ -2,11 +2,11 @@
 -- it. No reader, no place and no lemma stands here. Assumes nothing.
 use mathlib.Core.Path.{_≡_}
 use mathlib.Core.Bool.{Bool, true, false, cond}
-use mathlib.Core.List.{List, [], _∷_}
+use mathlib.Core.List.{List}
 use mathlib.Core.Option.{Option, some, none as nothing}
 use Prim.Native.Nat.{ℕ}
-use Prim.Native.Char.{code}
 use Prim.Native.String as Text
+use Rattle.utf8.specs.Ascii.{ascii}
 use Rattle.messagepack.specs.Document.{Document, Documents, Entries, integer, float, string, binary, array, map, none, item, empty, entry, count}
 use Rattle.messagepack.specs.Equal.{equal}
 
@@ -44,17 +44,12 @@ aString = plain 3
 abbrev pub aBinary : FieldType
 aBinary = plain 4
 
--- the bytes of a name in ASCII
-abbrev pub bytesIn : Text.String → List ℕ
-bytesIn Text.[] = []
-bytesIn (Text._∷_ c s) = code c ∷ bytesIn s
-
 -- a required key and an optional one, before other rows
 abbrev pub required : Text.String → FieldType → Rows → Rows
-required name t rows = row (bytesIn name) true t rows
+required name t rows = row (ascii name) true t rows
 
 abbrev pub optional : Text.String → FieldType → Rows → Rows
-optional name t rows = row (bytesIn name) false t rows
+optional name t rows = row (ascii name) false t rows
 
 infixr 20 _then_
 abbrev pub _then_ : (Rows → Rows) → Rows → Rows

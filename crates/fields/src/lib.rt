@@ -338,8 +338,21 @@ fn simple_at(
     plain_items(leads, file, n, p, wanted)
 }
 
-// The count values of an array from a place on, each of a kind.
+// The count values of an array from a place on, each of a kind: integers in their lead bytes all at once.
 fn plain_items(leads: &[u8; 256], file: &[u8], count: usize, at: usize, wanted: usize) -> Typed
+    requires { ⌜ wanted ≤ 4 ⌝ }
+    ensures { λ r. ⌜ ItemsSay (now (leads .entry)) (now (file .entry)) (typed (plain wanted)) count at r ⌝ }
+{
+    if wanted == 1 {
+        if values::all_low(file, at, count) {
+            return Typed::Ends(at + count);
+        }
+    }
+    plain_each(leads, file, count, at, wanted)
+}
+
+// The same, value by value.
+fn plain_each(leads: &[u8; 256], file: &[u8], count: usize, at: usize, wanted: usize) -> Typed
     requires { ⌜ wanted ≤ 4 ⌝ }
     ensures { λ r. ⌜ ItemsSay (now (leads .entry)) (now (file .entry)) (typed (plain wanted)) count at r ⌝ }
 {

@@ -1,2 +1,3 @@
+-- What the decoder of floats answers and leaves.
 pub mod Calls
 pub mod Laws

@@ -184,27 +184,33 @@ fn write_runs(payload: &[u8], range: Range, divisor: f32, n: usize, buffer: &mut
     let mut at: usize = 0;
     let mut o: usize = 0;
     while 8 <= payload.len() - at {
-        let bits = quotient_bits(numbers::read_i32(payload, at), divisor);
-        let count = numbers::to_u32(numbers::read_i32(payload, at + 4)) as usize;
+        let run = &payload[at..];
+        let bits = quotient_bits(numbers::read_i32(run, 0), divisor);
+        let count = numbers::to_u32(numbers::read_i32(run, 4));
         at += 8;
         write_run(buffer, o, count, bits, n - o);
-        o += count;
+        o += count as usize;
     }
 }
 
-// Writes a run of floats from a place on. A short one is written as four, where so many are left: the next run is written over them.
-fn write_run(buffer: &mut [u32], from: usize, count: usize, bits: u32, left: usize)
+// Writes a run of floats from a place on. A short one is written as four, where so many are left: the next run is written over them. The
+// first test is of the 32 bits that were read, so that they are read at once.
+fn write_run(buffer: &mut [u32], from: usize, count: u32, bits: u32, left: usize)
     requires { ⌜ (count ≤ left) × (from + left ≤ length (now buffer)) ⌝ }
     ensures { λ r. ⌜ Covered bits (now (buffer .entry)) from count left (now (buffer .exit)) ⌝ }
 {
-    if payloads::is_short(count, left) {
+    if 4 < count {
+        fill_bits(buffer, from, count as usize, bits);
+        return;
+    }
+    if payloads::is_short(count as usize, left) {
         buffer[from] = bits;
         buffer[from + 1] = bits;
         buffer[from + 2] = bits;
         buffer[from + 3] = bits;
         return;
     }
-    fill_bits(buffer, from, count, bits);
+    fill_bits(buffer, from, count as usize, bits);
 }
 
 // Writes the same float many times.

@@ -3,21 +3,22 @@
 use mathlib.Core.Bool.{Bool, true, false, cond, _&&_}
 use mathlib.Core.List.{List, [], _∷_}
 use mathlib.Core.Option.{Option, some, none as nothing}
-use Prim.Native.Nat.{ℕ, zero, suc, _+_, _*_, _/_, _%_}
+use Prim.Native.Nat.{ℕ, zero, suc, _*_, _/_, _%_}
 use Prim.Native.String as Text
 use lib.Dec.{eqb}
 use lib.IntN.{ℤ, pos}
 use lib.ListN.{length}
 use Rattle.refusal.specs.Table.{accepted, countsDisagree, indexOutside, valueOutside}
-use Rattle.messagepack.specs.Document.{Document, Documents, Entries, none, item, count}
+use Rattle.messagepack.specs.Document.{Document, Documents, none, item, count}
 use Rattle.values.specs.Parts.{itemsOf, entriesOf}
-use Rattle.fields.specs.Types.{bytesIn, look}
+use Rattle.fields.specs.Types.{look}
+use Rattle.utf8.specs.Ascii.{ascii}
 use Rattle.survey.specs.Cells.{allBetween, allBelow}
 use Rattle.lists.specs.Integers.{integersOf}
 
 -- the value under a key of a map, by its name
 abbrev pub under : Text.String → Document → Option Document
-under name x = look (bytesIn name) (entriesOf x)
+under name x = look (ascii name) (entriesOf x)
 
 -- the values of an array, if there is one
 abbrev pub itemsIn : Option Document → Documents

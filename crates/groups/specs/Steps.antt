@@ -9,30 +9,42 @@ use lib.IntN.{ℤ, pos, negsuc}
 use Rattle.refusal.specs.Table.{accepted, tooManyGroupTypes}
 use Rattle.messagepack.specs.Document.{Document, Documents, Entries, none, item, count}
 use Rattle.messagepack.specs.Equal.{equal}
-use Rattle.fields.specs.Types.{bytesIn, look}
+use Rattle.fields.specs.Types.{look}
+use Rattle.utf8.specs.Ascii.{ascii}
 use Rattle.fields.specs.Noted.{PlaceSays}
+use Rattle.survey.specs.Cells.{typeLimit}
 use Rattle.groups.specs.Group.{under, itemsIn, atomsOf, bondsOf, groupNumber, groupsNumber}
 use Rattle.groups.specs.declared.Places.{Places}
+use Rattle.groups.specs.declared.Found.{Found}
 use Rattle.groups.specs.declared.Group.{Group}
 use Rattle.groups.specs.declared.List as l
 
 -- the places of a group type's lists among its entries
 pub record PlacesIn (s : List ℕ) (es : Entries) (r : Places) : Type 0 where
-  pub charges : PlaceSays s (r .charges) (look (bytesIn "formalChargeList") es)
-  pub names : PlaceSays s (r .names) (look (bytesIn "atomNameList") es)
-  pub elements : PlaceSays s (r .elements) (look (bytesIn "elementList") es)
-  pub bonds : PlaceSays s (r .bonds) (look (bytesIn "bondAtomList") es)
-  pub orders : PlaceSays s (r .orders) (look (bytesIn "bondOrderList") es)
+  pub charges : PlaceSays s (r .charges) (look (ascii "formalChargeList") es)
+  pub names : PlaceSays s (r .names) (look (ascii "atomNameList") es)
+  pub elements : PlaceSays s (r .elements) (look (ascii "elementList") es)
+  pub bonds : PlaceSays s (r .bonds) (look (ascii "bondAtomList") es)
+  pub orders : PlaceSays s (r .orders) (look (ascii "bondOrderList") es)
+
+-- the places of a group type's lists, and its end
+pub record FoundIn (s : List ℕ) (es : Entries) (e : ℕ) (r : Found) : Type 0 where
+  pub lists : PlacesIn s es (r .places)
+  pub ends : r .end ≡ e
+
+-- no lists
+abbrev pub noLists : Places
+noLists = record { charges = 0; names = 0; elements = 0; bonds = 0; orders = 0 }
 
 -- the places with a value under a key more
 abbrev pub noted : List ℕ → ℕ → Places → Places
 noted key value r =
     record {
-      charges = cond (equal key (bytesIn "formalChargeList")) value (r .charges);
-      names = cond (equal key (bytesIn "atomNameList")) value (r .names);
-      elements = cond (equal key (bytesIn "elementList")) value (r .elements);
-      bonds = cond (equal key (bytesIn "bondAtomList")) value (r .bonds);
-      orders = cond (equal key (bytesIn "bondOrderList")) value (r .orders);
+      charges = cond (equal key (ascii "formalChargeList")) value (r .charges);
+      names = cond (equal key (ascii "atomNameList")) value (r .names);
+      elements = cond (equal key (ascii "elementList")) value (r .elements);
+      bonds = cond (equal key (ascii "bondAtomList")) value (r .bonds);
+      orders = cond (equal key (ascii "bondOrderList")) value (r .orders);
     }
 
 -- how many values an array has that is there
@@ -59,10 +71,11 @@ pub record Counted (x : Document) (atoms charges elements : ℕ) (bonds orders :
   pub orders-are : orders ≡ listOf (under "bondOrderList" x)
 
 -- the answer for a group type
-pub record GroupSays (x : Document) (r : Group) : Type 0 where
+pub record GroupSays (x : Document) (e : ℕ) (r : Group) : Type 0 where
   pub number : r .refusal ≡ groupNumber x
   pub atoms : r .refusal ≡ accepted → r .atoms ≡ atomsOf x
   pub bonds : r .refusal ≡ accepted → r .bonds ≡ bondsOf x
+  pub ends : r .end ≡ e
 
 -- a table after group types: it begins with a number of each type that rule 5 passes, up to the first that it refuses; beyond it is as before
 unfoldable pub tableOf : (Document → ℕ) → Documents → List ℕ → List ℕ
@@ -72,7 +85,7 @@ tableOf f (item x types) (o ∷ old) = cond (eqb (groupNumber x) accepted) (f x 
 
 -- the answer for group types: rule 5's number, and what the tables of atoms and bonds hold; 23 for too many types, with the tables as before
 pub record Tables (types : Documents) (old-atoms old-bonds atoms bonds : List ℕ) (r : ℕ) : Type 0 where
-  pub number : count types ≤ 4096 → r ≡ groupsNumber types
-  pub atoms-are : count types ≤ 4096 → atoms ≡ tableOf atomsOf types old-atoms
-  pub bonds-are : count types ≤ 4096 → bonds ≡ tableOf bondsOf types old-bonds
-  pub many : 4096 < count types → (r ≡ tooManyGroupTypes) × (atoms ≡ old-atoms) × (bonds ≡ old-bonds)
+  pub number : count types ≤ typeLimit → r ≡ groupsNumber types
+  pub atoms-are : count types ≤ typeLimit → atoms ≡ tableOf atomsOf types old-atoms
+  pub bonds-are : count types ≤ typeLimit → bonds ≡ tableOf bondsOf types old-bonds
+  pub many : typeLimit < count types → (r ≡ tooManyGroupTypes) × (atoms ≡ old-atoms) × (bonds ≡ old-bonds)

@@ -6,16 +6,18 @@ ghost use mathlib.Core.List.{List};
 ghost use mathlib.Core.Option.{Option};
 ghost use Prim.Native.Nat.{ℕ, _+_, _-_, _*_, _/_, _%_, _≤_, _<_};
 ghost use lib.ListN.{length};
-ghost use lib.IntN.{ℤ};
 ghost use Rattle.heads.specs.Table.{leadTable};
 ghost use Rattle.messagepack.specs.Limits.{fileLimit};
 ghost use Rattle.messagepack.specs.Document.{Document, Documents, Entries, count, size};
 ghost use Rattle.values.specs.Parts.{itemsOf, entriesOf};
 ghost use Rattle.values.specs.Places.{At, AtAll, AtEntries};
-ghost use Rattle.survey.specs.Cells.{allBelow};
+ghost use Rattle.survey.specs.Cells.{typeLimit, allBelow};
 ghost use Rattle.fields.specs.Noted.{PlaceSays};
-ghost use Rattle.groups.specs.Group.{itemsIn, integersIn, listIn, ordersRight, groupNumber, groupsNumber};
-ghost use Rattle.groups.specs.Steps.{PlacesIn, noted, agrees, listOf, lastIndex, Counted, GroupSays, Tables};
+ghost use Rattle.groups.specs.Group.{integersIn, listIn, ordersRight, groupNumber};
+ghost use Rattle.groups.specs.Steps.{PlacesIn, noted, agrees, listOf, lastIndex, Counted, GroupSays, Tables, FoundIn, noLists};
+ghost use Rattle.values.specs.Standing.{Standing};
+use heads::Head;
+use heads::Kind;
 
 // Where the lists of a group type stand; 0 for one that is not there.
 pub struct Places {
@@ -26,11 +28,18 @@ pub struct Places {
     pub orders: usize,
 }
 
-// The refusal of a group type by rule 5, or 0 with its atoms and bonds.
+// Where the lists of a group type stand, and where it ends.
+pub struct Found {
+    pub places: Places,
+    pub end: usize,
+}
+
+// The refusal of a group type by rule 5, or 0 with its atoms and bonds; and where it ends.
 pub struct Group {
     pub refusal: u8,
     pub atoms: u32,
     pub bonds: u32,
+    pub end: usize,
 }
 
 // How many values the array at a place has, and whether there is one.
@@ -44,13 +53,13 @@ pub fn groups(
     leads: &[u8; 256],
     file: &[u8],
     at: usize,
-    atoms: &mut [u32; 4096],
-    bonds: &mut [u32; 4096],
+    atoms: &mut [u32; survey::TYPE_LIMIT],
+    bonds: &mut [u32; survey::TYPE_LIMIT],
 ) -> u8
-    ensures { λ r. ⌜ (now (leads .entry) ≡ leadTable → length (now (file .entry)) ≤ fileLimit → length (now (atoms .entry)) ≡ 4096 → length (now (bonds .entry)) ≡ 4096 → (x : Document) (e : ℕ) → At (now (file .entry)) at x e → Tables (itemsOf x) (now (atoms .entry)) (now (bonds .entry)) (now (atoms .exit)) (now (bonds .exit)) r) ⌝ }
+    ensures { λ r. ⌜ (now (leads .entry) ≡ leadTable → length (now (file .entry)) ≤ fileLimit → length (now (atoms .entry)) ≡ typeLimit → length (now (bonds .entry)) ≡ typeLimit → (x : Document) (e : ℕ) → At (now (file .entry)) at x e → Tables (itemsOf x) (now (atoms .entry)) (now (bonds .entry)) (now (atoms .exit)) (now (bonds .exit)) r) ⌝ }
 {
     let part = values::items_at(leads, file, at);
-    if 4096 < part.count {
+    if survey::TYPE_LIMIT < part.count {
         return refusal::TOO_MANY_GROUP_TYPES;
     }
     groups_from(leads, file, part.count, part.at, atoms, bonds)
@@ -62,11 +71,11 @@ fn groups_from(
     file: &[u8],
     n: usize,
     at: usize,
-    atoms: &mut [u32; 4096],
-    bonds: &mut [u32; 4096],
+    atoms: &mut [u32; survey::TYPE_LIMIT],
+    bonds: &mut [u32; survey::TYPE_LIMIT],
 ) -> u8
-    requires { ⌜ n ≤ 4096 ⌝ }
-    ensures { λ r. ⌜ (now (leads .entry) ≡ leadTable → length (now (file .entry)) ≤ fileLimit → length (now (atoms .entry)) ≡ 4096 → length (now (bonds .entry)) ≡ 4096 → (ds : Documents) (e : ℕ) → AtAll (now (file .entry)) at ds e → count ds ≡ n → Tables ds (now (atoms .entry)) (now (bonds .entry)) (now (atoms .exit)) (now (bonds .exit)) r) ⌝ }
+    requires { ⌜ n ≤ typeLimit ⌝ }
+    ensures { λ r. ⌜ (now (leads .entry) ≡ leadTable → length (now (file .entry)) ≤ fileLimit → length (now (atoms .entry)) ≡ typeLimit → length (now (bonds .entry)) ≡ typeLimit → (ds : Documents) (e : ℕ) → AtAll (now (file .entry)) at ds e → count ds ≡ n → Tables ds (now (atoms .entry)) (now (bonds .entry)) (now (atoms .exit)) (now (bonds .exit)) r) ⌝ }
 {
     let mut i: usize = 0;
     let mut p = at;
@@ -77,7 +86,7 @@ fn groups_from(
         }
         atoms[i] = group.atoms;
         bonds[i] = group.bonds;
-        p = values::skip(leads, file, p);
+        p = group.end;
         i += 1;
     }
     refusal::ACCEPTED
@@ -85,9 +94,10 @@ fn groups_from(
 
 // The group type at a place.
 fn group_at(leads: &[u8; 256], file: &[u8], at: usize) -> Group
-    ensures { λ r. ⌜ (now (leads .entry) ≡ leadTable → length (now (file .entry)) ≤ fileLimit → (x : Document) (e : ℕ) → At (now (file .entry)) at x e → GroupSays x r) ⌝ }
+    ensures { λ r. ⌜ (now (leads .entry) ≡ leadTable → length (now (file .entry)) ≤ fileLimit → (x : Document) (e : ℕ) → At (now (file .entry)) at x e → GroupSays x e r) ⌝ }
 {
-    let places = places_at(leads, file, at);
+    let found = places_at(leads, file, at);
+    let places = found.places;
     let atoms = list_at(leads, file, places.names).count;
     let charges = list_at(leads, file, places.charges).count;
     let elements = list_at(leads, file, places.elements).count;
@@ -98,6 +108,7 @@ fn group_at(leads: &[u8; 256], file: &[u8], at: usize) -> Group
         refusal: refusal,
         atoms: (atoms % 4294967296) as u32,
         bonds: (bonds.count / 2 % 4294967296) as u32,
+        end: found.end,
     }
 }
 
@@ -204,17 +215,47 @@ pub fn list_at(leads: &[u8; 256], file: &[u8], at: usize) -> List
     }
 }
 
-// Where the lists of the group type at a place stand.
-fn places_at(leads: &[u8; 256], file: &[u8], at: usize) -> Places
-    ensures { λ r. ⌜ (now (leads .entry) ≡ leadTable → (x : Document) (e : ℕ) → At (now (file .entry)) at x e → PlacesIn (now (file .entry)) (entriesOf x) r) ⌝ }
+// Where the lists of the group type at a place stand, and where it ends; a value that is no map has none.
+fn places_at(leads: &[u8; 256], file: &[u8], at: usize) -> Found
+    ensures { λ r. ⌜ (now (leads .entry) ≡ leadTable → (x : Document) (e : ℕ) → At (now (file .entry)) at x e → FoundIn (now (file .entry)) (entriesOf x) e r) ⌝ }
 {
-    let part = values::entries_at(leads, file, at);
-    places_from(leads, file, part.count, part.at)
+    let Head::At(n, p) = heads::head_at(leads, file, at) else {
+        return no_lists(leads, file, at);
+    };
+    match heads::kind_at(leads, file, at) {
+        Kind::Map => places_from(leads, file, n, p),
+        Kind::Unsigned => no_lists(leads, file, at),
+        Kind::Signed => no_lists(leads, file, at),
+        Kind::Float => no_lists(leads, file, at),
+        Kind::Str => no_lists(leads, file, at),
+        Kind::Bin => no_lists(leads, file, at),
+        Kind::Array => no_lists(leads, file, at),
+        Kind::Outside => no_lists(leads, file, at),
+        Kind::Missing => no_lists(leads, file, at),
+    }
 }
 
-// Where the lists of a group type with n entries from a place on stand.
-fn places_from(leads: &[u8; 256], file: &[u8], n: usize, at: usize) -> Places
-    ensures { λ r. ⌜ (now (leads .entry) ≡ leadTable → (es : Entries) (e : ℕ) → AtEntries (now (file .entry)) at es e → size es ≡ n → PlacesIn (now (file .entry)) es r) ⌝ }
+// The same of a value that is no map.
+fn no_lists(leads: &[u8; 256], file: &[u8], at: usize) -> Found
+    ensures { λ r. ⌜ (r .places ≡ noLists) × (now (leads .entry) ≡ leadTable → (e : ℕ) → Standing (now (file .entry)) 1 at e → r .end ≡ e) ⌝ }
+{
+    let end = values::skip(leads, file, at);
+    let places = Places {
+        charges: 0,
+        names: 0,
+        elements: 0,
+        bonds: 0,
+        orders: 0,
+    };
+    Found {
+        places: places,
+        end: end,
+    }
+}
+
+// Where the lists of a group type with n entries from a place on stand, and where these end.
+fn places_from(leads: &[u8; 256], file: &[u8], n: usize, at: usize) -> Found
+    ensures { λ r. ⌜ (now (leads .entry) ≡ leadTable → (es : Entries) (e : ℕ) → AtEntries (now (file .entry)) at es e → size es ≡ n → FoundIn (now (file .entry)) es e r) ⌝ }
 {
     let mut places = Places {
         charges: 0,
@@ -233,7 +274,10 @@ fn places_from(leads: &[u8; 256], file: &[u8], n: usize, at: usize) -> Places
         p = values::skip(leads, file, value);
         left -= 1;
     }
-    places
+    Found {
+        places: places,
+        end: p,
+    }
 }
 
 // The places with a value under a key more.

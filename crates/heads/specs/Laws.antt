@@ -1,3 +1,4 @@
+-- What is proved of the definitions of `heads`.
 pub mod Span
 pub mod Table
 pub mod Head

@@ -2,7 +2,7 @@
 -- The contracts of this crate and the writings of documents cite it. No lemma stands here. Assumes nothing.
 use mathlib.Core.Bool.{Bool, cond, _&&_}
 use mathlib.Core.List.{List, [], _∷_}
-use Prim.Native.Nat.{ℕ, _+_, _-_}
+use Prim.Native.Nat.{ℕ, _-_}
 use lib.Dec.{leb}
 use Rattle.heads.specs.declared.Kind.{Kind}
 

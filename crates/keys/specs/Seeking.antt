@@ -3,9 +3,8 @@
 use mathlib.Core.Path.{_≡_}
 use mathlib.Core.List.{List}
 use Prim.Native.Nat.{ℕ, _<_}
-use Rattle.messagepack.specs.Document.{Document, Entries}
+use Rattle.messagepack.specs.Document.{Entries}
 use Rattle.messagepack.specs.Rules.{NoKey}
-use Rattle.values.specs.Places.{At, AtEntries}
 use Rattle.fields.specs.Types.{look}
 use Rattle.fields.specs.Noted.{PlaceSays}
 

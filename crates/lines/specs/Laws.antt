@@ -1,2 +1,3 @@
+-- What is proved of the definitions of `lines`.
 pub mod Texts
 pub mod Lines

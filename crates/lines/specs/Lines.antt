@@ -1,7 +1,7 @@
 -- Lines of text in a buffer, for values of any kind: as many as have room. No lemma stands here: the laws are in Laws/Lines.antt.
 -- Assumes nothing.
 use mathlib.Core.Path.{_≡_}
-use mathlib.Core.Bool.{Bool, cond}
+use mathlib.Core.Bool.{cond}
 use mathlib.Core.List.{List, [], _∷_, _++_}
 use Prim.Native.Nat.{ℕ, zero, suc, _-_, _/_, _≤_}
 use lib.Dec.{leb}

@@ -1,11 +1,11 @@
 -- The values of columns as text: numbers over a divisor, floats by their bits, names. No lemma stands here: the laws are in Laws/Texts.antt.
 -- Assumes nothing.
-use mathlib.Core.Bool.{Bool, cond}
+use mathlib.Core.Bool.{cond}
 use mathlib.Core.List.{List, [], _∷_, _++_}
 use Prim.Native.Nat.{ℕ, zero, suc, _+_, _-_, _*_, _/_, _%_, _^_}
 use lib.Dec.{eqb, ltb}
 use lib.IntN.{ℤ, pos, negsuc}
-use Rattle.text.specs.Put.{ascii}
+use Rattle.utf8.specs.Ascii.{ascii}
 use Rattle.text.specs.Decimal.{glyph, decimal}
 use Rattle.lines.specs.declared.Places.{Places}
 use Rattle.lines.specs.declared.Places.the-variants.{Exactly, Endless}

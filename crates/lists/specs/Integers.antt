@@ -5,7 +5,7 @@ use mathlib.Core.List.{List, [], _∷_}
 use Prim.Native.Nat.{ℕ, _+_}
 use lib.IntN.{ℤ, pos, natAbs}
 use lib.Signed.{leZ}
-use Rattle.messagepack.specs.Document.{Document, Documents, none, item}
+use Rattle.messagepack.specs.Document.{Documents, none, item}
 use Rattle.values.specs.Parts.{integerOf}
 use Rattle.survey.specs.Cells.{allPass}
 use Rattle.lists.specs.declared.Sum.{Sum}

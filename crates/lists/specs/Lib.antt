@@ -1,2 +1,3 @@
+-- Arrays of integers.
 pub mod Integers
 pub mod Laws

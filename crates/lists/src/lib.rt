@@ -1,14 +1,16 @@
 // Arrays of integers at places of a file: their sum, and whether they lie between two numbers. Each function takes any bytes and any place, and
 // says what it answers for whatever document stands there; a document that is no array has no integers.
 ghost use mathlib.Core.Path.{_≡_};
-ghost use Prim.Native.Nat.{ℕ, _≤_};
-ghost use lib.ListN.{length};
+ghost use mathlib.Core.Bool.{true};
+ghost use Prim.Native.Nat.{ℕ, _+_, _≤_, _<_};
+ghost use lib.IntN.{pos};
+ghost use lib.ListN.{length, getD};
 ghost use Rattle.heads.specs.Table.{leadTable};
 ghost use Rattle.messagepack.specs.Limits.{fileLimit};
 ghost use Rattle.messagepack.specs.Document.{Document, Documents, count};
 ghost use Rattle.values.specs.Parts.{itemsOf};
 ghost use Rattle.values.specs.Places.{At, AtAll};
-ghost use Rattle.survey.specs.Cells.{allBetween};
+ghost use Rattle.survey.specs.Cells.{between, allBetween};
 ghost use Rattle.lists.specs.Integers.{integersOf, summed};
 
 // The sum of integers, or that one of them is negative.
@@ -59,7 +61,36 @@ pub fn all_between(leads: &[u8; 256], file: &[u8], at: usize, low: i32, high: i3
     ensures { λ r. ⌜ (now (leads .entry) ≡ leadTable → (x : Document) (e : ℕ) → At (now (file .entry)) at x e → r ≡ allBetween low high (integersOf (itemsOf x))) ⌝ }
 {
     let part = values::items_at(leads, file, at);
-    between_from(leads, file, part.count, part.at, low, high)
+    let n = part.count;
+    let p = part.at;
+    if values::all_low(file, p, n) {
+        if low_between(file, p, n, low, high) {
+            return true;
+        }
+    }
+    between_from(leads, file, n, p, low, high)
+}
+
+// Whether n integers in their lead bytes lie between two numbers, by their bytes.
+fn low_between(file: &[u8], at: usize, n: usize, low: i32, high: i32) -> bool
+    requires { ⌜ at + n ≤ length (now file) ⌝ }
+    ensures { λ r. ⌜ (r ≡ true → (i : ℕ) → i < n → between low high (pos (getD (now (file .entry)) (at + i) 0)) ≡ true) ⌝ }
+{
+    let mut i: usize = 0;
+    while i < n {
+        if !survey::is_between(as_integer(file[at + i]), low, high) {
+            return false;
+        }
+        i += 1;
+    }
+    true
+}
+
+// A byte as an integer.
+fn as_integer(byte: u8) -> i32
+    ensures { λ r. ⌜ r ≡ pos byte ⌝ }
+{
+    byte as i32
 }
 
 // Whether n integers from a place on lie between two numbers.

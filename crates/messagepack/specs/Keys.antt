@@ -18,13 +18,13 @@ use Rattle.messagepack.specs.declared.Text.{Text}
 abbrev pub tableLength : ℕ
 tableLength = 3072
 
--- the number of a key's last four bytes; of its last two where it has fewer, and 0 where it has fewer than that
-abbrev pub lastOf : List ℕ → ℕ
-lastOf k = cond (leb 4 (length k)) (unsignedAt 4 k (length k - 4)) (unsignedAt 2 k (length k - 2))
+-- the number of a key's first four bytes and its last four; of its last two where it has fewer, and 0 where it has fewer than that
+abbrev pub endsOf : List ℕ → ℕ
+endsOf k = cond (leb 4 (length k)) ((unsignedAt 4 k 0 + unsignedAt 4 k (length k - 4)) % 4294967296) (unsignedAt 2 k (length k - 2))
 
--- a key's print: a number of its length and its last bytes, which equal keys share
+-- a key's print: a number of its length and its first and last bytes, which equal keys share
 unfoldable pub printOf : List ℕ → ℕ
-printOf k = (length k % 65536 * 65536 + lastOf k) % 4294967296
+printOf k = (length k % 65536 * 65536 + endsOf k) % 4294967296
 
 -- the bytes of a key
 abbrev pub keyBytes : List ℕ → Text → List ℕ

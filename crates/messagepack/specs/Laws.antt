@@ -1,3 +1,4 @@
+-- What is proved of the definitions of `messagepack`.
 pub mod Walk
 pub mod Keys
 pub mod Sound

@@ -1,6 +1,6 @@
 -- The document that bytes are a writing of, read back with no rule tested: what is asked of a file after its container is defined on it.
 -- That it is the document is `documentOf-is` of Laws/Unique.antt. No file's acceptance is defined by it, and no lemma stands here. Assumes nothing.
-use mathlib.Core.List.{List, [], _∷_}
+use mathlib.Core.List.{List}
 use Prim.Native.Nat.{ℕ, zero, suc}
 use lib.IntN.{pos}
 use lib.ListN.{getD, take, drop}

@@ -1,9 +1,9 @@
 -- Refusals 1 to 11 in the order of paper 01: a walk from the first byte, the first fault met counting.
 -- No lemma stands here; that it gives 0 exactly for a `Container` is `container-exactly` of Laws/Container.antt. Assumes nothing.
-use mathlib.Core.Bool.{Bool, true, false, cond, _||_}
+use mathlib.Core.Bool.{Bool, false, cond, _||_}
 use mathlib.Core.List.{List, [], _∷_}
-use Prim.Native.Nat.{ℕ, zero, suc, _+_, _-_}
-use lib.Dec.{ltb, leb, eqb}
+use Prim.Native.Nat.{ℕ, zero, suc, _+_}
+use lib.Dec.{leb, eqb}
 use lib.ListN.{length, take, drop}
 use Rattle.refusal.specs.Table.{accepted, fileOverLimit, cutShort, leadByteUnknown, unsignedTooLarge, stringNotUtf8, nestedTooDeep, tooManyEntries, keyNotString, keyRepeated, outerNotMap, bytesAfter}
 use Rattle.utf8.specs.Check.{isUtf8}

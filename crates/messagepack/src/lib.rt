@@ -7,7 +7,7 @@ ghost use mathlib.Core.Bool.{true, false};
 ghost use Prim.Native.Nat.{ℕ, _+_, _≤_, _<_};
 ghost use lib.ListN.{length, getD, take, drop};
 ghost use Rattle.heads.specs.Table.{leadTable};
-ghost use Rattle.messagepack.specs.Limits.{fileLimit, nestingLimit, entryLimit};
+ghost use Rattle.messagepack.specs.Limits.{fileLimit, nestingLimit};
 ghost use Rattle.messagepack.specs.Rules.{Container};
 ghost use Rattle.messagepack.specs.Equal.{equal};
 ghost use Rattle.messagepack.specs.Walk.{bodyAt, textAt, keyAt, integerAt, plainAt, binaryAt, stringAt, among, manyAt, entriesAt, valueAt, ended, containerNumber};
@@ -566,7 +566,7 @@ fn same_key(leads: &[u8; 256], file: &[u8], at: usize, other: usize) -> bool
     same_bytes(&file[a..a + m], &file[b..b + n])
 }
 
-// The print of the m bytes from a: a number of how many they are and of the last of them.
+// The print of the m bytes from a: a number of how many they are and of the first and the last of them.
 fn print_of(file: &[u8], a: usize, m: usize) -> u32
     requires { ⌜ a + m ≤ length (now file) ⌝ }
     ensures { λ r. ⌜ r ≡ printOf (take m (drop a (now (file .entry)))) ⌝ }
@@ -579,7 +579,9 @@ fn print_of(file: &[u8], a: usize, m: usize) -> u32
         let last = numbers::read_u16(file, a + m - 2) as u32;
         return std::num::wrapping_add_u32(size, last);
     }
-    std::num::wrapping_add_u32(size, numbers::read_u32(file, a + m - 4))
+    let first = numbers::read_u32(file, a);
+    let last = numbers::read_u32(file, a + m - 4);
+    std::num::wrapping_add_u32(size, std::num::wrapping_add_u32(first, last))
 }
 
 fn wide_byte(x: u8) -> usize

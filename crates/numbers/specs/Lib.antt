@@ -1,2 +1,3 @@
+-- Big-endian numbers in bytes.
 pub mod BigEndian
 pub mod Laws

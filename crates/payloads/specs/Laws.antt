@@ -1,3 +1,4 @@
+-- What is proved of the definitions of `payloads`.
 pub mod Held
 pub mod Items
 pub mod Scan
@@ -8,3 +9,5 @@ pub mod Packed
 pub mod Totals
 pub mod Runs
 pub mod Refusal
+pub mod Limits
+pub mod Parts

@@ -2,7 +2,7 @@
 // are exact in single precision, and one result of it. A run of any length costs one turn, so that time is linear in the bytes.
 ghost use mathlib.Core.Path.{_≡_};
 ghost use mathlib.Core.Bool.{true, false, cond, not, _&&_, _||_};
-ghost use Prim.Native.Nat.{_-_, _≤_, _<_};
+ghost use Prim.Native.Nat.{_+_, _-_, _*_, _≤_, _<_};
 ghost use lib.ListN.{length};
 ghost use lib.IntN.{pos};
 ghost use lib.Dec.{eqb, leb};
@@ -10,6 +10,7 @@ ghost use Rattle.refusal.specs.Table.{lengthDiffers};
 ghost use Rattle.payloads.specs.Held.{heldIn, exact};
 ghost use Rattle.payloads.specs.Scan.{scanOf, judgesExact, refusalOf};
 ghost use Rattle.payloads.specs.Results.{advance};
+ghost use Rattle.payloads.specs.Limits.{limitAt, limitsIn, endsAtLimit};
 ghost use Rattle.payloads.specs.Items.{readIn, Gives, told, plusTimes, afterRun, cellAfter, passRun, finished};
 use codecs::Form;
 use codecs::Range;
@@ -95,6 +96,26 @@ pub fn next_result(sum: i32, value: i32, delta: bool) -> i32
         return codecs::add_delta(sum, value);
     }
     value
+}
+
+// The result after `count` values, where `sum` was the one before.
+pub fn after_run(sum: i32, value: i32, count: usize, delta: bool) -> i32
+    ensures { λ r. ⌜ r ≡ afterRun delta sum value count ⌝ }
+{
+    if delta {
+        return add_times(sum, value, count);
+    }
+    value
+}
+
+// sum + count * value, modulo 2^32 into the signed range.
+fn add_times(sum: i32, value: i32, count: usize) -> i32
+    ensures { λ r. ⌜ r ≡ plusTimes sum value count ⌝ }
+{
+    let a = numbers::to_u32(sum) as u64;
+    let d = numbers::to_u32(value) as u64;
+    let k = (count % 4294967296) as u64;
+    numbers::to_i32(((a + k * d) % 4294967296) as u32)
 }
 
 // The item at a place of a payload.
@@ -268,26 +289,80 @@ fn refusal_in(outcome: Outcome) -> u8
 fn count_two(payload: &[u8], length: usize) -> u8
     ensures { λ r. ⌜ r ≡ refusalOf length (readIn (Form.Packed Size.Two) (now (payload .entry))) ⌝ }
 {
-    let mut i: usize = 0;
-    let mut limits: usize = 0;
-    let mut last = false;
-    while 2 <= payload.len() - i {
-        last = codecs::is_limit(codecs::number_at(payload, i, Size::Two), Size::Two);
-        i += 2;
-        if last {
-            limits += 1;
-        }
-    }
+    let count = payload.len() / 2;
+    let limits = count_limits(payload, count);
     if 65534 < limits {
         return refusal_in(scan_packed(payload, Size::Two, false, length, length));
     }
-    if last {
+    if ends_at_limit(payload, count) {
         return refusal::NUMBER_NOT_ALLOWED;
     }
-    if i / 2 - limits != length {
+    if count - limits != length {
         return refusal::LENGTH_DIFFERS;
     }
     refusal::ACCEPTED
+}
+
+// Whether the last of `count` numbers of two bytes is a limit.
+fn ends_at_limit(payload: &[u8], count: usize) -> bool
+    requires { ⌜ 2 * count ≤ length (now payload) ⌝ }
+    ensures { λ r. ⌜ r ≡ endsAtLimit (now (payload .entry)) count ⌝ }
+{
+    if count == 0 {
+        return false;
+    }
+    codecs::is_limit(
+        codecs::number_at(payload, 2 * (count - 1), Size::Two),
+        Size::Two,
+    )
+}
+
+// How many of `count` numbers of two bytes are limits: in blocks, and in the rest.
+fn count_limits(payload: &[u8], count: usize) -> usize
+    requires { ⌜ 2 * count ≤ length (now payload) ⌝ }
+    ensures { λ r. ⌜ r ≡ limitsIn (now (payload .entry)) 0 count ⌝ }
+{
+    let mut i: usize = 0;
+    let mut limits: usize = 0;
+    while 256 <= count - i {
+        limits += limits_in(payload, 2 * i, 256) as usize;
+        i += 256;
+    }
+    limits + limits_in(payload, 2 * i, count - i) as usize
+}
+
+// How many of so few numbers of two bytes are limits. The processor counts eight at a time, in 16 bits each.
+fn limits_in(payload: &[u8], at: usize, count: usize) -> u16
+    requires { ⌜ (at + 2 * count ≤ length (now payload)) × (count ≤ 256) ⌝ }
+    ensures { λ r. ⌜ r ≡ limitsIn (now (payload .entry)) at count ⌝ }
+{
+    let mut k: usize = 0;
+    let mut limits: u16 = 0;
+    while k < count {
+        limits += limit_at(payload, at + 2 * k);
+        k += 1;
+    }
+    limits
+}
+
+// 1 where a number of two bytes is a limit, else 0. Its bytes are taken as the processor loads them, the lower first; the sum is there
+// because only bits with a single use are loaded at once.
+fn limit_at(payload: &[u8], at: usize) -> u16
+    requires { ⌜ at + 2 ≤ length (now payload) ⌝ }
+    ensures { λ r. ⌜ r ≡ limitAt (now (payload .entry)) at ⌝ }
+{
+    let bits = wide(payload[at + 1]) * 256 + wide(payload[at]);
+    let moved = std::num::wrapping_add_u16(bits, 129);
+    if moved == 0 {
+        return 1;
+    }
+    if moved == 257 { 1 } else { 0 }
+}
+
+fn wide(byte: u8) -> u16
+    ensures { λ r. ⌜ (r ≡ byte) × (r < 256) ⌝ }
+{
+    byte as u16
 }
 
 // The total after a result: with delta it goes on.
@@ -418,26 +493,6 @@ fn cell_after(tally: Tally, value: i32, count: usize, delta: bool) -> i32
         return after_run(tally.sum, value, tally.wait + 1, delta);
     }
     tally.cell
-}
-
-// The result after `count` values, where `sum` was the one before.
-fn after_run(sum: i32, value: i32, count: usize, delta: bool) -> i32
-    ensures { λ r. ⌜ r ≡ afterRun delta sum value count ⌝ }
-{
-    if delta {
-        return add_times(sum, value, count);
-    }
-    value
-}
-
-// sum + count * value, modulo 2^32 into the signed range.
-fn add_times(sum: i32, value: i32, count: usize) -> i32
-    ensures { λ r. ⌜ r ≡ plusTimes sum value count ⌝ }
-{
-    let a = numbers::to_u32(sum) as u64;
-    let d = numbers::to_u32(value) as u64;
-    let k = (count % 4294967296) as u64;
-    numbers::to_i32(((a + k * d) % 4294967296) as u32)
 }
 
 // The forms whose results are judged to be exact.

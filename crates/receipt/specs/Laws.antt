@@ -1,3 +1,4 @@
+-- What is proved of the definitions of `receipt`.
 pub mod Rules
 pub mod Numbers
 pub mod Reading

@@ -1,3 +1,4 @@
+-- Receipts. To read: `Receipt`, `File`, `Demand`. `Steps` is for the code inside.
 pub mod Receipt
 pub mod File
 pub mod Demand

@@ -1,13 +1,13 @@
 -- Receipts (paper 01, "Views and the receipt"): their numbers, the rules that these keep, their bytes, and which bytes are a receipt. No reader
 -- and no lemma stands here: the laws are in Laws/Reading.antt. Assumes nothing.
 use mathlib.Core.Path.{_≡_}
-use mathlib.Core.Bool.{Bool, true, false, cond, _&&_}
+use mathlib.Core.Bool.{Bool, true, cond, _&&_}
 use mathlib.Core.List.{List, [], _∷_, _++_}
 use Prim.Native.Nat.{ℕ}
 use Prim.Native.String as Text
 use lib.Dec.{eqb, leb}
 use Rattle.refusal.specs.Table.{accepted, receiptMalformed}
-use Rattle.text.specs.Put.{ascii}
+use Rattle.utf8.specs.Ascii.{ascii}
 use Rattle.fields.specs.Table.{fieldCount}
 use Rattle.counts.specs.Counts.{countLimit}
 use Rattle.text.specs.Decimal.{decimal}

@@ -1,2 +1,3 @@
+-- The table of refusal numbers.
 pub mod Laws
 pub mod Table

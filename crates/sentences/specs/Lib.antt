@@ -1,1 +1,2 @@
+-- What the program says.
 pub mod Sentences

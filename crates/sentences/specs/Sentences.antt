@@ -4,7 +4,7 @@ use mathlib.Core.List.{List, _++_}
 use Prim.Native.Nat.{ℕ}
 use lib.Dec.{eqb}
 use Rattle.refusal.specs.Table.{accepted}
-use Rattle.text.specs.Put.{ascii}
+use Rattle.utf8.specs.Ascii.{ascii}
 use Rattle.text.specs.Decimal.{decimal}
 use Rattle.meanings.specs.Meanings.{meaningOf}
 use Rattle.sentences.specs.declared.Sentence.{Sentence}

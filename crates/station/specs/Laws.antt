@@ -1,2 +1,3 @@
+-- What is proved of the definitions of `station`.
 pub mod Output
 pub mod Reading

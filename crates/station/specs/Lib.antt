@@ -1,3 +1,4 @@
+-- The words that the program is given.
 pub mod Words
 pub mod Reading
 pub mod Laws

@@ -1,5 +1,4 @@
 // Reading a file by its name.
-ghost use Prim.Native.Nat.{_≤_};
 ghost use lib.ListN.{length};
 ghost use Rattle.station.specs.Reading.{Within};
 use crate::say;

@@ -1,6 +1,5 @@
 // A column's values on standard output, by its own codec.
 ghost use mathlib.Core.Path.{_≡_};
-ghost use Prim.Native.Nat.{_≤_};
 ghost use lib.ListN.{length};
 ghost use Rattle.station.specs.Reading.{wholeOf, FixedWithin, DecodedWithin};
 use crate::output;

@@ -1,11 +1,11 @@
 -- Demand 3: the files that are accepted, stated from documents outwards, and the number of every file. No reader, no cursor and no place stands
--- in `Accepted`, nor in what it names, but for a column's own bytes, which demand 2's definition decodes. No lemma stands here; that the number is 0 exactly for an accepted file is `accepted-exactly` of
--- Laws/Accepted.antt. Assumes nothing.
+-- in `Accepted`, nor in what it names, but for a column's own bytes, which demand 2's definition decodes. No lemma stands here; that the number
+-- is 0 exactly for an accepted file is `accepted-exactly` of Laws/Accepted.antt. Assumes nothing.
 use mathlib.Core.List.{List}
 use Prim.Native.Nat.{ℕ, _≤_}
 use lib.ListN.{length}
 use Rattle.messagepack.specs.Limits.{fileLimit, nestingLimit}
-use Rattle.messagepack.specs.Document.{Document, Entries, map, Writes}
+use Rattle.messagepack.specs.Document.{Entries, map, Writes}
 use Rattle.messagepack.specs.Rules.{depth, Keeps}
 use Rattle.messagepack.specs.Walk.{containerNumber}
 use Rattle.messagepack.specs.Read.{documentOf}

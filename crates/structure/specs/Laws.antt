@@ -1,3 +1,4 @@
+-- What is proved of the definitions of `structure`.
 pub mod Columns
 pub mod Counts
 pub mod Accepted

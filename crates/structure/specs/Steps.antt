@@ -1,7 +1,7 @@
 -- The rules of counts in the parts that the functions inside this crate judge, and what is known of a file's places when they do. No lemma
 -- stands here. Assumes nothing.
 use mathlib.Core.Path.{_≡_}
-use mathlib.Core.Bool.{Bool, true, false, cond, _&&_}
+use mathlib.Core.Bool.{Bool, cond, _&&_}
 use mathlib.Core.List.{List, [], _∷_}
 use Prim.Native.Nat.{ℕ, suc, _+_, _/_, _≤_}
 use lib.Dec.{eqb, leb}

@@ -12,7 +12,9 @@ ghost use Rattle.messagepack.specs.Document.{Document, Entries};
 ghost use Rattle.values.specs.Parts.{integerOf};
 ghost use Rattle.values.specs.Places.{At};
 ghost use Rattle.fields.specs.Noted.{Noted};
-ghost use Rattle.counts.specs.Counts.{typeLimit, countLimit, countsNumber};
+ghost use Rattle.survey.specs.Cells.{typeLimit};
+ghost use Rattle.counts.specs.Counts.{countLimit, countsNumber, outerInside, outerRight, valuesRight, indicesInside};
+ghost use Rattle.counts.specs.Counts.{unless as unlessHeld};
 ghost use Rattle.structure.specs.Accepted.{Accepted, entriesNumber, verdictOf};
 ghost use Rattle.structure.specs.Summary.{refused, said, summaryOf};
 ghost use Rattle.structure.specs.Steps.{Facts, countOf, CountsIn, CountsAre, Small, counted, countsFit, chainsFit, typeCount, chainsNumber, totalsNumber, groupsPart, valuesPart};
@@ -25,9 +27,6 @@ use survey::Sums;
 
 // The most models, chains, groups, atoms or bonds.
 pub const COUNT_LIMIT: usize = 16_777_216;
-
-// The most group types.
-pub const TYPE_LIMIT: usize = 4_096;
 
 // The numbers of the fields that the rules of counts look at.
 const NUM_BONDS: usize = 2;
@@ -168,7 +167,7 @@ fn counts_refusal(leads: &[u8; 256], file: &[u8], places: &[usize; 39]) -> u8
     ensures { λ r. ⌜ (now (leads .entry) ≡ leadTable → length (now (file .entry)) ≤ fileLimit → (es : Entries) → Facts (now (file .entry)) es (now (places .entry)) → r ≡ countsNumber es) ⌝ }
 {
     let types = groups::list_at(leads, file, places[GROUP_LIST]).count;
-    if TYPE_LIMIT < types {
+    if survey::TYPE_LIMIT < types {
         return refusal::TOO_MANY_GROUP_TYPES;
     }
     let counts = counts_at(leads, file, places);
@@ -208,10 +207,20 @@ fn chains_refusal(leads: &[u8; 256], file: &[u8], places: &[usize; 39], counts: 
     };
     let models = groups::list_at(leads, file, places[CHAINS_PER_MODEL]).count;
     let ends = groups::list_at(leads, file, places[GROUPS_PER_CHAIN]).count;
-    if chains_agree(counts, models, chains, ends, groups) {
+    unless(
+        chains_agree(counts, models, chains, ends, groups),
+        refusal::COUNTS_DISAGREE,
+    )
+}
+
+// The number of a rule, unless it holds.
+fn unless(holds: bool, number: u8) -> u8
+    ensures { λ r. ⌜ r ≡ unlessHeld holds number ⌝ }
+{
+    if holds {
         return refusal::ACCEPTED;
     }
-    refusal::COUNTS_DISAGREE
+    number
 }
 
 // Whether models, chains and groups are as many as chainsPerModel and groupsPerChain say: their entries, and the sums of these.
@@ -322,10 +331,10 @@ fn groups_refusal(
 }
 
 // A table of group types with nothing in it.
-fn no_entries() -> [u32; 4096]
-    ensures { λ r. ⌜ length r ≡ 4096 ⌝ }
+fn no_entries() -> [u32; survey::TYPE_LIMIT]
+    ensures { λ r. ⌜ length r ≡ typeLimit ⌝ }
 {
-    [0u32; 4096]
+    [0u32; survey::TYPE_LIMIT]
 }
 
 // Rules 6 to 8 by the sums over all groups, and by the bonds outside.
@@ -367,26 +376,56 @@ fn wide(x: usize) -> u64
 fn values_refusal(leads: &[u8; 256], file: &[u8], places: &[usize; 39], counts: Counts) -> u8
     ensures { λ r. ⌜ (now (leads .entry) ≡ leadTable → (es : Entries) → Facts (now (file .entry)) es (now (places .entry)) → CountsAre es counts → r ≡ valuesPart es) ⌝ }
 {
-    let int32 = Wanted::Only(Kind::Int32);
-    let int8 = Wanted::Only(Kind::Int8);
-    let last = groups::last_index(counts.atoms);
-    if !counts::all_between(leads, file, places[BOND_ATOM_LIST], int32, 0, last) {
+    if !bonds_inside(leads, file, places, counts) {
         return refusal::INDEX_OUTSIDE;
     }
-    if !counts::all_between(leads, file, places[BOND_ORDER_LIST], int8, 1, 4) {
+    if !orders_right(leads, file, places) {
         return refusal::VALUE_OUTSIDE;
     }
-    if !counts::all_between(leads, file, places[SEC_STRUCT_LIST], int8, -1, 7) {
+    if !values_right(leads, file, places) {
         return refusal::VALUE_OUTSIDE;
     }
-    if !counts::all_between(leads, file, places[SEQUENCE_ID_LIST], int32, -1, 2147483647) {
-        return refusal::VALUE_OUTSIDE;
-    }
-    if !indices::all_inside(leads, file, places[ENTITY_LIST], counts.chains) {
-        return refusal::INDEX_OUTSIDE;
-    }
-    if !indices::assemblies_inside(leads, file, places[BIO_ASSEMBLY_LIST], counts.chains) {
+    if !chains_inside(leads, file, places, counts) {
         return refusal::INDEX_OUTSIDE;
     }
     refusal::ACCEPTED
+}
+
+// Rule 9: whether the bonds outside are between atoms that there are.
+fn bonds_inside(leads: &[u8; 256], file: &[u8], places: &[usize; 39], counts: Counts) -> bool
+    ensures { λ r. ⌜ (now (leads .entry) ≡ leadTable → (es : Entries) → Facts (now (file .entry)) es (now (places .entry)) → CountsAre es counts → r ≡ outerInside es) ⌝ }
+{
+    let int32 = Wanted::Only(Kind::Int32);
+    let last = groups::last_index(counts.atoms);
+    counts::all_between(leads, file, places[BOND_ATOM_LIST], int32, 0, last)
+}
+
+// Rule 9: whether their orders are 1 to 4.
+fn orders_right(leads: &[u8; 256], file: &[u8], places: &[usize; 39]) -> bool
+    ensures { λ r. ⌜ (now (leads .entry) ≡ leadTable → (es : Entries) → Facts (now (file .entry)) es (now (places .entry)) → r ≡ outerRight es) ⌝ }
+{
+    let int8 = Wanted::Only(Kind::Int8);
+    counts::all_between(leads, file, places[BOND_ORDER_LIST], int8, 1, 4)
+}
+
+// Rule 10: whether secStructList and sequenceIdList have listed values only.
+fn values_right(leads: &[u8; 256], file: &[u8], places: &[usize; 39]) -> bool
+    ensures { λ r. ⌜ (now (leads .entry) ≡ leadTable → (es : Entries) → Facts (now (file .entry)) es (now (places .entry)) → r ≡ valuesRight es) ⌝ }
+{
+    let int8 = Wanted::Only(Kind::Int8);
+    let int32 = Wanted::Only(Kind::Int32);
+    if !counts::all_between(leads, file, places[SEC_STRUCT_LIST], int8, -1, 7) {
+        return false;
+    }
+    counts::all_between(leads, file, places[SEQUENCE_ID_LIST], int32, -1, 2147483647)
+}
+
+// Rule 11: whether entities and transforms list chains that there are.
+fn chains_inside(leads: &[u8; 256], file: &[u8], places: &[usize; 39], counts: Counts) -> bool
+    ensures { λ r. ⌜ (now (leads .entry) ≡ leadTable → (es : Entries) → Facts (now (file .entry)) es (now (places .entry)) → CountsAre es counts → r ≡ indicesInside es) ⌝ }
+{
+    if !indices::all_inside(leads, file, places[ENTITY_LIST], counts.chains) {
+        return false;
+    }
+    indices::assemblies_inside(leads, file, places[BIO_ASSEMBLY_LIST], counts.chains)
 }

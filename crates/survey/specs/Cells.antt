@@ -13,6 +13,10 @@ use Rattle.columns.specs.declared.Wanted.the-variants.{Any}
 use Rattle.columns.specs.Decode.{column, decode}
 use Rattle.survey.specs.declared.Sums.{Sums}
 
+-- the most group types
+abbrev pub typeLimit : ℕ
+typeLimit = 4096
+
 -- bytes decode to a column of the kind k with the parameter m and the cells xs
 abbrev pub Decodes : List ℕ → Kind → ℕ → List ℤ → Type 0
 Decodes s k m xs = decode Any s ≡ column k m xs

@@ -1,3 +1,4 @@
+-- What is proved of the definitions of `survey`.
 pub mod Field
 pub mod Cells
 pub mod Rest

@@ -10,7 +10,7 @@ ghost use Rattle.columns.specs.Decode.{judgedPayload};
 ghost use Rattle.payloads.specs.Items.{isNames};
 ghost use Rattle.payloads.specs.Results.{resultsFrom, lastFrom};
 ghost use Rattle.survey.specs.Field.{otherSize, otherNames, fieldColumn, isStrings, checkedOf};
-ghost use Rattle.survey.specs.Cells.{Decodes, between, allBetween, TotalsOf};
+ghost use Rattle.survey.specs.Cells.{typeLimit, Decodes, between, allBetween, TotalsOf};
 ghost use Rattle.survey.specs.Steps.{OfResults, Reaches, cellLimit, noCells, sumsIn, Sound, Adds};
 use codecs::Form;
 use codecs::Size;
@@ -20,6 +20,9 @@ use columns::Kind;
 use columns::Parameter;
 use columns::Wanted;
 use payloads::Item;
+
+// The most group types, and so the rows of a table over them.
+pub const TYPE_LIMIT: usize = 4_096;
 
 // The length and the parameter of a column that decodes, or its refusal.
 pub enum Checked {
@@ -84,10 +87,15 @@ pub fn all_between(column: &[u8], low: i32, high: i32) -> bool
 
 // Whether all cells of a column that decodes are indices of the first `types` entries of two tables, and the sums of the tables' entries
 // over the cells.
-pub fn totals(column: &[u8], types: usize, atoms: &[u32; 4096], bonds: &[u32; 4096]) -> Sums
-    ensures { λ r. ⌜ ((k : Kind) (m : ℕ) (xs : List ℤ) → Decodes (now (column .entry)) k m xs → types ≤ 4096 → TotalsOf types (now (atoms .entry)) (now (bonds .entry)) xs r) ⌝ }
+pub fn totals(
+    column: &[u8],
+    types: usize,
+    atoms: &[u32; TYPE_LIMIT],
+    bonds: &[u32; TYPE_LIMIT],
+) -> Sums
+    ensures { λ r. ⌜ ((k : Kind) (m : ℕ) (xs : List ℤ) → Decodes (now (column .entry)) k m xs → types ≤ typeLimit → TotalsOf types (now (atoms .entry)) (now (bonds .entry)) xs r) ⌝ }
 {
-    if 4096 < types {
+    if TYPE_LIMIT < types {
         return no_sums();
     }
     match columns::read_header(column, Wanted::Any) {
@@ -222,10 +230,20 @@ fn run_between(sum: i32, value: i32, count: usize, delta: bool, low: i32, high: 
     ensures { λ r. ⌜ Reaches (between low high) (resultsFrom delta sum (replicate count value)) (lastFrom delta sum (replicate count value)) r ⌝ }
 {
     if delta {
+        if value == 0 {
+            return same_between(sum, low, high);
+        }
         return sums_between(sum, value, count, low, high);
     }
-    if is_between(value, low, high) {
-        return Last::Within(value);
+    same_between(value, low, high)
+}
+
+// The same of a result that stands there over and over.
+fn same_between(result: i32, low: i32, high: i32) -> Last
+    ensures { λ r. ⌜ ((k : ℕ) → 1 ≤ k → Reaches (between low high) (replicate k result) result r) ⌝ }
+{
+    if is_between(result, low, high) {
+        return Last::Within(result);
     }
     Last::Outside
 }
@@ -302,10 +320,10 @@ fn sums_of(
     form: Form,
     delta: bool,
     types: usize,
-    atoms: &[u32; 4096],
-    bonds: &[u32; 4096],
+    atoms: &[u32; TYPE_LIMIT],
+    bonds: &[u32; TYPE_LIMIT],
 ) -> Sums
-    requires { ⌜ types ≤ 4096 ⌝ }
+    requires { ⌜ types ≤ typeLimit ⌝ }
     ensures { λ r. ⌜ OfResults form delta (now (payload .entry)) (λ xs. length xs ≤ cellLimit → TotalsOf types (now (atoms .entry)) (now (bonds .entry)) xs r) ⌝ }
 {
     if delta {
@@ -326,10 +344,10 @@ fn sum_plain(
     payload: &[u8],
     size: Size,
     types: usize,
-    atoms: &[u32; 4096],
-    bonds: &[u32; 4096],
+    atoms: &[u32; TYPE_LIMIT],
+    bonds: &[u32; TYPE_LIMIT],
 ) -> Sums
-    requires { ⌜ types ≤ 4096 ⌝ }
+    requires { ⌜ types ≤ typeLimit ⌝ }
     ensures { λ r. ⌜ OfResults (Form.Plain size) false (now (payload .entry)) (λ xs. length xs ≤ cellLimit → TotalsOf types (now (atoms .entry)) (now (bonds .entry)) xs r) ⌝ }
 {
     let k = codecs::bytes(size);
@@ -352,10 +370,10 @@ fn sum_items(
     form: Form,
     delta: bool,
     types: usize,
-    atoms: &[u32; 4096],
-    bonds: &[u32; 4096],
+    atoms: &[u32; TYPE_LIMIT],
+    bonds: &[u32; TYPE_LIMIT],
 ) -> Sums
-    requires { ⌜ types ≤ 4096 ⌝ }
+    requires { ⌜ types ≤ typeLimit ⌝ }
     ensures { λ r. ⌜ OfResults form delta (now (payload .entry)) (λ xs. length xs ≤ cellLimit → TotalsOf types (now (atoms .entry)) (now (bonds .entry)) xs r) ⌝ }
 {
     let mut at: usize = 0;
@@ -386,13 +404,16 @@ fn add_run(
     count: usize,
     delta: bool,
     types: usize,
-    atoms: &[u32; 4096],
-    bonds: &[u32; 4096],
+    atoms: &[u32; TYPE_LIMIT],
+    bonds: &[u32; TYPE_LIMIT],
 ) -> Step
-    requires { ⌜ (1 ≤ count) × (types ≤ 4096) × Sound tally ⌝ }
+    requires { ⌜ (1 ≤ count) × (types ≤ typeLimit) × Sound tally ⌝ }
     ensures { λ r. ⌜ Adds types (now (atoms .entry)) (now (bonds .entry)) tally (resultsFrom delta (tally .last) (replicate count value)) (lastFrom delta (tally .last) (replicate count value)) r ⌝ }
 {
     if delta {
+        if value == 0 {
+            return add_cells(tally, tally.last, count, types, atoms, bonds);
+        }
         return add_sums(tally, value, count, types, atoms, bonds);
     }
     add_cells(tally, value, count, types, atoms, bonds)
@@ -404,10 +425,10 @@ fn add_sums(
     value: i32,
     count: usize,
     types: usize,
-    atoms: &[u32; 4096],
-    bonds: &[u32; 4096],
+    atoms: &[u32; TYPE_LIMIT],
+    bonds: &[u32; TYPE_LIMIT],
 ) -> Step
-    requires { ⌜ (types ≤ 4096) × Sound tally ⌝ }
+    requires { ⌜ (types ≤ typeLimit) × Sound tally ⌝ }
     ensures { λ r. ⌜ Adds types (now (atoms .entry)) (now (bonds .entry)) tally (resultsFrom true (tally .last) (replicate count value)) (lastFrom true (tally .last) (replicate count value)) r ⌝ }
 {
     let mut t = tally;
@@ -429,10 +450,10 @@ fn add_cells(
     cell: i32,
     count: usize,
     types: usize,
-    atoms: &[u32; 4096],
-    bonds: &[u32; 4096],
+    atoms: &[u32; TYPE_LIMIT],
+    bonds: &[u32; TYPE_LIMIT],
 ) -> Step
-    requires { ⌜ (1 ≤ count) × (types ≤ 4096) × Sound tally ⌝ }
+    requires { ⌜ (1 ≤ count) × (types ≤ typeLimit) × Sound tally ⌝ }
     ensures { λ r. ⌜ Adds types (now (atoms .entry)) (now (bonds .entry)) tally (replicate count cell) cell r ⌝ }
 {
     if cell < 0 {

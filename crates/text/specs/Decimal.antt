@@ -10,10 +10,10 @@ use Rattle.text.specs.declared.Number.the-variants.{Is, None}
 abbrev pub glyph : ℕ → ℕ
 glyph n = cond (ltb (n % 16) 10) (48 + n % 16) (87 + n % 16)
 
--- a number of at most so many digits and one more, the higher digits first, with no leading zeros
+-- a number of at most so many digits and one more in ASCII, the higher digits first, with no leading zeros
 unfoldable pub decimalIn : ℕ → ℕ → List ℕ
-decimalIn zero n = glyph n ∷ []
-decimalIn (suc k) n = cond (ltb n 10) (glyph n ∷ []) (decimalIn k (n / 10) ++ (glyph (n % 10) ∷ []))
+decimalIn zero n = (48 + n % 10) ∷ []
+decimalIn (suc k) n = cond (ltb n 10) ((48 + n) ∷ []) (decimalIn k (n / 10) ++ ((48 + n % 10) ∷ []))
 
 -- a number below 10 ^ 10, as each of 32 bits is, in decimal
 unfoldable pub decimal : ℕ → List ℕ

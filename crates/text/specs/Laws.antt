@@ -1,2 +1,3 @@
+-- What is proved of the definitions of `text`.
 pub mod Put
 pub mod Decimal

@@ -1,8 +1,7 @@
--- Text put into a buffer, and the bytes of a text. What the contracts of this crate and of those above it cite. No lemma stands here: the
+-- Text put into a buffer. What the contracts of this crate and of those above it cite. No lemma stands here: the
 -- laws are in Laws/Put.antt. Assumes nothing.
 use mathlib.Core.Path.{_≡_}
-use mathlib.Core.List.{List, [], _∷_}
-use Prim.Native.Char.{code}
+use mathlib.Core.List.{List}
 use Prim.Native.Nat.{ℕ, _+_, _-_, min}
 use Prim.Native.String as Text
 use lib.ListN.{length}
@@ -13,8 +12,3 @@ use lib.Seq.{sets}
 pub record Put (old : List ℕ) (at : ℕ) (text new : List ℕ) (next : ℕ) : Type 0 where
   pub bytes : new ≡ sets old at text
   pub place : next ≡ at + min (length text) (length old - at)
-
--- the bytes of a text in ASCII
-abbrev pub ascii : Text.String → List ℕ
-ascii Text.[] = []
-ascii (Text._∷_ c s) = code c ∷ ascii s

@@ -13,7 +13,8 @@ use Rattle.messagepack.specs.Document.{Document, Documents, none, item}
 use Rattle.messagepack.specs.Walk.{containerNumber}
 use Rattle.messagepack.specs.Read.{documentOf}
 use Rattle.values.specs.Parts.{bitsOf, itemsOf, entriesOf}
-use Rattle.fields.specs.Types.{FieldType, arrayOf, mapWith, bytesIn, look}
+use Rattle.fields.specs.Types.{FieldType, arrayOf, mapWith, look}
+use Rattle.utf8.specs.Ascii.{ascii}
 use Rattle.fields.specs.Table.{assemblyRows}
 use Rattle.fields.specs.Tests.{isThere, typed}
 
@@ -30,7 +31,7 @@ itemIn i nothing = nothing
 
 -- the value under a key of a map, if there is one
 abbrev pub keyIn : Text.String → Option Document → Option Document
-keyIn name (some x) = look (bytesIn name) (entriesOf x)
+keyIn name (some x) = look (ascii name) (entriesOf x)
 keyIn name nothing = nothing
 
 -- the values of an array, if there is one

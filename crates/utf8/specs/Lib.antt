@@ -1,3 +1,5 @@
+-- UTF-8: `Utf8` is the rule, `Check` the test; `Ascii` is how definitions write text. `Step` is for the code inside.
+pub mod Ascii
 pub mod Utf8
 pub mod Check
 pub mod Step

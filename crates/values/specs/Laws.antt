@@ -1,2 +1,3 @@
+-- What is proved of the definitions of `values`.
 pub mod Standing
 pub mod Places

@@ -5,7 +5,7 @@ use mathlib.Core.Bool.{cond}
 use mathlib.Core.List.{List}
 use Prim.Native.Nat.{ℕ, zero, suc, _+_, _≤_, _<_}
 use lib.Dec.{leb}
-use lib.ListN.{length}
+use lib.ListN.{length, getD}
 use Rattle.messagepack.specs.Document.{Document, Writes}
 use Rattle.heads.specs.Span.{Span}
 use Rattle.values.specs.declared.Over.{Over}
@@ -22,6 +22,16 @@ pastOver size n p = cond (leb (p + n) size) (Over.On (p + n) 0) Over.Stop
 -- a step to n keys and their values
 abbrev pub pairsOver : ℕ → ℕ → ℕ → Over
 pairsOver size n p = cond (leb (p + (n + n)) size) (Over.On p (n + n)) Over.Stop
+
+-- the n values from a place on are integers in their lead bytes
+pub record LowRun (s : List ℕ) (at n : ℕ) : Type 0 where
+  pub within : at + n ≤ length s
+  pub low : (i : ℕ) → i < n → getD s (at + i) 0 < 0x80
+
+-- a step to n values, or over all of them
+pub data ItemsOver (s : List ℕ) (n p : ℕ) : Over → Type 0 where
+  over : LowRun s p n → ItemsOver s n p (Over.On (p + n) 0)
+  each : ItemsOver s n p (Over.On p n)
 
 -- a step over one value's head, and its body if it is a string or a binary: where it goes on, and how many values are inside
 pub data Stepped (s : List ℕ) (p : ℕ) : Over → Type 0 where

@@ -1,14 +1,16 @@
 // Values at places of a file: where one ends, and what it holds. Each function takes any bytes and any place, and says what it answers for
 // whatever document stands there by the rules of a container. The table of lead bytes is lent (`heads::leads`).
 ghost use mathlib.Core.Path.{_≡_};
-ghost use Prim.Native.Nat.{ℕ, _+_, _-_, _≤_};
+ghost use mathlib.Core.Logic.{_↔_};
+ghost use mathlib.Core.Bool.{true};
+ghost use Prim.Native.Nat.{ℕ, _+_, _-_, _≤_, _<_};
 ghost use lib.IntN.{pos};
 ghost use lib.ListN.{length};
 ghost use Rattle.heads.specs.Table.{leadTable};
 ghost use Rattle.messagepack.specs.Document.{Document};
 ghost use Rattle.values.specs.Parts.{integerOf};
 ghost use Rattle.values.specs.Places.{At, TextAt, ItemsAt, EntriesAt, lastOf, halfOf, unsignedBy, signedBy};
-ghost use Rattle.values.specs.Standing.{Standing, pastOver, pairsOver, Stepped};
+ghost use Rattle.values.specs.Standing.{Standing, pastOver, pairsOver, LowRun, ItemsOver, Stepped};
 use heads::Head;
 use heads::Kind;
 
@@ -60,7 +62,32 @@ pub fn skip(leads: &[u8; 256], file: &[u8], at: usize) -> usize
     p
 }
 
-// A step over the value at a place: the commonest, integers and strings whose head is their lead byte, are found with no table.
+// Whether the n values from a place on are integers in their lead bytes: it goes through all of them, so that several are compared at a time.
+pub fn all_low(file: &[u8], at: usize, n: usize) -> bool
+    ensures { λ r. ⌜ (r ≡ true) ↔ LowRun (now (file .entry)) at n ⌝ }
+{
+    if file.len() < at {
+        return false;
+    }
+    if file.len() - at < n {
+        return false;
+    }
+    let mut most: u8 = 0;
+    let mut i: usize = 0;
+    while i < n {
+        most = larger(most, file[at + i]);
+        i += 1;
+    }
+    most < 0x80
+}
+
+fn larger(a: u8, b: u8) -> u8
+    ensures { λ r. ⌜ (a ≤ r) × (b ≤ r) × ((m : ℕ) → a < m → b < m → r < m) ⌝ }
+{
+    if a < b { b } else { a }
+}
+
+// A step over the value at a place: the commonest, floats, and integers and strings whose head is their lead byte, are found with no table.
 fn step_over(leads: &[u8; 256], file: &[u8], at: usize) -> Over
     ensures { λ r. ⌜ (now (leads .entry) ≡ leadTable → Stepped (now (file .entry)) at r) ⌝ }
 {
@@ -74,6 +101,9 @@ fn step_over(leads: &[u8; 256], file: &[u8], at: usize) -> Over
         }
         if b < 0xc0 {
             return past(file, wide(b - 0xa0), at + 1);
+        }
+        if b == 0xca {
+            return past(file, 4, at + 1);
         }
     }
     step_by_table(leads, file, at)
@@ -100,7 +130,7 @@ fn step_by_table(leads: &[u8; 256], file: &[u8], at: usize) -> Over
         Kind::Float => Over::On(p, 0),
         Kind::Str => past(file, n, p),
         Kind::Bin => past(file, n, p),
-        Kind::Array => Over::On(p, n),
+        Kind::Array => over_items(file, n, p),
         Kind::Map => pairs(file, n, p),
     }
 }
@@ -116,6 +146,16 @@ fn past(file: &[u8], n: usize, p: usize) -> Over
         return Over::Stop;
     }
     Over::On(p + n, 0)
+}
+
+// A step to n values, or over all of them where they are integers in their lead bytes.
+fn over_items(file: &[u8], n: usize, p: usize) -> Over
+    ensures { λ r. ⌜ ItemsOver (now (file .entry)) n p r ⌝ }
+{
+    if all_low(file, p, n) {
+        return Over::On(p + n, 0);
+    }
+    Over::On(p, n)
 }
 
 // A step to n keys and their values.
@@ -236,8 +276,26 @@ fn less(a: usize, b: usize) -> usize
     if a < b { 0 } else { a - b }
 }
 
-// The bytes of the string or the binary at a place; of another value none.
+// The bytes of the string or the binary at a place; of another value none. The commonest, strings whose head is their lead byte, are found
+// with no table.
 pub fn text_at(leads: &[u8; 256], file: &[u8], at: usize) -> Part
+    ensures inside { λ r. ⌜ r .at + r .count ≤ length (now (file .entry)) ⌝ }
+    ensures says { λ r. ⌜ (now (leads .entry) ≡ leadTable → (x : Document) (e : ℕ) → At (now (file .entry)) at x e → TextAt (now (file .entry)) x e r) ⌝ }
+{
+    if at < file.len() {
+        let b = file[at];
+        if b < 0xa0 {
+            return text_by_table(leads, file, at);
+        }
+        if b < 0xc0 {
+            return body(file, wide(b - 0xa0), at + 1);
+        }
+    }
+    text_by_table(leads, file, at)
+}
+
+// The same, by the table of lead bytes.
+fn text_by_table(leads: &[u8; 256], file: &[u8], at: usize) -> Part
     ensures inside { λ r. ⌜ r .at + r .count ≤ length (now (file .entry)) ⌝ }
     ensures says { λ r. ⌜ (now (leads .entry) ≡ leadTable → (x : Document) (e : ℕ) → At (now (file .entry)) at x e → TextAt (now (file .entry)) x e r) ⌝ }
 {

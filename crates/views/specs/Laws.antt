@@ -1,3 +1,4 @@
+-- What is proved of the definitions of `views`.
 pub mod Shown
 pub mod View
 pub mod Unique

@@ -1,9 +1,9 @@
 -- A view by name: the part of a file that shows an outer key's value (paper 01, "Views and the receipt").
 -- Stated from documents outwards: an entry and its writing, with what stands before and after it. No lemma stands here. Assumes nothing.
 use mathlib.Core.Path.{_≡_}
-use mathlib.Core.Bool.{Bool, true, false, cond, _||_}
+use mathlib.Core.Bool.{Bool, false, cond, _||_}
 use mathlib.Core.List.{List, [], _++_}
-use Prim.Native.Nat.{ℕ, zero, suc, _+_, _-_, _<_}
+use Prim.Native.Nat.{ℕ, suc, _+_, _-_, _<_}
 use lib.Dec.{eqb}
 use lib.ListN.{length}
 use Rattle.refusal.specs.Table.{accepted, noSuchField}

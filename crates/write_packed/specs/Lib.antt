@@ -1,2 +1,3 @@
+-- `Bits` is for the code inside.
 pub mod Bits
 pub mod Laws

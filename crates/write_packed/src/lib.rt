@@ -12,11 +12,18 @@ ghost use Rattle.codecs.specs.Packing.{packOne, pack};
 ghost use Rattle.codecs.specs.Payload.{allowed};
 ghost use Rattle.columns.specs.Encode.{payloadOf};
 ghost use Rattle.writers.specs.Placed.{over, placed, laid};
-ghost use Rattle.write_packed.specs.Bits.{bitsFor, upTo};
+ghost use Rattle.write_packed.specs.Bits.{bitsFor, upTo, toWrite};
 use codecs::Form;
 use codecs::Range;
 use codecs::Size;
 use writers::Placed;
+
+// The next value to be written, the place of its bytes, and the value before it.
+struct Spot {
+    next: usize,
+    at: usize,
+    before: i32,
+}
 
 // The payload of packed numbers.
 pub fn place_numbers(
@@ -24,20 +31,8 @@ pub fn place_numbers(
     size: Size,
     delta: bool,
     buffer: &mut [u8],
-    at: usize,
+    start: usize,
 ) -> Placed
-    ensures answer { λ r. ⌜ r ≡ placed (allowed (Form.Packed size) 0 (now (values .entry))) (payloadOf (Form.Packed size) delta (now (values .entry))) (length (now (buffer .entry))) at ⌝ }
-    ensures buffer { λ r. ⌜ now (buffer .exit) ≡ laid (allowed (Form.Packed size) 0 (now (values .entry))) (payloadOf (Form.Packed size) delta (now (values .entry))) (now (buffer .entry)) at ⌝ }
-{
-    match size {
-        Size::One => place_sized(values, Size::One, delta, buffer, at),
-        Size::Two => place_sized(values, Size::Two, delta, buffer, at),
-        Size::Four => place_sized(values, Size::Four, delta, buffer, at),
-    }
-}
-
-// The same: the call above gives each size a loop of its own.
-fn place_sized(values: &[i32], size: Size, delta: bool, buffer: &mut [u8], start: usize) -> Placed
     ensures answer { λ r. ⌜ r ≡ placed (allowed (Form.Packed size) 0 (now (values .entry))) (payloadOf (Form.Packed size) delta (now (values .entry))) (length (now (buffer .entry))) start ⌝ }
     ensures buffer { λ r. ⌜ now (buffer .exit) ≡ laid (allowed (Form.Packed size) 0 (now (values .entry))) (payloadOf (Form.Packed size) delta (now (values .entry))) (now (buffer .entry)) start ⌝ }
 {
@@ -56,80 +51,118 @@ fn place_sized(values: &[i32], size: Size, delta: bool, buffer: &mut [u8], start
     Placed::Bytes(n)
 }
 
-// How many bytes packed numbers have; where they are more than the room, one more than it.
+// How many bytes packed numbers have; where they are more than the room, one more than it. Each value is one number, and a few are more.
 fn count_numbers(values: &[i32], size: Size, delta: bool, room: usize) -> usize
     requires { ⌜ room < 9223372036854775808 ⌝ }
     ensures { λ r. ⌜ r ≡ upTo room (length (bytesFor size (pack size (deltasIf delta (now (values .entry)))))) ⌝ }
 {
     let k = codecs::bytes(size);
+    let fit = room / k;
+    let mut n = values.len();
+    if fit < n {
+        return room + 1;
+    }
+    let low = least(size) - 1;
+    let span = most(size) + low;
     let mut before: i32 = 0;
-    let mut n: usize = 0;
     let mut i: usize = 0;
     while i < values.len() {
         let x = values[i];
-        let more = count_one(writers::step(before, x, delta), size) * k;
-        if room - n < more {
+        let more = limits_of(writers::step(before, x, delta), size, low, span);
+        if fit - n < more {
             return room + 1;
         }
         n += more;
         before = x;
         i += 1;
     }
-    n
+    n * k
 }
 
-// How many numbers one packed value has.
-fn count_one(x: i32, size: Size) -> usize
-    ensures { λ r. ⌜ (r ≡ length (packOne (upper size) (lower size) x)) × (r ≤ 4294967296) ⌝ }
+// How many limits of the width one packed value has, before the rest.
+fn limits_of(x: i32, size: Size, low: u32, span: u32) -> usize
+    requires { ⌜ (low ≡ lower size - 1) × (span ≡ upper size + low) ⌝ }
+    ensures { λ r. ⌜ (r + 1 ≡ length (packOne (upper size) (lower size) x)) × (r < 4294967296) ⌝ }
 {
-    if is_short(numbers::to_u32(x), size) {
-        return 1;
+    if is_short(numbers::to_u32(x), low, span) {
+        return 0;
     }
-    count_long(x, size)
+    limits_of_long(x, size)
 }
 
-// The same for any value: a limit for each time that the value reaches it, and the rest.
-fn count_long(x: i32, size: Size) -> usize
-    ensures { λ r. ⌜ (r ≡ length (packOne (upper size) (lower size) x)) × (r ≤ 4294967296) ⌝ }
+// The same for any value: a limit for each time that the value reaches it.
+fn limits_of_long(x: i32, size: Size) -> usize
+    ensures { λ r. ⌜ (r + 1 ≡ length (packOne (upper size) (lower size) x)) × (r < 4294967296) ⌝ }
 {
     let bits = numbers::to_u32(x);
     if bits < 0x8000_0000 {
-        return wide(bits / most(size)) + 1;
+        return wide(bits / most(size));
     }
-    wide(negated(bits) / least(size)) + 1
+    wide(negated(bits) / least(size))
 }
 
-// Packed numbers from `start` on.
+// Packed numbers from `start` on: short values by a loop of their own, up to the next that is not.
 fn write_numbers(values: &[i32], size: Size, delta: bool, buffer: &mut [u8], start: usize)
     requires { ⌜ start + length (bytesFor size (pack size (deltasIf delta (now values)))) ≤ length (now buffer) ⌝ }
     ensures { λ r. ⌜ now (buffer .exit) ≡ over (now (buffer .entry)) start (bytesFor size (pack size (deltasIf delta (now (values .entry))))) ⌝ }
 {
-    let mut before: i32 = 0;
-    let mut at = start;
-    let mut i: usize = 0;
+    let mut spot = Spot {
+        next: 0,
+        at: start,
+        before: 0,
+    };
+    loop {
+        spot = write_short(values, size, delta, buffer, spot);
+        let i = spot.next;
+        if values.len() <= i {
+            return;
+        }
+        let x = values[i];
+        let at = write_long(writers::step(spot.before, x, delta), size, buffer, spot.at);
+        spot = Spot {
+            next: i + 1,
+            at,
+            before: x,
+        };
+    }
+}
+
+// Writes the values from a spot on that are one number each, and gives the spot of the first that is more.
+fn write_short(values: &[i32], size: Size, delta: bool, buffer: &mut [u8], from: Spot) -> Spot
+    requires { ⌜ from .at + length (toWrite size delta (now values) from) ≤ length (now buffer) ⌝ }
+    ensures room { λ r. ⌜ r .at + length (toWrite size delta (now (values .entry)) r) ≤ length (now (buffer .entry)) ⌝ }
+    ensures buffer { λ r. ⌜ over (now (buffer .exit)) (r .at) (toWrite size delta (now (values .entry)) r) ≡ over (now (buffer .entry)) (from .at) (toWrite size delta (now (values .entry)) from) ⌝ }
+    ensures order { λ r. ⌜ from .next ≤ r .next ⌝ }
+{
+    let k = codecs::bytes(size);
+    let low = least(size) - 1;
+    let span = most(size) + low;
+    let mut before = from.before;
+    let mut at = from.at;
+    let mut i = from.next;
     while i < values.len() {
         let x = values[i];
-        at = write_one(writers::step(before, x, delta), size, buffer, at);
+        let bits = numbers::to_u32(writers::step(before, x, delta));
+        if !is_short(bits, low, span) {
+            return Spot {
+                next: i,
+                at,
+                before,
+            };
+        }
+        put(buffer, at, bits, size);
+        at += k;
         before = x;
         i += 1;
+    }
+    Spot {
+        next: i,
+        at,
+        before,
     }
 }
 
 // One packed value from `at` on; gives the place after it.
-fn write_one(x: i32, size: Size, buffer: &mut [u8], at: usize) -> usize
-    requires { ⌜ at + length (bytesFor size (packOne (upper size) (lower size) x)) ≤ length (now buffer) ⌝ }
-    ensures place { λ r. ⌜ r ≡ at + length (bytesFor size (packOne (upper size) (lower size) x)) ⌝ }
-    ensures buffer { λ r. ⌜ now (buffer .exit) ≡ over (now (buffer .entry)) at (bytesFor size (packOne (upper size) (lower size) x)) ⌝ }
-{
-    let bits = numbers::to_u32(x);
-    if is_short(bits, size) {
-        put(buffer, at, bits, size);
-        return at + codecs::bytes(size);
-    }
-    write_long(x, size, buffer, at)
-}
-
-// The same for any value.
 fn write_long(x: i32, size: Size, buffer: &mut [u8], at: usize) -> usize
     requires { ⌜ at + length (bytesFor size (packOne (upper size) (lower size) x)) ≤ length (now buffer) ⌝ }
     ensures place { λ r. ⌜ r ≡ at + length (bytesFor size (packOne (upper size) (lower size) x)) ⌝ }
@@ -176,33 +209,42 @@ fn put(buffer: &mut [u8], at: usize, bits: u32, size: Size)
     ensures { λ r. ⌜ now (buffer .exit) ≡ over (now (buffer .entry)) at (bytesOf (sizeOf size) bits) ⌝ }
 {
     match size {
-        Size::One => put_byte(buffer, at, bits),
-        Size::Two => numbers::write_u16(buffer, at, low_half(bits)),
+        Size::One => put_one(buffer, at, bits),
+        Size::Two => put_two(buffer, at, bits),
         Size::Four => numbers::write_u32(buffer, at, bits),
     }
 }
 
 // The lowest byte.
-fn put_byte(buffer: &mut [u8], at: usize, bits: u32)
+fn put_one(buffer: &mut [u8], at: usize, bits: u32)
     requires { ⌜ at + 1 ≤ length (now buffer) ⌝ }
     ensures { λ r. ⌜ now (buffer .exit) ≡ over (now (buffer .entry)) at (bytesOf 1 bits) ⌝ }
 {
-    buffer[at] = (bits % 256) as u8;
+    buffer[at] = low_byte(bits);
 }
 
-// The lower 16 bits of a number.
-fn low_half(number: u32) -> u16
-    ensures { λ r. ⌜ r ≡ number % 65536 ⌝ }
+// The two lowest bytes.
+fn put_two(buffer: &mut [u8], at: usize, bits: u32)
+    requires { ⌜ at + 2 ≤ length (now buffer) ⌝ }
+    ensures { λ r. ⌜ now (buffer .exit) ≡ over (now (buffer .entry)) at (bytesOf 2 bits) ⌝ }
 {
-    (number % 65536) as u16
+    buffer[at] = low_byte(bits / 256);
+    buffer[at + 1] = low_byte(bits);
 }
 
-// Whether the bits are of a value that is one number of its size: between the limits, by one test.
-fn is_short(bits: u32, size: Size) -> bool
-    ensures { λ r. ⌜ r ≡ ltb ((bits + (lower size - 1)) % 4294967296) (upper size + (lower size - 1)) ⌝ }
+// The lowest byte of a number.
+fn low_byte(number: u32) -> u8
+    ensures { λ r. ⌜ r ≡ number % 256 ⌝ }
 {
-    let q = least(size) - 1;
-    std::num::wrapping_add_u32(bits, q) < most(size) + q
+    (number % 256) as u8
+}
+
+// Whether the bits are of a value that is one number of its size: between the limits, by one test. `low` is the lower limit without
+// its sign, less 1, and `span` is what lies between the two limits.
+fn is_short(bits: u32, low: u32, span: u32) -> bool
+    ensures { λ r. ⌜ r ≡ ltb ((bits + low) % 4294967296) span ⌝ }
+{
+    std::num::wrapping_add_u32(bits, low) < span
 }
 
 // The largest number of a size.

@@ -2,7 +2,7 @@
 ghost use mathlib.Core.Path.{_≡_};
 ghost use mathlib.Core.Bool.{false, cond};
 ghost use mathlib.Core.List.{_++_, map};
-ghost use Prim.Native.Nat.{_+_, _*_, _≤_};
+ghost use Prim.Native.Nat.{_+_, _*_, _%_, _≤_};
 ghost use lib.ListN.{length};
 ghost use lib.IntN.{pos};
 ghost use lib.Dec.{eqb, leb};
@@ -176,6 +176,24 @@ fn put_run(buffer: &mut [u8], at: usize, bits: u32, count: usize)
     requires { ⌜ at + 8 ≤ length (now buffer) ⌝ }
     ensures { λ r. ⌜ now (buffer .exit) ≡ over (now (buffer .entry)) at (bytesOf 4 bits ++ bytesOf 4 count) ⌝ }
 {
-    numbers::write_u32(buffer, at, bits);
-    numbers::write_u32(buffer, at + 4, (count % 4294967296) as u32);
+    put_four(buffer, at, bits);
+    put_four(buffer, at + 4, (count % 4294967296) as u32);
+}
+
+// A number of four bytes.
+fn put_four(buffer: &mut [u8], at: usize, bits: u32)
+    requires { ⌜ at + 4 ≤ length (now buffer) ⌝ }
+    ensures { λ r. ⌜ now (buffer .exit) ≡ over (now (buffer .entry)) at (bytesOf 4 bits) ⌝ }
+{
+    buffer[at] = low_byte(bits / 256 / 256 / 256);
+    buffer[at + 1] = low_byte(bits / 256 / 256);
+    buffer[at + 2] = low_byte(bits / 256);
+    buffer[at + 3] = low_byte(bits);
+}
+
+// The lowest byte of a number.
+fn low_byte(number: u32) -> u8
+    ensures { λ r. ⌜ r ≡ number % 256 ⌝ }
+{
+    (number % 256) as u8
 }

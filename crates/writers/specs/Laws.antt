@@ -1,3 +1,4 @@
+-- What is proved of the definitions of `writers`.
 pub mod Lists
 pub mod Placed
 pub mod Numbers

@@ -1,16 +1,15 @@
 -- The exact sum in 64 bits, held to 32 bits by two tests; then whether the number is a limit.
-use mathlib.Core.Path.{_≡_, refl, sym, subst, ap, ap₂, _∙_}
-use mathlib.Core.Bool.{Bool, true, false, cond}
+use mathlib.Core.Path.{_≡_, sym, subst, ap, ap₂, _∙_}
+use mathlib.Core.Bool.{Bool, cond}
 use native.Mathlib.Omega.{arith}
 use lib.IntN.{ℤ, pos, negsuc, _+ℤ_}
-use lib.Signed.{ltZ, mag}
+use lib.Signed.{ltZ}
 use mir.Syntax.{w32, w64}
 use mir.Val.{SFits, toZ, ofZ}
 use mir.Facts.{toZ-ofZ}
 use borrow.Author.Needs.{needs}
 use Rattle.codecs.specs.Width.{upper, lower}
 use Rattle.codecs.specs.Packing.{isLimit}
-use Rattle.codecs.specs.declared.Turn.{Turn}
 use Rattle.codecs.specs.declared.Turn.the-variants.{More, Done}
 use Rattle.codecs.specs.Steps.{turnOf}
 use Rattle.codecs.specs.Laws.Packing.{mag-add, in-32, below-32, above-32, turn-outside, turn-inside}

@@ -1,5 +1,5 @@
 -- Laws of packing, once over the size: limits by their bits, and the turns of unpacking. Assumes nothing.
-use mathlib.Core.Path.{_≡_, refl, sym, ap, _∙_}
+use mathlib.Core.Path.{_≡_, refl, sym, _∙_}
 use mathlib.Core.Bool.{Bool, true, false, cond}
 use Prim.Native.Nat.{ℕ, suc, _+_, _-_, _<_, _≤_}
 use native.Mathlib.Omega.{arith}
@@ -13,7 +13,7 @@ use Rattle.codecs.specs.declared.Size.{Size}
 use Rattle.codecs.specs.declared.Size.the-variants.{One, Two, Four}
 use Rattle.codecs.specs.declared.Turn.the-variants.{More, Done, Wrong}
 use Rattle.codecs.specs.Width.{upper, lower}
-use Rattle.codecs.specs.Packing.{isLimit, in32}
+use Rattle.codecs.specs.Packing.{isLimit}
 use Rattle.codecs.specs.Steps.{turnOf}
 
 -- Limits

@@ -16,7 +16,6 @@ use Rattle.columns.specs.declared.Wanted.{Wanted}
 use Rattle.columns.specs.declared.Parameter.{Parameter}
 use Rattle.columns.specs.declared.Codec.{Codec}
 use Rattle.columns.specs.declared.Codec.the-variants.{Known, Unknown}
-use Rattle.columns.specs.declared.Header.{Header}
 use Rattle.columns.specs.declared.Header.the-variants.{Good, Refused}
 use Rattle.columns.specs.Table.{table, codecOf, suits, lengthLimit, parameterOk, sizeRight}
 use Rattle.columns.specs.Header.{judged, headerOf}

@@ -1,9 +1,7 @@
 -- The columns before are fine; the one at hand is judged.
-use mathlib.Core.Path.{_≡_, refl, sym, ap, ap₂, subst, _∙_}
-use mathlib.Core.Bool.{Bool, true, false, cond, _&&_}
-use Prim.Native.Nat.{ℕ, _+_, _-_, _*_, _/_, _%_, _≤_, _<_}
+use mathlib.Core.Path.{_≡_, refl, sym, ap, _∙_}
+use Prim.Native.Nat.{ℕ, _+_, _-_}
 use native.Mathlib.Omega.{arith}
-use borrow.Author.Tests.{eq-eqb, ne-eqb, not-true, not-false}
 use lib.ListN.{getD, drop}
 use Rattle.heads.specs.Table.{leadTable}
 use Rattle.messagepack.specs.Document.{Entries}
@@ -11,7 +9,7 @@ use Rattle.counts.specs.Columns.{columns, columnsNumber, numberOf}
 use Rattle.counts.specs.Steps.{PlacesOf, refusalOf, fieldNumbers}
 use Rattle.fields.specs.Fields.{fieldAt}
 use Rattle.groups.specs.Group.{orElse}
-use Rattle.counts.specs.Laws.Columns.{field-few, number-next, number-end, number-is, or-zero, or-first}
+use Rattle.counts.specs.Laws.Columns.{number-next, number-end, number-is, or-zero, or-first}
 use borrow.Author.Needs.{needs}
 use Rattle.counts.proofs.columns_refusal.Statement.{statement}
 use Rattle.counts.proofs.columns_refusal.Tie as tie

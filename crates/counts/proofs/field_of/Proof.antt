@@ -1,12 +1,8 @@
 -- The table of fields.
-use mathlib.Core.Path.{_≡_, refl, sym, ap, ap₂, subst, _∙_}
-use mathlib.Core.Bool.{Bool, true, false, cond, _&&_}
-use Prim.Native.Nat.{ℕ, _+_, _-_, _*_, _/_, _%_, _≤_, _<_}
-use native.Mathlib.Omega.{arith}
-use borrow.Author.Tests.{eq-eqb, ne-eqb, not-true, not-false}
+use mathlib.Core.Path.{_≡_, _∙_}
+use Prim.Native.Nat.{_-_, _%_, _<_}
 use native.Mathlib.Nat.{mod-eq-of-lt}
 use lib.ListN.{getD}
-use Rattle.fields.specs.Table.{fieldCount}
 use Rattle.counts.specs.Steps.{fieldNumbers}
 use Rattle.counts.specs.Laws.Columns.{field-few}
 use borrow.Author.Needs.{needs}

@@ -1,11 +1,6 @@
 -- By whether the column is there.
-use mathlib.Core.Path.{_≡_, refl, sym, ap, ap₂, subst, _∙_}
-use mathlib.Core.Bool.{Bool, true, false, cond, _&&_}
-use Prim.Native.Nat.{ℕ, _+_, _-_, _*_, _/_, _%_, _≤_, _<_}
-use native.Mathlib.Omega.{arith}
-use borrow.Author.Tests.{eq-eqb, ne-eqb, not-true, not-false}
+use Prim.Native.Nat.{_-_}
 use Rattle.counts.specs.Laws.Columns.{long-none, long-some}
-use borrow.Author.Needs.{needs}
 use Rattle.counts.proofs.is_long.Statement.{statement}
 use Rattle.counts.proofs.is_long.Tie as tie
 

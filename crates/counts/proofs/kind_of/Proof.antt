@@ -1,9 +1,7 @@
 -- The table of kinds.
-use mathlib.Core.Path.{_≡_, refl, sym, ap, ap₂, subst, _∙_}
-use mathlib.Core.Bool.{Bool, true, false, cond, _&&_}
-use Prim.Native.Nat.{ℕ, _+_, _-_, _*_, _/_, _%_, _≤_, _<_}
-use native.Mathlib.Omega.{arith}
-use borrow.Author.Tests.{eq-eqb, ne-eqb, not-true, not-false}
+use mathlib.Core.Path.{sym, ap}
+use Prim.Native.Nat.{_-_}
+use borrow.Author.Tests.{ne-eqb}
 use Rattle.counts.specs.Steps.{kindFrom}
 use borrow.Author.Needs.{needs}
 use Rattle.counts.proofs.kind_of.Statement.{statement}

@@ -1,15 +1,15 @@
 -- The columns before are long enough; the one at hand is judged.
-use mathlib.Core.Path.{_≡_, refl, sym, ap, ap₂, subst, _∙_}
-use mathlib.Core.Bool.{Bool, true, false, cond, _&&_}
-use Prim.Native.Nat.{ℕ, _+_, _-_, _*_, _/_, _%_, _≤_, _<_}
+use mathlib.Core.Path.{_≡_, refl, sym, ap, _∙_}
+use mathlib.Core.Bool.{Bool, _&&_}
+use Prim.Native.Nat.{ℕ, _+_, _-_}
 use native.Mathlib.Omega.{arith}
-use borrow.Author.Tests.{eq-eqb, ne-eqb, not-true, not-false}
+use borrow.Author.Tests.{not-true, not-false}
 use lib.ListN.{getD, drop}
 use Rattle.heads.specs.Table.{leadTable}
 use Rattle.messagepack.specs.Document.{Entries}
 use Rattle.fields.specs.Fields.{fieldAt}
 use Rattle.counts.specs.Columns.{columns, AllRight, allLong, longPer}
-use Rattle.counts.specs.Steps.{PlacesOf, listOf, fieldNumbers, kindNumbers, perNumbers, kindFrom, perFrom}
+use Rattle.counts.specs.Steps.{PlacesOf, fieldNumbers, kindNumbers, kindFrom, perFrom}
 use Rattle.counts.specs.Laws.Columns.{right-at, long-next, long-end}
 use borrow.Author.Needs.{needs}
 use Rattle.counts.proofs.lengths_agree.Statement.{statement}

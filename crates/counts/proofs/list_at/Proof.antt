@@ -1,10 +1,9 @@
 -- The length is the one that the header states.
-use mathlib.Core.Path.{_≡_, refl, sym, ap, ap₂, subst, _∙_}
-use mathlib.Core.Bool.{Bool, true, false, cond, _&&_}
-use Prim.Native.Nat.{ℕ, _+_, _-_, _*_, _/_, _%_, _≤_, _<_}
+use mathlib.Core.Path.{sym, ap, _∙_}
+use mathlib.Core.Bool.{true}
+use Prim.Native.Nat.{ℕ, _-_}
 use native.Mathlib.Omega.{arith}
-use borrow.Author.Tests.{eq-eqb, ne-eqb, not-true, not-false}
-use Rattle.counts.specs.Steps.{refusalOf, listOf}
+use Rattle.counts.specs.Steps.{listOf}
 use Rattle.groups.specs.Laws.Group.{place-none}
 use Rattle.groups.specs.declared.List as list
 use Rattle.counts.specs.Laws.Columns.{read-length}

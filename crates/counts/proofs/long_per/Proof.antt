@@ -1,12 +1,7 @@
 -- By what the column is per.
-use mathlib.Core.Path.{_≡_, refl, sym, ap, ap₂, subst, _∙_}
-use mathlib.Core.Bool.{Bool, true, false, cond, _&&_}
-use Prim.Native.Nat.{ℕ, _+_, _-_, _*_, _/_, _%_, _≤_, _<_}
-use native.Mathlib.Omega.{arith}
-use borrow.Author.Tests.{eq-eqb, ne-eqb, not-true, not-false}
-use mathlib.Core.Option.{Option}
-use Rattle.messagepack.specs.Document.{Document}
-use Rattle.counts.specs.Columns.{longPer}
+use mathlib.Core.Path.{_∙_}
+use Prim.Native.Nat.{_-_}
+use borrow.Author.Tests.{eq-eqb, ne-eqb}
 use borrow.Author.Needs.{needs}
 use Rattle.counts.proofs.long_per.Statement.{statement}
 use Rattle.counts.proofs.long_per.Tie as tie

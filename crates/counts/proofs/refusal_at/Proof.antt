@@ -1,10 +1,8 @@
 -- What the check of the column answers is its refusal.
-use mathlib.Core.Path.{_≡_, refl, sym, ap, ap₂, subst, _∙_}
-use mathlib.Core.Bool.{Bool, true, false, cond, _&&_}
-use Prim.Native.Nat.{ℕ, _+_, _-_, _*_, _/_, _%_, _≤_, _<_}
+use mathlib.Core.Path.{sym, ap, _∙_}
+use Prim.Native.Nat.{_-_}
 use native.Mathlib.Omega.{arith}
-use borrow.Author.Tests.{eq-eqb, ne-eqb, not-true, not-false}
-use Rattle.counts.specs.Steps.{refusalOf, listOf}
+use Rattle.counts.specs.Steps.{refusalOf}
 use Rattle.groups.specs.Laws.Group.{place-none}
 use Rattle.counts.specs.Laws.Columns.{read-refused, read-good}
 use borrow.Author.Needs.{needs}

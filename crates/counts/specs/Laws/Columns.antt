@@ -1,7 +1,7 @@
 -- Columns at places: the table gone through by numbers, and what is read of a column that is there.
 -- Assumes nothing.
 use mathlib.Core.Path.{_≡_, refl, sym, ap, subst, _∙_}
-use mathlib.Core.Bool.{Bool, true, false, cond, _&&_}
+use mathlib.Core.Bool.{Bool, true, false, _&&_}
 use mathlib.Core.List.{List, [], _∷_, map}
 use mathlib.Core.Option.{Option, some, none as nothing}
 use Prim.Native.Nat.{ℕ, zero, suc, _+_, _-_, _≤_, _<_}
@@ -18,23 +18,22 @@ use Rattle.messagepack.specs.Document.{Document, Entries}
 use Rattle.values.specs.Parts.{textOf}
 use Rattle.values.specs.Places.{At, TextAt}
 use Rattle.values.specs.declared.Part.{Part}
-use Rattle.fields.specs.Types.{look, bytesIn}
 use Rattle.fields.specs.Table.{named, fieldCount}
 use Rattle.fields.specs.Fields.{valueOf, fieldAt}
 use Rattle.fields.specs.Noted.{PlaceSays}
 use Rattle.columns.specs.declared.Kind.{Kind}
 use Rattle.columns.specs.declared.Wanted.{Wanted}
 use Rattle.columns.specs.declared.Wanted.the-variants.{Real, Any}
-use Rattle.columns.specs.Decode.{Decoding, refused, column, decode}
-use Rattle.survey.specs.Field.{fieldColumn, lengthOf, checkedOf}
+use Rattle.columns.specs.Decode.{refused, column, decode}
+use Rattle.survey.specs.Field.{fieldColumn, checkedOf}
 use Rattle.survey.specs.declared.Checked.the-variants.{Good, Refused}
 use Rattle.survey.specs.Laws.Field.{checked-refusal, checked-column, fieldColumn-stated, fieldColumn-any}
 use Rattle.survey.specs.Cells.{allPass, allBetween}
 use Rattle.groups.specs.Group.{orElse, listIn}
 use Rattle.groups.specs.declared.List as list
-use Rattle.groups.specs.Laws.Group.{Stands, place-none, place-some}
-use Rattle.counts.specs.Columns.{field, Column, Per, atom, group, chain, bond, columns, columnOf, decoded, refusalIn, ColumnRight, AllRight, columnNumber, numberOf, columnsNumber, cellsOf, cellsIn, lengthIn, isLong, longPer, allLong}
-use Rattle.counts.specs.Steps.{PlacesOf, fieldNumbers, kindNumbers, perNumbers, kindFrom, perFrom, columnAt, refusalOf, listOf, Right}
+use Rattle.groups.specs.Laws.Group.{Stands, place-some}
+use Rattle.counts.specs.Columns.{field, Column, Per, atom, bond, columns, columnOf, decoded, refusalIn, ColumnRight, AllRight, columnNumber, numberOf, cellsOf, cellsIn, lengthIn, isLong, longPer, allLong}
+use Rattle.counts.specs.Steps.{fieldNumbers, kindNumbers, perNumbers, kindFrom, perFrom, columnAt, refusalOf, listOf, Right}
 
 getD-map : {A B : Type 0} (f : A → B) (l : List A) (i : ℕ) (d : A) → getD (map f l) i (f d) ≡ f (getD l i d)
 getD-map f [] i d = refl

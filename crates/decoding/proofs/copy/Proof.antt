@@ -1,10 +1,9 @@
 -- The first i bytes are those of the source, and from i on nothing has changed.
-use mathlib.Core.Path.{_≡_, refl, sym, ap, _∙_}
-use mathlib.Core.List.{List, _++_}
-use Prim.Native.Nat.{ℕ, _+_, _-_, _≤_}
+use mathlib.Core.Path.{_≡_, refl, _∙_}
+use mathlib.Core.List.{_++_}
+use Prim.Native.Nat.{_+_, _-_, _≤_}
 use native.Mathlib.Omega.{arith}
 use lib.ListN.{length, take, drop, length-set}
-use borrow.Author.Needs.{needs}
 use Rattle.decoding.specs.Laws.Calls.{copied-start, copied-more, copied-all}
 use Rattle.decoding.proofs.copy.Statement.{statement}
 use Rattle.decoding.proofs.copy.Tie as tie

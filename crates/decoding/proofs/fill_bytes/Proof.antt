@@ -1,14 +1,13 @@
 -- n results of the run are written, and x is the last of them (`filled-next`).
-use mathlib.Core.Path.{_≡_, refl, ap, ap₂, _∙_}
-use Prim.Native.Nat.{ℕ, _+_, _-_, _≤_, _<_}
+use mathlib.Core.Path.{_≡_, refl, _∙_}
+use Prim.Native.Nat.{_+_, _-_, _≤_}
 use native.Mathlib.Omega.{arith}
 use lib.ListN.{length, length-set}
-use lib.IntN.{ℤ, pos}
 use mir.Syntax.{w32}
 use mir.Val.{toZ, ofZ}
 use mir.Facts.{toZ-ofZ}
 use borrow.Author.Needs.{needs}
-use Rattle.payloads.specs.Results.{advance, Filled}
+use Rattle.payloads.specs.Results.{Filled}
 use Rattle.payloads.specs.Laws.Writing.{filled-start, filled-next}
 use Rattle.decoding.specs.Calls.{asByte}
 use Rattle.decoding.proofs.fill_bytes.Statement.{statement}

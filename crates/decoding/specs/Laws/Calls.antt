@@ -6,7 +6,7 @@ use mathlib.Core.List.{List, [], _∷_, _++_, append-assoc, map}
 use Prim.Native.Nat.{ℕ, suc, _+_, _-_, _<_, _≤_}
 use native.Mathlib.Omega.{arith}
 use native.Mathlib.Numerals.{add-one}
-use lib.ListN.{length, take, drop, set, getD, length-append, length-drop}
+use lib.ListN.{length, take, drop, set, getD, length-drop}
 use lib.IntN.{ℤ, pos}
 use lib.Dec.{leb}
 use mir.Syntax.{w32}
@@ -23,7 +23,6 @@ use Rattle.columns.specs.declared.Header.the-variants as header
 use Rattle.columns.specs.Header.{headerOf}
 use Rattle.columns.specs.Decode.{Decoding, refused, column, judgedPayload, decode}
 use Rattle.payloads.specs.Held.{heldIn}
-use Rattle.payloads.specs.Items.{readIn}
 use Rattle.payloads.specs.Laws.Held.{held-read}
 use Rattle.payloads.specs.Laws.Scan.{results-if, length-results}
 use Rattle.payloads.specs.Results.{HasRoom}

@@ -1,6 +1,6 @@
 -- Both round trips through the contracts of the calls: what an encoder wrote decodes to its column, and a column that was decoded from
 -- the writer's form is written as it stood. Assumes nothing.
-use mathlib.Core.Path.{_≡_, refl, sym, ap, ap₂, _∙_}
+use mathlib.Core.Path.{_≡_, refl, ap, _∙_}
 use mathlib.Core.Bool.{Bool, true, false, cond}
 use mathlib.Core.List.{List, _++_}
 use Prim.Native.Nat.{ℕ, _≤_}
@@ -22,7 +22,6 @@ use Rattle.columns.specs.Decode.{column, decode}
 use Rattle.columns.specs.Encode.{Encoding, refused, bytes, written, encode}
 use Rattle.columns.specs.WriterForm.{WriterForm}
 use Rattle.columns.specs.Laws.RoundTrip.{decode-encode, encode-decode}
-use Rattle.encoding.specs.declared.Encoded.{Encoded}
 use Rattle.encoding.specs.declared.Encoded.the-variants.{Written, Refused}
 use Rattle.encoding.specs.Calls.{told, left}
 

@@ -1,52 +1,19 @@
--- What is left from here on decides.
+-- Integers in their lead bytes are typed at once (`low-items`); else each item is looked at.
+use mathlib.Core.Path.{ap}
+use native.Mathlib.Omega.{arith}
 use borrow.Author.Needs.{needs}
-use Rattle.fields.specs.declared.Typed.{Typed}
 use Rattle.fields.specs.Types.{plain}
-use Rattle.fields.specs.Steps.{ItemsSay}
-use Rattle.fields.specs.Laws.Steps.{items-none, items-next, items-wrong}
-use Rattle.fields.specs.Tests.{typed}
-use Rattle.fields.proofs.plain_items.Tie as tie
+use Rattle.fields.specs.Laws.Steps.{items-as, low-items}
 use Rattle.fields.proofs.plain_items.Statement.{statement}
+use Rattle.fields.proofs.plain_items.Tie as tie
 
-abbrev Inv-loop : tie.InvT-loop
-Inv-loop leads file count at wanted left₀ p₀ left p = (r : Typed) → ItemsSay leads file (typed (plain wanted)) left p r → ItemsSay leads file (typed (plain wanted)) count at r
+add-t8 : tie.Need-add-t8
+add-t8 c = let l = c .before .all-low .ensures .0 (c .if2 .taken) in omega (arith, l .within)
 
-abbrev μ-loop : tie.MeasureT-loop
-μ-loop leads file count at wanted left₀ p₀ left p = left
-
-loop-holds : tie.Need-loop-holds Inv-loop μ-loop
-loop-holds c = λ r h. h
-
-returns : tie.Need-returns Inv-loop μ-loop
+returns : tie.Need-returns
 returns c =
-    let a = c .before .before .before .before .before .before .args in
-    let l = c .before .before .before .before .loop in
-    l .inv Typed.Wrong (items-wrong (a .leads .now) (a .file .now) (typed (plain (a .wanted))) (l .left) (l .p) (c .before .before .before .loop-test .taken) (c .before .before .plain-at .ensures) (c .enum-told .given .1))
-
-loop-again : tie.Need-loop-again Inv-loop μ-loop
-loop-again c =
-    let a = c .before .before .before .before .before .before .before .args in
-    let l = c .before .before .before .before .before .loop in
-    λ r h. l .inv r (items-next (a .leads .now) (a .file .now) (typed (plain (a .wanted))) (l .left) (l .p) _ (c .before .before .before .before .loop-test .taken) (c .before .before .before .plain-at .ensures) (c .before .e .given .1) h)
-
-returns-2 : tie.Need-returns-2 Inv-loop μ-loop
-returns-2 c =
-    let a = c .before .before .before .args in
-    let l = c .before .loop in
-    l .inv (Typed.Ends (l .p)) (items-none (a .leads .now) (a .file .now) (typed (plain (a .wanted))) (l .left) (l .p) (c .loop-test .left))
+    let a = c .before .before .before .before .args in
+    items-as (plain (a .wanted)) (plain 1) (ap plain (c .before .before .if1 .taken)) (low-items (a .leads .now) (a .file .now) (a .count) (a .at) (c .before .all-low .ensures .0 (c .if2 .taken)))
 
 pub plain-items-spec : {M : Type 1} → statement M
-plain-items-spec =
-    tie.close
-    (tie.spec
-    Inv-loop
-    μ-loop
-    loop-holds
-    (λ c κs. search needs)
-    (λ c. search needs)
-    (λ c. search needs)
-    returns
-    (λ c. search needs)
-    (λ c. search needs)
-    loop-again
-    returns-2)
+plain-items-spec = tie.close (tie.spec (λ c κs. search needs) add-t8 returns (λ c κs. search needs) (λ c. search needs))

@@ -18,7 +18,7 @@ use Rattle.messagepack.specs.Laws.Refused.{either}
 use Rattle.fields.specs.Types.{Rows, last, row, Has, Fits, HasType}
 use Rattle.fields.specs.Tests.{have, fitting}
 use Rattle.fields.specs.Table.{named}
-use Rattle.fields.specs.Fields.{valueOf, fieldAt, typeIn, fieldTypeOf, requiredIn, VersionOne, isVersionOne, versionOf, FieldsRight, fieldsNumber}
+use Rattle.fields.specs.Fields.{valueOf, fieldAt, typeIn, requiredIn, VersionOne, isVersionOne, versionOf, FieldsRight, fieldsNumber}
 use Rattle.fields.specs.Laws.Types.{clash, and-left, and-right, have-exactly, fitting-exactly}
 
 -- each field that is there has its type, and each required one is there
@@ -28,10 +28,6 @@ unfolding Fits valueOf typeIn
 fits-type last es f i x h = let z : _≡_ {A = ℕ} 0 1 = cc in absurd (omega arith)
 fits-type (row k q t rows) es f zero x h = f .0 x h
 fits-type (row k q t rows) es f (suc i) x h = fits-type rows es (f .1) i x h
-
-pub field-type : (es : Entries) → Fits named es → (i : ℕ) (x : Document) → fieldAt i es ≡ some x → HasType (fieldTypeOf i) x
-unfolding fieldAt fieldTypeOf
-field-type es f i x h = fits-type named es f i x h
 
 pub has-value : (rows : Rows) (es : Entries) → Has rows es → (i : ℕ) → requiredIn i rows ≡ true → record { x : Document; is : valueOf i rows es ≡ some x }
 unfolding Has valueOf requiredIn

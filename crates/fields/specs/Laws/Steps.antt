@@ -3,7 +3,7 @@
 use mathlib.Core.Path.{_≡_, refl, sym, ap, subst, _∙_}
 use mathlib.Core.Bool.{Bool, true, false, cond, _&&_, and-comm}
 use mathlib.Core.List.{List}
-use Prim.Native.Nat.{ℕ, _+_, _-_, _^_, _<_, _≤_}
+use Prim.Native.Nat.{ℕ, zero, suc, _+_, _-_, _^_, _<_, _≤_}
 use native.Mathlib.Omega.{arith}
 use native.Mathlib.Nat.{add-zero}
 use lib.Bits.{bitOr, or-zero-r}
@@ -20,7 +20,8 @@ use Rattle.heads.specs.declared.Kind.{Kind}
 use Rattle.messagepack.specs.Document.{Document, Documents, Entries, integer, float, string, binary, array, map, none, item, empty, entry, count, size, WritesAll, WritesEntries}
 use Rattle.messagepack.specs.Rules.{NoKey}
 use Rattle.values.specs.Places.{At, AtAll, AtEntries, TextAt}
-use Rattle.values.specs.Standing.{Standing}
+use Rattle.values.specs.Standing.{Standing, LowRun}
+use Rattle.values.specs.Laws.Standing.{low-first, low-rest}
 use Rattle.values.specs.Laws.Places.{at-inside, at-standing, open-array, open-map, OpenText, open-string, open-binary, open-float, OpenInteger, unsigned, signed, open-integer, open-item, open-entry}
 use Rattle.values.specs.declared.Part.{Part}
 use Rattle.fields.specs.Types.{FieldType, Rows, plain, arrayOf, exactly, mapWith, kindNumber}
@@ -389,6 +390,20 @@ module _ (leads s : List ℕ) (rows : Rows) where
 -- what is said by a type is said by any that is equal
 pub value-as : {leads s : List ℕ} {at : ℕ} {v : Typed} (t u : FieldType) → t ≡ u → ValueSays leads s (typed u) at v → ValueSays leads s (typed t) at v
 value-as {leads} {s} {at} {v} t u q h = subst (λ (z : FieldType). ValueSays leads s (typed z) at v) (sym q) h
+
+pub items-as : {leads s : List ℕ} {n at : ℕ} {v : Typed} (t u : FieldType) → t ≡ u → ItemsSay leads s (typed u) n at v → ItemsSay leads s (typed t) n at v
+items-as {leads} {s} {n} {at} {v} t u q h = subst (λ (z : FieldType). ItemsSay leads s (typed z) n at v) (sym q) h
+
+-- integers in their lead bytes, all at once
+pub low-items : (leads s : List ℕ) (n p : ℕ) → LowRun s p n → ItemsSay leads s (typed (plain 1)) n p (Typed.Ends (p + n))
+low-items leads s zero p l = subst (λ (q : ℕ). ItemsSay leads s (typed (plain 1)) 0 p (Typed.Ends q)) (sym (add-zero p)) (items-none leads s (typed (plain 1)) 0 p (omega arith))
+low-items leads s (suc n) p l =
+    let b = low-first l in
+    let e : n ≡ suc n - 1 = omega arith in
+    let f : p + 1 + n ≡ p + suc n = omega arith in
+    let rest = low-items leads s n (p + 1) (low-rest l) in
+    items-next leads s (typed (plain 1)) (suc n) p (p + 1) (omega arith) (low-says s p (b .0) leads (b .1)) refl
+    (subst (λ (k : ℕ). ItemsSay leads s (typed (plain 1)) k (p + 1) (Typed.Ends (p + suc n))) e (subst (λ (q : ℕ). ItemsSay leads s (typed (plain 1)) n (p + 1) (Typed.Ends q)) f rest))
 
 -- a value under a row, or under none, which is stepped over
 

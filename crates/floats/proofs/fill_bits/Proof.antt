@@ -5,7 +5,7 @@ use Prim.Native.Nat.{_+_, _-_, _≤_}
 use native.Mathlib.Omega.{arith}
 use lib.ListN.{length, length-set}
 use lib.IntN.{ℤ, pos}
-use Rattle.payloads.specs.Results.{Filled, Covered}
+use Rattle.payloads.specs.Results.{Filled}
 use Rattle.payloads.specs.Laws.Writing.{filled-start, filled-next}
 use Rattle.payloads.specs.Laws.Runs.{covered-filled}
 use Rattle.floats.proofs.fill_bits.Statement.{statement}

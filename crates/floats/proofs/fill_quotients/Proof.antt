@@ -7,7 +7,6 @@ use mir.Syntax.{w32}
 use mir.Val.{toZ, ofZ}
 use mir.Facts.{toZ-ofZ}
 use borrow.Author.Needs.{needs}
-use Rattle.payloads.specs.Held.{exact}
 use Rattle.payloads.specs.Results.{Filled}
 use Rattle.payloads.specs.Laws.Writing.{filled-start, filled-next}
 use Rattle.floats.specs.Calls.{bitsBy}

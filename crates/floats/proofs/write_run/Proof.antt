@@ -1,5 +1,5 @@
 -- Four floats that are the run and more (`covered-four`), or the run alone.
-use mathlib.Core.Path.{_≡_, sym, _∙_}
+use mathlib.Core.Path.{sym, _∙_}
 use Prim.Native.Nat.{_≤_}
 use native.Mathlib.Omega.{arith}
 use lib.ListN.{length-set}
@@ -12,21 +12,27 @@ use Rattle.floats.proofs.write_run.Statement.{statement}
 use Rattle.floats.proofs.write_run.Tie as tie
 
 -- a run of at most four where four are left
-short : (c : tie.Then1) → (c .before .before .before .args .count ≤ 4) × (4 ≤ c .before .before .before .args .left)
+short : (c : tie.Then2) → (c .before .before .before .before .args .count ≤ 4) × (4 ≤ c .before .before .before .before .args .left)
 short c =
-    let b = and-both (leb (c .before .before .before .args .count) 4) (leb 4 (c .before .before .before .args .left)) (sym (c .before .is-short .ensures) ∙ c .if1 .taken) in
-    (leb-true (c .before .before .before .args .count) 4 (b .0), leb-true 4 (c .before .before .before .args .left) (b .1))
+    let b = and-both (leb (c .before .before .before .before .args .count) 4) (leb 4 (c .before .before .before .before .args .left)) (sym (c .before .is-short .ensures) ∙ c .if2 .taken) in
+    (leb-true (c .before .before .before .before .args .count) 4 (b .0), leb-true 4 (c .before .before .before .before .args .left) (b .1))
 
 returns : tie.Need-returns
-returns c = let a = c .before .before .before in covered-four (a .args .bits) 0 (a .args .buffer .now) (a .args .from) (a .args .count) (a .args .left) (short c .0) (short c .1) (a .pre .1)
+returns c = let w = c .before .before .fill-bits .ensures in let p = c .before .before .before .before .before .before .pre .0 in (w .0, w .1, omega (arith, w .2), w .3)
 
 returns-2 : tie.Need-returns-2
-returns-2 c = let w = c .before .before .fill-bits .ensures in let p = c .before .before .before .before .before .before .before .pre .0 in (w .0, w .1, omega (arith, w .2), w .3)
+returns-2 c = let a = c .before .before .before .before in covered-four (a .args .bits) 0 (a .args .buffer .now) (a .args .from) (a .args .count) (a .args .left) (short c .0) (short c .1) (a .pre .1)
+
+returns-3 : tie.Need-returns-3
+returns-3 c = let w = c .before .before .fill-bits2 .ensures in let p = c .before .before .before .before .before .before .before .before .pre .0 in (w .0, w .1, omega (arith, w .2), w .3)
 
 pub write-run-spec : {M : Type 1} → statement M
 write-run-spec =
     tie.close
     (tie.spec
+    (λ c κs. search needs)
+    (λ c. search needs)
+    returns
     (λ c κs. search needs)
     (λ c. search needs)
     (λ c. omega (arith, short c .0, short c .1))
@@ -40,7 +46,7 @@ write-run-spec =
     (λ c. search needs)
     (λ c. simp length-set (omega (arith, short c .0, short c .1)))
     (λ c. search needs)
-    returns
+    returns-2
     (λ c κs. search needs)
     (λ c. search needs)
-    returns-2)
+    returns-3)

@@ -1,14 +1,8 @@
 -- The lists are found, their lengths taken, and rule 5 judged; what a file holds has no more than 32 bits.
-use mathlib.Core.Path.{_≡_, refl, sym, ap, ap₂, subst, _∙_}
-use mathlib.Core.Bool.{Bool, true, false, cond}
-use Prim.Native.Nat.{ℕ, _+_, _-_, _*_, _/_, _%_, _≤_, _<_}
+use mathlib.Core.Path.{sym, ap, _∙_}
+use Prim.Native.Nat.{_-_, _/_}
 use native.Mathlib.Omega.{arith}
-use lib.ListN.{length, take, drop, set, length-set}
-use Rattle.heads.specs.Table.{leadTable}
-use Rattle.messagepack.specs.Limits.{fileLimit}
-use Rattle.messagepack.specs.Document.{Document, Documents, Entries, count, size}
-use Rattle.values.specs.Places.{At, AtAll, AtEntries}
-use Rattle.values.specs.Laws.Places.{at-standing}
+use Rattle.messagepack.specs.Document.{count}
 use native.Mathlib.Nat.{mod-eq-of-lt}
 use Rattle.groups.specs.Group.{under}
 use Rattle.groups.specs.Steps.{Counted}
@@ -21,7 +15,8 @@ use Rattle.groups.proofs.group_at.Tie as tie
 returns : tie.Need-returns
 returns c =
     λ t l x e a.
-    let p = c .before .before .before .before .before .before .before .places-at .ensures t x e a in
+    let f = c .before .before .before .before .before .before .before .before .places-at .ensures t x e a in
+    let p = f .lists in
     let names = c .before .before .before .before .before .before .list-at .ensures .1 t (under "atomNameList" x) (p .names) in
     let charges = c .before .before .before .before .before .list-at2 .ensures .1 t (under "formalChargeList" x) (p .charges) in
     let elements = c .before .before .before .before .list-at3 .ensures .1 t (under "elementList" x) (p .elements) in
@@ -35,6 +30,7 @@ returns c =
       number = c .before .judge .ensures t x p k (omega arith);
       atoms = λ q. mod-eq-of-lt (omega arith) ∙ atoms-are;
       bonds = λ q. mod-eq-of-lt (omega arith) ∙ ap (λ (z : lst.List). z .count / 2) bonds ∙ sym (pairs-is (under "bondAtomList" x));
+      ends = f .ends;
     }
 
 pub group-at-spec : {M : Type 1} → statement M

@@ -1,14 +1,12 @@
 -- The types before are fine and stand in the tables; the one at hand is judged.
-use mathlib.Core.Path.{_≡_, refl, sym, ap, ap₂, subst, _∙_}
-use mathlib.Core.Bool.{Bool, true, false, cond}
-use Prim.Native.Nat.{ℕ, _+_, _-_, _*_, _/_, _%_, _≤_, _<_}
+use mathlib.Core.Path.{_≡_, _∙_}
+use Prim.Native.Nat.{ℕ, _-_, _≤_}
 use native.Mathlib.Omega.{arith}
-use lib.ListN.{length, take, drop, set, length-set}
+use lib.ListN.{length, length-set}
 use Rattle.heads.specs.Table.{leadTable}
 use Rattle.messagepack.specs.Limits.{fileLimit}
-use Rattle.messagepack.specs.Document.{Document, Documents, Entries, count, size}
-use Rattle.values.specs.Places.{At, AtAll, AtEntries}
-use Rattle.values.specs.Laws.Places.{at-standing}
+use Rattle.messagepack.specs.Document.{Documents, count}
+use Rattle.values.specs.Places.{AtAll}
 use Rattle.groups.specs.Laws.Group.{Judged, judged-start, judged-next, judged-refused, judged-more, judged-end}
 use borrow.Author.Needs.{needs}
 use Rattle.groups.proofs.groups_from.Statement.{statement}
@@ -45,21 +43,21 @@ element-write-bonds : tie.Need-element-write-bonds Inv-loop μ-loop
 element-write-bonds c = omega (arith, c .before .before .before .before .loop .inv .1, c .before .before .before .loop-test .taken)
 
 add-i : tie.Need-add-i Inv-loop μ-loop
-add-i c = record { fits = omega (arith, c .before .before .before .before .before .loop .inv .1, c .before .before .before .before .loop-test .taken) }
+add-i c = record { fits = omega (arith, c .before .before .before .before .loop .inv .1, c .before .before .before .loop-test .taken) }
 
 loop-less : tie.Need-loop-less Inv-loop μ-loop
-loop-less c = omega (arith, c .before .before .before .before .loop-test .taken)
+loop-less c = omega (arith, c .before .before .before .loop-test .taken)
 
 loop-again : tie.Need-loop-again Inv-loop μ-loop
 loop-again c = (
-  omega (arith, c .before .before .before .before .loop-test .taken),
-  c .before .before .before .before .before .loop .inv .1,
+  omega (arith, c .before .before .before .loop-test .taken),
+  c .before .before .before .before .loop .inv .1,
   λ t l la lb ds e a k.
-      let v = c .before .before .before .before .before .loop .inv .2 t l la lb ds e a k in
-      let m = judged-next (v .2) (c .before .before .before .before .loop-test .taken) in
-      let g = c .before .before .before .group-at .ensures t l (m .x) (m .q) (m .first) in
-      let w = c .before .before .before .before .before .loop .inv .1 in
-      (length-set (c .before .before .before .before .before .loop .atoms) (c .before .before .before .before .before .loop .i) (c .before .before .before .group-at .result .atoms) ∙ v .0, length-set (c .before .before .before .before .before .loop .bonds) (c .before .before .before .before .before .loop .i) (c .before .before .before .group-at .result .bonds) ∙ v .1, judged-more (v .2) (c .before .before .before .before .loop-test .taken) (c .before .before .before .group-at .result) g (c .before .if1 .left) (c .skip .ensures t (m .q) (at-standing (m .first))) (omega (arith, v .0, c .before .before .before .before .loop-test .taken)) (omega (arith, v .1, c .before .before .before .before .loop-test .taken))),
+      let v = c .before .before .before .before .loop .inv .2 t l la lb ds e a k in
+      let m = judged-next (v .2) (c .before .before .before .loop-test .taken) in
+      let g = c .before .before .group-at .ensures t l (m .x) (m .q) (m .first) in
+      let w = c .before .before .before .before .loop .inv .1 in
+      (length-set (c .before .before .before .before .loop .atoms) (c .before .before .before .before .loop .i) (c .before .before .group-at .result .atoms) ∙ v .0, length-set (c .before .before .before .before .loop .bonds) (c .before .before .before .before .loop .i) (c .before .before .group-at .result .bonds) ∙ v .1, judged-more (v .2) (c .before .before .before .loop-test .taken) (c .before .before .group-at .result) g (c .if1 .left) (g .ends) (omega (arith, v .0, c .before .before .before .loop-test .taken)) (omega (arith, v .1, c .before .before .before .loop-test .taken))),
 )
 
 returns-2 : tie.Need-returns-2 Inv-loop μ-loop
@@ -82,7 +80,6 @@ groups-from-spec =
     element-write-atoms
     mul-bonds
     element-write-bonds
-    (λ c κs. search needs)
     add-i
     loop-less
     loop-again

@@ -1,14 +1,7 @@
 -- Orders lie between 1 and 4.
-use mathlib.Core.Path.{_≡_, refl, sym, ap, ap₂, subst, _∙_}
-use mathlib.Core.Bool.{Bool, true, false, cond}
-use Prim.Native.Nat.{ℕ, _+_, _-_, _*_, _/_, _%_, _≤_, _<_}
-use native.Mathlib.Omega.{arith}
-use mir.Syntax.{w32}
-use mir.Facts.{toZ-ofZ}
-use Rattle.values.specs.Parts.{itemsOf}
-use Rattle.lists.specs.Integers.{integersOf}
-use Rattle.survey.specs.Cells.{allBetween, allBelow}
-use Rattle.groups.specs.Group.{listIn, integersIn, ordersRight}
+use mathlib.Core.Path.{sym, ap, _∙_}
+use Prim.Native.Nat.{_-_}
+use Rattle.groups.specs.Group.{integersIn, ordersRight}
 use Rattle.groups.specs.Laws.Group.{place-none, place-some, none-ordered}
 use borrow.Author.Needs.{needs}
 use Rattle.groups.proofs.in_orders.Statement.{statement}

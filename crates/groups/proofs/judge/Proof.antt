@@ -1,12 +1,8 @@
 -- Each test is one of rule 5, in its order.
-use mathlib.Core.Path.{_≡_, refl, sym, ap, ap₂, subst, _∙_}
-use mathlib.Core.Bool.{Bool, true, false, cond}
-use Prim.Native.Nat.{ℕ, _+_, _-_, _*_, _/_, _%_, _≤_, _<_}
-use native.Mathlib.Omega.{arith}
+use mathlib.Core.Path.{sym, _∙_}
+use Prim.Native.Nat.{_-_}
 use borrow.Author.Tests.{not-true, not-false}
-use Rattle.groups.specs.Group.{under, bondAtomsOf, bondOrdersOf, bondsAgree, bondsInside, atomsOf, listIn}
-use Rattle.survey.specs.Cells.{allBelow}
-use Rattle.groups.specs.Steps.{agrees, listOf}
+use Rattle.groups.specs.Group.{under}
 use Rattle.groups.specs.Laws.Group.{agrees-is, group-charges, group-elements, group-bonds, group-inside, group-orders, group-fine}
 use borrow.Author.Needs.{needs}
 use Rattle.groups.proofs.judge.Statement.{statement}

@@ -1,11 +1,9 @@
 -- One less than the number of entries.
-use mathlib.Core.Path.{_≡_, refl, sym, ap, ap₂, subst, _∙_}
-use mathlib.Core.Bool.{Bool, true, false, cond}
-use Prim.Native.Nat.{ℕ, _+_, _-_, _*_, _/_, _%_, _≤_, _<_}
+use mathlib.Core.Path.{sym, _∙_}
+use Prim.Native.Nat.{_-_}
 use native.Mathlib.Omega.{arith}
 use mir.Syntax.{w32}
 use mir.Facts.{toZ-pos}
-use Rattle.groups.specs.Steps.{lastIndex}
 use Rattle.groups.specs.Laws.Group.{last-zero, last-suc}
 use borrow.Author.Needs.{needs}
 use Rattle.groups.proofs.last_index.Statement.{statement}

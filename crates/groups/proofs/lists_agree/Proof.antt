@@ -1,13 +1,9 @@
 -- Each case of the definition.
-use mathlib.Core.Path.{_≡_, refl, sym, ap, ap₂, subst, _∙_}
-use mathlib.Core.Bool.{Bool, true, false, cond}
-use Prim.Native.Nat.{ℕ, _+_, _-_, _*_, _/_, _%_, _≤_, _<_}
+use mathlib.Core.Path.{sym}
+use Prim.Native.Nat.{_-_}
 use native.Mathlib.Omega.{arith}
-use mathlib.Core.Bool.{_&&_}
-use lib.Dec.{eqb}
 use borrow.Author.Tests.{eq-eqb, ne-eqb, not-true, not-false}
 use Rattle.groups.specs.Laws.Group.{too-many}
-use borrow.Author.Needs.{needs}
 use Rattle.groups.proofs.lists_agree.Statement.{statement}
 use Rattle.groups.proofs.lists_agree.Tie as tie
 

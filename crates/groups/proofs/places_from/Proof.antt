@@ -1,16 +1,13 @@
 -- The keys are sought all at once, entry by entry.
-use mathlib.Core.Path.{_≡_, refl, sym, ap, ap₂, subst, _∙_}
-use mathlib.Core.Bool.{Bool, true, false, cond}
-use Prim.Native.Nat.{ℕ, _+_, _-_, _*_, _/_, _%_, _≤_, _<_}
+use mathlib.Core.Path.{_≡_, sym, subst}
+use Prim.Native.Nat.{ℕ, _-_}
 use native.Mathlib.Omega.{arith}
-use lib.ListN.{length, take, drop, set, length-set}
 use Rattle.heads.specs.Table.{leadTable}
-use Rattle.messagepack.specs.Limits.{fileLimit}
-use Rattle.messagepack.specs.Document.{Document, Documents, Entries, count, size}
-use Rattle.values.specs.Places.{At, AtAll, AtEntries}
+use Rattle.messagepack.specs.Document.{Entries, size}
+use Rattle.values.specs.Places.{AtEntries}
 use Rattle.values.specs.Laws.Places.{at-standing}
-use Rattle.keys.specs.Laws.Seeking.{Left, Turn, turn}
-use Rattle.groups.specs.Laws.Group.{SeekAll, seek-start, seek-turn, seek-end}
+use Rattle.keys.specs.Laws.Seeking.{Left, turn}
+use Rattle.groups.specs.Laws.Group.{SeekAll, seek-start, seek-turn, seek-end, entries-end}
 use borrow.Author.Needs.{needs}
 use Rattle.groups.proofs.places_from.Statement.{statement}
 use Rattle.groups.proofs.places_from.Tie as tie
@@ -42,7 +39,7 @@ returns : tie.Need-returns Inv-loop μ-loop
 returns c =
     λ t es e a k.
     let i = c .before .loop .inv t es e a k in
-    seek-end (i .0 .rest) (i .1) (omega (arith, i .0 .counts, c .loop-test .left))
+    record { lists = seek-end (i .0 .rest) (i .1) (omega (arith, i .0 .counts, c .loop-test .left)); ends = entries-end (i .0 .rest) (i .0 .all) (omega (arith, i .0 .counts, c .loop-test .left)) }
 
 pub places-from-spec : {M : Type 1} → statement M
 places-from-spec =

@@ -1,34 +1,38 @@
 -- Group types: the lists of one by their places, rule 5 case by case, and the tables of atoms and bonds.
 -- Assumes nothing.
 use mathlib.Core.Path.{_≡_, refl, sym, ap, ap₂, subst, _∙_}
-use mathlib.Core.Bool.{Bool, true, false, cond, _&&_}
+use mathlib.Core.Bool.{Bool, true, false, _&&_}
 use mathlib.Core.List.{List, [], _∷_, _++_, append-assoc}
 use mathlib.Core.Option.{Option, some, none as nothing}
 use Prim.Native.Nat.{ℕ, zero, suc, _+_, _-_, _*_, _/_, _%_, _≤_, _<_}
 use native.Mathlib.Omega.{arith}
+use native.Mathlib.Nat.{add-zero}
 use native.Mathlib.Numerals.{add-one}
 use lib.Dec.{eqb, leb, ltb}
 use lib.IntN.{ℤ, pos, negsuc}
-use lib.Signed.{leZ}
 use lib.ListN.{length, getD, take, drop, set, take-append-drop}
 use lib.Seq.{drop-cons, drop-set-lt, take-suc-set}
-use borrow.Author.Tests.{eq-eqb, ne-eqb, le-leb, lt-leb, lt-ltb, le-ltb, ltb-true, ltb-false}
+use borrow.Author.Tests.{eq-eqb, ne-eqb, le-leb, lt-leb, le-ltb, ltb-true, ltb-false}
 use Rattle.refusal.specs.Table.{accepted, countsDisagree, indexOutside, valueOutside}
-use Rattle.messagepack.specs.Document.{Document, Documents, Entries, none, item, count, size}
+use Rattle.messagepack.specs.Document.{Document, Documents, Entries, none, item, count, size, integer, float, string, binary, array, map, empty, entry, WritesEntries}
 use Rattle.values.specs.Parts.{itemsOf, entriesOf}
-use Rattle.values.specs.Places.{At, AtAll}
-use Rattle.values.specs.Laws.Places.{open-item}
+use Rattle.values.specs.Places.{At, AtAll, AtEntries}
+use Rattle.values.specs.Laws.Places.{open-item, open-map, heads, isMap, read-heads, no-entries}
+use Rattle.heads.specs.Head.{kindAt, headAt}
+use Rattle.heads.specs.declared.Kind.{Kind}
+use Rattle.heads.specs.declared.Head.{Head}
 use Rattle.values.specs.declared.Part.{Part}
-use Rattle.fields.specs.Types.{bytesIn, look}
+use Rattle.utf8.specs.Ascii.{ascii}
 use Rattle.fields.specs.Noted.{PlaceSays, gone, there}
 use Rattle.survey.specs.Cells.{allPass, between, below, allBetween, allBelow}
-use Rattle.lists.specs.Integers.{integersOf}
 use Rattle.lists.specs.Laws.Integers.{length-integers}
 use Rattle.keys.specs.Seeking.{Seeking}
 use Rattle.keys.specs.Laws.Seeking.{Turn, seeking-start, seeking-end, seeking-turn}
-use Rattle.groups.specs.Group.{under, itemsIn, integersIn, listIn, bondsAgree, pairs, ordersRight, atomsOf, bondAtomsOf, bondOrdersOf, bondsOf, listsAgree, bondsInside, groupNumber, orElse, groupsNumber, each}
-use Rattle.groups.specs.Steps.{PlacesIn, noted, listOf, agrees, lastIndex, tableOf, Tables, GroupSays}
+use Rattle.fields.specs.Laws.Types.{clash}
+use Rattle.groups.specs.Group.{under, itemsIn, integersIn, bondsAgree, pairs, ordersRight, atomsOf, bondAtomsOf, bondOrdersOf, bondsOf, listsAgree, bondsInside, groupNumber, orElse, groupsNumber, each}
+use Rattle.groups.specs.Steps.{PlacesIn, noted, listOf, agrees, lastIndex, tableOf, Tables, GroupSays, FoundIn, noLists}
 use Rattle.groups.specs.declared.Places.{Places}
+use Rattle.groups.specs.declared.Found.{Found}
 use Rattle.groups.specs.declared.Group as g
 
 -- a place that is 0 has no document, another has one
@@ -78,9 +82,6 @@ pairs-is nothing = refl
 pairs-is (some x) = ap (λ (n : ℕ). n / 2) (length-integers (itemsOf x))
 
 -- rule 5, case by case
-clash : {A : Type 0} → false ≡ true → A
-clash q = let z : _≡_ {A = ℕ} 0 1 = cc in absurd (omega arith)
-
 module _ (x : Document) where
   pub group-charges : (count (itemsIn (under "formalChargeList" x)) ≡ atomsOf x → ⊥) → countsDisagree ≡ groupNumber x
   unfolding groupNumber
@@ -114,11 +115,11 @@ module _ (x : Document) where
 
 -- the search for five keys at once
 pub record SeekAll (s : List ℕ) (es rest : Entries) (r : Places) : Type 0 where
-  pub charges : Seeking s (bytesIn "formalChargeList") es rest (r .charges)
-  pub names : Seeking s (bytesIn "atomNameList") es rest (r .names)
-  pub elements : Seeking s (bytesIn "elementList") es rest (r .elements)
-  pub bonds : Seeking s (bytesIn "bondAtomList") es rest (r .bonds)
-  pub orders : Seeking s (bytesIn "bondOrderList") es rest (r .orders)
+  pub charges : Seeking s (ascii "formalChargeList") es rest (r .charges)
+  pub names : Seeking s (ascii "atomNameList") es rest (r .names)
+  pub elements : Seeking s (ascii "elementList") es rest (r .elements)
+  pub bonds : Seeking s (ascii "bondAtomList") es rest (r .bonds)
+  pub orders : Seeking s (ascii "bondOrderList") es rest (r .orders)
 
 -- the last index
 pub last-zero : {n : ℕ} → n ≡ 0 → lastIndex n ≡ negsuc 0
@@ -161,6 +162,39 @@ seek-end rest k l = record {
   bonds = seeking-end rest (k .bonds) l;
   orders = seeking-end rest (k .orders) l;
 }
+
+-- no entry is left: here they end
+pub entries-end : {s : List ℕ} {p e : ℕ} (es : Entries) → AtEntries s p es e → size es ≤ 0 → p ≡ e
+unfolding size WritesEntries
+entries-end {s} {p} empty a l = sym (a .span .ends ∙ ap (λ (w : List ℕ). p + length w) (a .writes) ∙ add-zero p)
+entries-end (entry k x es) a l = absurd (omega arith)
+
+-- the entries of a map by its head
+pub record MapAt (s : List ℕ) (x : Document) (n r e : ℕ) : Type 0 where
+  pub counts : size (entriesOf x) ≡ n
+  pub all : AtEntries s r (entriesOf x) e
+
+pub map-at : {s : List ℕ} {p e n r : ℕ} (x : Document) → At s p x e → headAt s p ≡ Head.At n r → kindAt s p ≡ Kind.Map → MapAt s x n r e
+map-at {s} {p} {e} {n} {r} x a h q = go x a (read-heads x a q)
+  where
+    go : (z : Document) → At s p z e → heads z Kind.Map ≡ true → MapAt s z n r e
+    go (map es) b g =
+        let o = open-map b in
+        let i = sym (o .told .head) ∙ h in
+        let j : o .q ≡ r = cc in
+        record { counts = cc; all = subst (λ (m : ℕ). AtEntries s m es e) j (o .all) }
+    go (string t) b g = clash g
+    go (binary t) b g = clash g
+    go (integer v) b g = clash g
+    go (float bits) b g = clash g
+    go (array ds) b g = clash g
+
+-- what is no map has no lists
+no-lists : {s : List ℕ} {p e : ℕ} (x : Document) → At s p x e → {k : Kind} → kindAt s p ≡ k → isMap k ≡ false → PlacesIn s (entriesOf x) noLists
+no-lists x a q f = let n = no-entries x a q f in seek-end (entriesOf x) seek-start (omega (arith, n .counts))
+
+pub found-none : {s : List ℕ} {p e : ℕ} (x : Document) → At s p x e → {k : Kind} → kindAt s p ≡ k → isMap k ≡ false → {r : Found} → r .places ≡ noLists → r .end ≡ e → FoundIn s (entriesOf x) e r
+found-none {s} x a q f l e = record { lists = subst (PlacesIn s (entriesOf x)) (sym l) (no-lists x a q f); ends = e }
 
 -- rule 5 over the types: the first i of them are fine and stand in the tables, and the others are left
 pub record Judged (s : List ℕ) (types : Documents) (i n p e : ℕ) (old-atoms old-bonds atoms bonds : List ℕ) : Type 0 where
@@ -217,7 +251,7 @@ module _ {s : List ℕ} {types : Documents} {i n p e : ℕ} {old-atoms old-bonds
       refused (suc r) h q = sym (k .number ∙ ap groupsNumber (judged-next .is) ∙ ap (λ (m : ℕ). orElse m (groupsNumber (judged-next .after))) (sym q))
 
   -- a type that is fine stands in the tables
-  pub judged-more : {q : ℕ} (g : g.Group) → GroupSays (judged-next .x) g → g .refusal ≡ accepted → q ≡ judged-next .q → i < length atoms → i < length bonds → Judged s types (i + 1) n q e old-atoms old-bonds (set atoms i (g .atoms)) (set bonds i (g .bonds))
+  pub judged-more : {q : ℕ} (g : g.Group) → GroupSays (judged-next .x) (judged-next .q) g → g .refusal ≡ accepted → q ≡ judged-next .q → i < length atoms → i < length bonds → Judged s types (i + 1) n q e old-atoms old-bonds (set atoms i (g .atoms)) (set bonds i (g .bonds))
   unfolding groupsNumber count
   judged-more {q} g says fine end la lb =
       let m = judged-next in

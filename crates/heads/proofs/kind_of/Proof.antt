@@ -1,6 +1,5 @@
 -- A number's arm is its kind.
 use mathlib.Core.Path.{sym, ap}
-use borrow.Author.Needs.{needs}
 use borrow.Author.Tests.{ne-eqb}
 use Rattle.heads.specs.Table.{kindFrom}
 use Rattle.heads.proofs.kind_of.Statement.{statement}

@@ -8,9 +8,9 @@ use native.Mathlib.Omega.{arith}
 use native.Mathlib.Nat.{add-zero, zero-add, add-suc, suc-add, le-of-suc-le-suc, not-suc-le-zero}
 use lib.Arith.{digits-div, digits-mod}
 use lib.Dec.{ltb, leb, eqb}
-use lib.ListN.{length, getD, take, drop}
+use lib.ListN.{length, getD}
 use borrow.Author.Tests.{leb-true, eqb-true, ltb-true, ltb-false, lt-ltb, le-ltb}
-use Rattle.numbers.specs.BigEndian.{Bytes, unsignedAt}
+use Rattle.numbers.specs.BigEndian.{Bytes}
 use Rattle.numbers.specs.Laws.BigEndian.{unsignedAt-in, byte-at}
 use Rattle.heads.specs.Lead.{Row, row, leadBytes, inRow, rowIn, kindOf, moreOf, heldBy}
 use Rattle.heads.specs.Head.{kindAt, headNumber, headFrom, headAt}

@@ -3,11 +3,11 @@
 use mathlib.Core.Path.{_≡_, refl, sym, ap, subst, _∙_}
 use mathlib.Core.Bool.{Bool, true, false, _&&_}
 use mathlib.Core.List.{List}
-use mathlib.Core.Option.{Option, some, none as nothing}
+use mathlib.Core.Option.{Option}
 use Prim.Native.Nat.{ℕ, suc, _-_, _≤_, _<_}
 use native.Mathlib.Omega.{arith}
 use Rattle.messagepack.specs.Document.{Document, Documents, none, item, count}
-use Rattle.values.specs.Places.{At, AtAll}
+use Rattle.values.specs.Places.{AtAll}
 use Rattle.fields.specs.Tests.{all}
 use Rattle.fields.specs.Noted.{PlaceSays}
 use Rattle.lists.specs.Laws.Integers.{Next, next-of}

@@ -1,19 +1,13 @@
 -- The name is that of the entry at hand, or it is sought among those that are left.
-use mathlib.Core.Path.{_≡_, refl, sym, ap, subst, _∙_}
-use mathlib.Core.Bool.{Bool, true, false, cond}
-use Prim.Native.Nat.{ℕ, _+_, _-_, _≤_, _<_}
+use mathlib.Core.Path.{_≡_, sym, subst, _∙_}
+use Prim.Native.Nat.{ℕ, _-_}
 use native.Mathlib.Omega.{arith}
-use lib.ListN.{length, take, drop}
 use Rattle.heads.specs.Table.{leadTable}
-use Rattle.messagepack.specs.Document.{Document, Entries, size}
-use Rattle.messagepack.specs.Equal.{equal}
-use Rattle.values.specs.Places.{At, AtEntries}
+use Rattle.messagepack.specs.Document.{Entries, size}
+use Rattle.values.specs.Places.{AtEntries}
 use Rattle.values.specs.Laws.Places.{at-standing}
-use Rattle.fields.specs.Types.{look}
-use Rattle.fields.specs.Noted.{PlaceSays}
 use Rattle.keys.specs.Seeking.{Seeking}
-use Rattle.keys.specs.Laws.Seeking.{Left, Turn, turn, seeking-start, seeking-end, seeking-found, seeking-turn, part-equal}
-use borrow.Author.Tests.{not-true, not-false}
+use Rattle.keys.specs.Laws.Seeking.{Left, turn, seeking-start, seeking-end, seeking-found, seeking-turn, part-equal}
 use borrow.Author.Needs.{needs}
 use Rattle.keys.proofs.find_from.Statement.{statement}
 use Rattle.keys.proofs.find_from.Tie as tie

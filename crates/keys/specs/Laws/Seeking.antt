@@ -1,16 +1,16 @@
 -- A search for a key, entry by entry: keys are different, so that a name is found once.
 -- Assumes nothing.
-use mathlib.Core.Path.{_≡_, refl, sym, ap, subst, _∙_}
+use mathlib.Core.Path.{_≡_, refl, sym, subst, _∙_}
 use mathlib.Core.Bool.{Bool, true, false, cond}
-use mathlib.Core.List.{List, [], _∷_}
-use mathlib.Core.Option.{Option, some, none as nothing}
-use Prim.Native.Nat.{ℕ, zero, suc, _+_, _-_, _≤_, _<_}
+use mathlib.Core.List.{List}
+use mathlib.Core.Option.{some}
+use Prim.Native.Nat.{ℕ, _+_, _-_, _≤_, _<_}
 use native.Mathlib.Omega.{arith}
-use lib.ListN.{length, take, drop}
+use lib.ListN.{take, drop}
 use Rattle.messagepack.specs.Document.{Document, Entries, string, empty, entry, size}
 use Rattle.messagepack.specs.Rules.{NoKey}
 use Rattle.messagepack.specs.Equal.{equal}
-use Rattle.messagepack.specs.Laws.Keys.{equal-true, equal-refl}
+use Rattle.messagepack.specs.Laws.Keys.{equal-true}
 use Rattle.values.specs.Places.{At, AtEntries, TextAt}
 use Rattle.values.specs.Laws.Places.{open-entry, at-inside}
 use Rattle.values.specs.declared.Part.{Part}
@@ -61,9 +61,6 @@ turn {s} {p} {left} {e} l pos key f = go (l .rest) (l .all) (l .counts)
           counts = omega arith;
           positive = omega (arith, i .0, t .ends);
         }
-
-clash : {A : Type 0} → false ≡ true → A
-clash q = let z : _≡_ {A = ℕ} 0 1 = cc in absurd (omega arith)
 
 module _ {s name : List ℕ} {es : Entries} where
   pub seeking-start : Seeking s name es es 0

@@ -4,7 +4,6 @@ use Prim.Native.Nat.{ℕ, _<_}
 use native.Mathlib.Omega.{arith}
 use borrow.Fn.Kinds.{In}
 use borrow.Fn.PlainCycle.{Measures, is, falls, and}
-use borrow.Author.Needs.{needs}
 use Rattle.text.specs.Laws.Put.{put-none, put-more, put-as, put-length}
 use Rattle.text.proofs.digit.Reads as digit-reads
 use Rattle.text.proofs.put_byte.Reads as put-byte-reads

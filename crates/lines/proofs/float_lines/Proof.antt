@@ -1,6 +1,5 @@
 -- The lines of the values before i stand in the buffer.
-use mathlib.Core.Path.{sym}
-use Prim.Native.Nat.{ℕ, _-_}
+use Prim.Native.Nat.{_-_}
 use native.Mathlib.Omega.{arith}
 use lib.ListN.{length}
 use borrow.Author.Needs.{needs}

@@ -1,5 +1,4 @@
 -- The test for a subnormal float is the definition's.
-use mathlib.Core.Path.{sym}
 use borrow.Author.Tests.{eq-eqb, ne-eqb}
 use Rattle.lines.proofs.lead_of.Statement.{statement}
 use Rattle.lines.proofs.lead_of.Tie as tie

@@ -4,7 +4,6 @@ use Prim.Native.Nat.{ℕ, _+_, _-_, _<_, _≤_}
 use native.Mathlib.Nat.{pos-of-ne-zero}
 use native.Mathlib.Omega.{arith}
 use lib.ListN.{length, take, drop}
-use borrow.Author.Needs.{needs}
 use Rattle.text.specs.Laws.Put.{put-length, put-as}
 use Rattle.lines.specs.Texts.{nameText}
 use Rattle.lines.specs.Lines.{line}

@@ -1,9 +1,7 @@
 -- The tests are the definition's; the line feed comes after the text.
-use mathlib.Core.Path.{ap, _∙_}
-use mathlib.Core.List.{List, [], _∷_, _++_, append-assoc}
-use Prim.Native.Nat.{ℕ}
+use mathlib.Core.List.{append-assoc}
 use borrow.Author.Needs.{needs}
-use borrow.Author.Tests.{eq-eqb, ne-eqb, not-true, not-false}
+use borrow.Author.Tests.{eq-eqb, ne-eqb}
 use Rattle.text.specs.Laws.Put.{put-more, put-as}
 use Rattle.lines.proofs.put_float.Statement.{statement}
 use Rattle.lines.proofs.put_float.Tie as tie

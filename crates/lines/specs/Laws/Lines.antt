@@ -1,5 +1,5 @@
 -- Laws of lines in a buffer, for values of any kind: one line more, and the two ends. Assumes nothing.
-use mathlib.Core.Path.{_≡_, refl, sym, ap, subst, _∙_}
+use mathlib.Core.Path.{_≡_, refl, sym, ap, _∙_}
 use mathlib.Core.Bool.{Bool, true, false, cond}
 use mathlib.Core.List.{List, [], _∷_, _++_, append-assoc, append-nil}
 use Prim.Native.Nat.{ℕ, zero, suc, _+_, _-_, _*_, _/_, _<_, _≤_}
@@ -8,7 +8,7 @@ use native.Mathlib.Nat.{sub-zero, div-zero, div-eq-of-lt, div-eq-sub-div, pos-of
 use native.Mathlib.Numerals.{add-one}
 use lib.Dec.{leb}
 use lib.ListN.{length, getD, take, drop, length-append, length-drop, take-append-drop, drop-of-length-le}
-use lib.Seq.{sets, take-at, take-suc, drop-cons, drop-drop, length-take-le}
+use lib.Seq.{take-at, take-suc, drop-cons, drop-drop, length-take-le}
 use borrow.Author.Tests.{le-leb, lt-leb}
 use Rattle.text.specs.Put.{Put}
 use Rattle.text.specs.Laws.Put.{put-none, put-more, put-as, put-fits, put-length}

@@ -16,7 +16,7 @@ use Rattle.text.specs.Decimal.{glyph, decimal}
 use Rattle.text.specs.Laws.Decimal.{decimal-few}
 use Rattle.lines.specs.declared.Places.{Places}
 use Rattle.lines.specs.declared.Places.the-variants.{Exactly, Endless}
-use Rattle.lines.specs.Texts.{digits, placesBelow, placesOf, fractionText, quotientText, magnitudeText, numberText, exponentOf, fractionOf, signText, leadOf, scaledOf, exponentText, finiteText, floatText, nameText}
+use Rattle.lines.specs.Texts.{digits, placesBelow, placesOf, fractionText, quotientText, magnitudeText, numberText, exponentOf, fractionOf, signText, scaledOf, exponentText, finiteText, floatText, nameText}
 use Rattle.lines.specs.Lines.{line}
 
 -- Digits

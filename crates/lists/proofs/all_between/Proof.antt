@@ -1,20 +1,34 @@
--- The values of the array are those that are judged.
-use mathlib.Core.Path.{_≡_, sym, ap₂, _∙_}
+-- The values of the array are those that are judged, all at once where they are integers in their lead bytes.
+use mathlib.Core.Path.{ap₂, _∙_}
 use lib.IntN.{ℤ}
 use mir.Syntax.{w32}
+use mir.Val.{toZ, ofZ}
 use mir.Facts.{toZ-ofZ}
 use Rattle.values.specs.Parts.{itemsOf}
-use Rattle.survey.specs.Cells.{allBetween}
+use Rattle.survey.specs.Cells.{between, allBetween}
 use Rattle.lists.specs.Integers.{integersOf}
+use Rattle.lists.specs.Laws.Integers.{low-pass}
 use borrow.Author.Needs.{needs}
 use Rattle.lists.proofs.all_between.Statement.{statement}
 use Rattle.lists.proofs.all_between.Tie as tie
 
+low-between-requires : tie.Need-low-between-requires
+low-between-requires c κs = c .before .all-low .ensures .0 (c .if1 .taken) .within
+
 returns : tie.Need-returns
 returns c =
     λ t x e a.
-    let i = c .before .items-at .ensures .1 t x e a in
-    c .between-from .ensures t (itemsOf x) (i .end) (i .all) (i .counts) ∙ ap₂ (λ (l h : ℤ). allBetween l h (integersOf (itemsOf x))) (toZ-ofZ {w = w32} (c .before .before .before .fits .low)) (toZ-ofZ {w = w32} (c .before .before .before .fits .high))
+    let i = c .before .before .before .before .items-at .ensures .1 t x e a in
+    let b = c .before .before .before .before .before .before in
+    low-pass (between (toZ w32 (ofZ w32 (b .args .low))) (toZ w32 (ofZ w32 (b .args .high)))) (i .all) (i .counts) (c .before .before .before .all-low .ensures .0 (c .before .before .if1 .taken)) (c .before .low-between .ensures (c .if2 .taken))
+    ∙ ap₂ (λ (l h : ℤ). allBetween l h (integersOf (itemsOf x))) (toZ-ofZ {w = w32} (b .fits .low)) (toZ-ofZ {w = w32} (b .fits .high))
+
+returns-2 : tie.Need-returns-2
+returns-2 c =
+    λ t x e a.
+    let i = c .before .before .before .items-at .ensures .1 t x e a in
+    let b = c .before .before .before .before .before in
+    c .between-from .ensures t (itemsOf x) (i .end) (i .all) (i .counts) ∙ ap₂ (λ (l h : ℤ). allBetween l h (integersOf (itemsOf x))) (toZ-ofZ {w = w32} (b .fits .low)) (toZ-ofZ {w = w32} (b .fits .high))
 
 pub all-between-spec : {M : Type 1} → statement M
 all-between-spec =
@@ -22,4 +36,7 @@ all-between-spec =
     (tie.spec
     (λ c κs. search needs)
     (λ c κs. search needs)
-    returns)
+    low-between-requires
+    returns
+    (λ c κs. search needs)
+    returns-2)

@@ -1,19 +1,13 @@
 -- What is left of the values decides, since those before lie between the two numbers.
-use mathlib.Core.Path.{_≡_, refl, sym, ap, subst, _∙_}
-use mathlib.Core.Bool.{Bool, true, false}
-use Prim.Native.Nat.{ℕ, _+_, _-_, _*_, _≤_, _<_}
-use native.Mathlib.Omega.{arith}
-use lib.ListN.{length}
-use lib.IntN.{ℤ, pos}
+use mathlib.Core.Path.{_≡_, sym, _∙_}
+use Prim.Native.Nat.{ℕ, _-_}
 use mir.Syntax.{w32}
 use mir.Val.{toZ, ofZ}
 use mir.Facts.{toZ-ofZ}
 use Rattle.heads.specs.Table.{leadTable}
-use Rattle.messagepack.specs.Limits.{fileLimit}
-use Rattle.messagepack.specs.Document.{Document, Documents, count}
-use Rattle.values.specs.Places.{At, AtAll}
-use Rattle.survey.specs.Cells.{between, allPass}
-use Rattle.lists.specs.Integers.{integersOf}
+use Rattle.messagepack.specs.Document.{Documents, count}
+use Rattle.values.specs.Places.{AtAll}
+use Rattle.survey.specs.Cells.{between}
 use borrow.Author.Tests.{not-true, not-false}
 use Rattle.lists.specs.Laws.Integers.{Judging, judging-start, judging-more, judging-out, judging-end}
 use borrow.Author.Needs.{needs}

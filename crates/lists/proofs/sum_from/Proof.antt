@@ -1,17 +1,15 @@
 -- What is left of the values gives the rest of the sum; a file has no more values than bytes, so that the sum has room.
-use mathlib.Core.Path.{_≡_, refl, sym, ap, subst, _∙_}
-use mathlib.Core.Bool.{Bool, true, false}
-use Prim.Native.Nat.{ℕ, _+_, _-_, _*_, _≤_, _<_}
+use mathlib.Core.Path.{_≡_, _∙_}
+use Prim.Native.Nat.{ℕ, _-_, _*_, _≤_}
 use native.Mathlib.Omega.{arith}
 use lib.ListN.{length}
-use lib.IntN.{ℤ, pos}
 use mir.Syntax.{w32}
 use mir.Val.{toZ, ofZ}
 use mir.Facts.{toZ-ofZ}
 use Rattle.heads.specs.Table.{leadTable}
 use Rattle.messagepack.specs.Limits.{fileLimit}
-use Rattle.messagepack.specs.Document.{Document, Documents, count}
-use Rattle.values.specs.Places.{At, AtAll}
+use Rattle.messagepack.specs.Document.{Documents, count}
+use Rattle.values.specs.Places.{AtAll}
 use Rattle.survey.specs.Laws.Cells.{index-bits}
 use Rattle.lists.specs.Laws.Integers.{all-few, Summing, summing-start, summing-more, summing-negative, summing-end}
 use borrow.Author.Needs.{needs}

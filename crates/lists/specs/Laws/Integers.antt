@@ -1,19 +1,22 @@
 -- Integers one after another: what is left of an array decides with what is gathered.
 -- Assumes nothing.
-use mathlib.Core.Path.{_≡_, refl, sym, ap, ap₂, subst, _∙_}
-use mathlib.Core.Bool.{Bool, true, false, cond, _&&_}
-use mathlib.Core.List.{List, [], _∷_}
+use mathlib.Core.Path.{_≡_, refl, sym, ap, subst, _∙_}
+use mathlib.Core.Bool.{Bool, true, false, _&&_}
+use mathlib.Core.List.{List, _∷_}
 use Prim.Native.Nat.{ℕ, zero, suc, _+_, _-_, _≤_, _<_}
 use native.Mathlib.Omega.{arith}
 use borrow.Author.Tests.{le-leb, ltb-true}
 use lib.IntN.{ℤ, pos, negsuc, natAbs}
 use lib.Signed.{leZ, ltZ}
-use lib.ListN.{length}
+use native.Mathlib.Nat.{add-zero}
+use lib.ListN.{length, getD}
 use Rattle.messagepack.specs.Document.{Document, Documents, none, item, count}
 use Rattle.values.specs.Parts.{integerOf}
 use Rattle.values.specs.Places.{At, AtAll}
-use Rattle.values.specs.Laws.Places.{OpenItem, open-item, at-inside, all-inside}
-use Rattle.survey.specs.Cells.{allPass, allBetween, between}
+use Rattle.values.specs.Laws.Places.{open-item, at-inside, all-inside, read-low}
+use Rattle.survey.specs.Cells.{allPass}
+use Rattle.values.specs.Standing.{LowRun}
+use Rattle.values.specs.Laws.Standing.{low-first, low-rest}
 use Rattle.lists.specs.Integers.{integersOf, noneNegative, sum, summed}
 use Rattle.lists.specs.declared.Sum.{Sum}
 
@@ -135,3 +138,18 @@ judging-end {s} {ds} {test} {p} {left} k l = go (k .rest) (k .counts) (k .same)
     go : (r : Documents) → count r ≡ left → allPass test (integersOf ds) ≡ allPass test (integersOf r) → true ≡ allPass test (integersOf ds)
     go none c q = sym q
     go (item d r) c q = absurd (omega arith)
+
+-- integers in their lead bytes, all at once
+
+low-judging : {s : List ℕ} {ds : Documents} {test : ℤ → Bool} {e : ℕ} (n p : ℕ) → LowRun s p n → ((i : ℕ) → i < n → test (pos (getD s (p + i) 0)) ≡ true) → Judging s ds test p n e → Judging s ds test (p + n) 0 e
+low-judging {s} {ds} {test} {e} zero p l pass k = subst (λ (q : ℕ). Judging s ds test q 0 e) (sym (add-zero p)) k
+low-judging {s} {ds} {test} {e} (suc n) p l pass k =
+    let b = low-first l in
+    let here : test (pos (getD s p 0)) ≡ true = subst (λ (q : ℕ). test (pos (getD s q 0)) ≡ true) (add-zero p) (pass 0 (omega arith)) in
+    let m : Judging s ds test (p + 1) (suc n - 1) e = judging-more (pos (getD s p 0)) k (omega arith) here (λ x f a. read-low x a (b .0) (b .1)) in
+    let o : Judging s ds test (p + 1) n e = subst (λ (j : ℕ). Judging s ds test (p + 1) j e) (omega arith) m in
+    let others : (i : ℕ) → i < n → test (pos (getD s (p + 1 + i) 0)) ≡ true = λ i h. subst (λ (q : ℕ). test (pos (getD s q 0)) ≡ true) (omega arith) (pass (suc i) (omega arith)) in
+    subst (λ (q : ℕ). Judging s ds test q 0 e) (omega arith) (low-judging n (p + 1) (low-rest l) others o)
+
+pub low-pass : {s : List ℕ} {ds : Documents} {p n e : ℕ} (test : ℤ → Bool) → AtAll s p ds e → count ds ≡ n → LowRun s p n → ((i : ℕ) → i < n → test (pos (getD s (p + i) 0)) ≡ true) → true ≡ allPass test (integersOf ds)
+low-pass {p = p} {n = n} test a c l pass = judging-end (low-judging n p l pass (judging-start a c)) (omega arith)

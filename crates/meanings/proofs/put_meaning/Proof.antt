@@ -1,10 +1,9 @@
 -- The rows before the one that is looked at have other numbers.
 use mathlib.Core.Path.{_≡_, refl, sym, ap, subst, _∙_}
 use mathlib.Core.List.{List}
-use Prim.Native.Nat.{ℕ, _+_, _-_, _<_, _≤_}
+use Prim.Native.Nat.{ℕ, _+_, _-_}
 use native.Mathlib.Omega.{arith}
 use lib.ListN.{length, getD, take, drop}
-use borrow.Author.Needs.{needs}
 use Rattle.text.specs.Put.{Put}
 use Rattle.text.specs.Laws.Put.{put-none, put-as, put-length}
 use Rattle.meanings.specs.Meanings.{meaningOf}

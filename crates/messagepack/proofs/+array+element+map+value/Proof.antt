@@ -1,15 +1,14 @@
 -- A value is walked by its kind, an array and a map by loops whose invariants say that what is left from here on decides, and that the rows of
 -- the maps that are open stay. The levels left fall with each array and map.
-use mathlib.Core.Path.{_≡_, sym, ap, refl, _∙_}
+use mathlib.Core.Path.{_≡_, sym, _∙_}
 use mathlib.Core.List.{List}
-use Prim.Native.Nat.{ℕ, _+_, _-_, _*_, _<_, _≤_}
+use Prim.Native.Nat.{ℕ, _+_, _-_, _*_, _<_}
 use native.Mathlib.Omega.{arith}
 use native.Mathlib.Nat.{pos-of-ne-zero}
 use borrow.Author.Needs.{needs}
 use borrow.Fn.Kinds.{In}
 use borrow.Fn.PlainCycle.{Measures, is, falls, and}
-use Rattle.messagepack.specs.Limits.{entryLimit}
-use Rattle.messagepack.specs.Walk.{valueAt, manyAt, entriesAt, onHead}
+use Rattle.messagepack.specs.Walk.{valueAt, manyAt}
 use Rattle.messagepack.specs.Keys.{Free, Kept, Walked}
 use Rattle.messagepack.specs.declared.Walk.{Walk}
 use Rattle.messagepack.specs.Laws.Walk as w

@@ -1,5 +1,5 @@
 -- Each case is a case of the definition.
-use mathlib.Core.Path.{sym, ap, _∙_}
+use mathlib.Core.Path.{sym, ap}
 use borrow.Author.Needs.{needs}
 use Rattle.messagepack.specs.Quick.{leafOf}
 use Rattle.messagepack.proofs.as_leaf.Statement.{statement}

@@ -1,5 +1,5 @@
 -- The number is the definition's, which is 0 exactly for a container; the file's elements are bytes.
-use mathlib.Core.Path.{_≡_, sym, ap, _∙_}
+use mathlib.Core.Path.{sym, _∙_}
 use borrow.Author.Needs.{needs}
 use native.Mathlib.Omega.{arith}
 use Rattle.numbers.specs.Laws.BigEndian.{bytes-of}

@@ -1,5 +1,4 @@
 -- What is left from here on decides, at every depth.
-use mathlib.Core.Path.{_≡_}
 use borrow.Author.Needs.{needs}
 use Rattle.messagepack.specs.Quick.{RunSays}
 use Rattle.messagepack.specs.Laws.Quick.{run-first, run-next}

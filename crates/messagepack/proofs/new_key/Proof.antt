@@ -1,8 +1,8 @@
 -- Each case of the key is a case of `Noted`; a key's place fits the table, since it ends inside the file.
-use mathlib.Core.Path.{_≡_, sym, _∙_}
+use mathlib.Core.Path.{sym, _∙_}
 use native.Mathlib.Omega.{arith}
 use borrow.Author.Needs.{needs}
-use Rattle.messagepack.specs.Keys.{Sought, refused, repeated, noted}
+use Rattle.messagepack.specs.Keys.{refused, repeated, noted}
 use Rattle.heads.specs.Laws.Head.{head-inside}
 use Rattle.messagepack.specs.Laws.Walk.{text-is, key-is}
 use Rattle.messagepack.proofs.new_key.Statement.{statement}

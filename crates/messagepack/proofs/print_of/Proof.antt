@@ -1,7 +1,6 @@
--- A print is the size with the last bytes added, modulo 2^32.
-use mathlib.Core.Path.{sym, ap, _∙_}
+-- A print is the size with the first and the last bytes added, modulo 2^32.
+use mathlib.Core.Path.{sym, ap, ap₂, _∙_}
 use Prim.Native.Nat.{ℕ, _+_, _*_, _%_}
-use native.Mathlib.Omega.{arith}
 use borrow.Author.Needs.{needs}
 use Rattle.messagepack.specs.Laws.Tables.{print-four, print-two, print-short}
 use Rattle.messagepack.proofs.print_of.Statement.{statement}
@@ -17,8 +16,10 @@ returns-2 c =
 
 returns-3 : tie.Need-returns-3
 returns-3 c =
-    let m = c .before .before .before .before .before .args .m in
-    c .wrapping-add-u322 .ensures ∙ ap (λ (n : ℕ). (m % 65536 * 65536 + n) % 4294967296) (c .before .read-u32 .ensures) ∙ sym (print-four _ _ _ (c .before .before .before .before .before .pre) (c .before .before .if2 .left))
+    let m = c .before .before .before .before .before .before .before .args .m in
+    c .wrapping-add-u323 .ensures
+    ∙ ap (λ (n : ℕ). (m % 65536 * 65536 + n) % 4294967296) (c .before .wrapping-add-u322 .ensures ∙ ap₂ (λ (x y : ℕ). (x + y) % 4294967296) (c .before .before .before .read-u32 .ensures) (c .before .before .read-u322 .ensures))
+    ∙ sym (print-four _ _ _ (c .before .before .before .before .before .before .before .pre) (c .before .before .before .before .if2 .left))
 
 pub print-of-spec : {M : Type 1} → statement M
 print-of-spec =
@@ -33,8 +34,10 @@ print-of-spec =
     (λ c. search needs)
     (λ c κs. search needs)
     returns-2
+    (λ c κs. search needs)
     (λ c. search needs)
     (λ c. search needs)
+    (λ c κs. search needs)
     (λ c κs. search needs)
     (λ c κs. search needs)
     returns-3)

@@ -1,5 +1,4 @@
 -- A lead byte below 80 is an integer; a short string ends where it ends.
-use mathlib.Core.Path.{_≡_}
 use native.Mathlib.Omega.{arith}
 use borrow.Author.Needs.{needs}
 use Rattle.messagepack.specs.Quick.{other}

@@ -1,8 +1,7 @@
 -- Both heads are there, and what is compared are the keys' bytes.
 use mathlib.Core.Path.{_≡_, sym, ap₂, _∙_}
-use Prim.Native.Nat.{ℕ, _+_, _-_}
+use Prim.Native.Nat.{_+_, _-_}
 use native.Mathlib.Omega.{arith}
-use lib.ListN.{take, drop}
 use borrow.Author.Needs.{needs}
 use Rattle.messagepack.specs.Equal.{equal}
 use Rattle.messagepack.specs.Laws.Tables.{there-read, there-head}

@@ -1,8 +1,7 @@
 -- The tests are those of a string whose length is in its lead byte and whose bytes are below 80.
 use mathlib.Core.Path.{_≡_, sym, _∙_}
-use Prim.Native.Nat.{_+_, _-_, _<_, _≤_}
+use Prim.Native.Nat.{_+_, _-_}
 use native.Mathlib.Omega.{arith}
-use lib.ListN.{length}
 use borrow.Author.Needs.{needs}
 use Rattle.messagepack.specs.Quick.{another}
 use Rattle.messagepack.specs.Laws.Quick.{short-found}

@@ -1,29 +1,29 @@
 -- A writing of a document that keeps the rules is accepted, and the walk ends where it ends: by recursion on the document.
 -- Assumes nothing.
 use mathlib.Core.Path.{_≡_, refl, sym, ap, subst, _∙_}
-use mathlib.Core.Bool.{Bool, true, false}
+use mathlib.Core.Bool.{true}
 use mathlib.Core.List.{List, [], _∷_, _++_, append-assoc}
 use mathlib.Core.Logic.{_⊎_, inl, inr}
-use Prim.Native.Nat.{ℕ, zero, suc, _+_, _-_, _<_, _≤_, max}
+use Prim.Native.Nat.{ℕ, suc, _+_, _-_, _≤_}
 use native.Mathlib.Omega.{arith}
 use native.Mathlib.Nat.{add-zero, add-assoc}
-use lib.IntN.{ℤ, pos, negsuc}
+use lib.IntN.{ℤ}
 use lib.ListN.{length, take, drop, length-append}
 use borrow.Author.Tests.{le-leb}
 use Rattle.utf8.specs.Utf8.{Utf8}
 use Rattle.utf8.specs.Check.{isUtf8}
 use Rattle.utf8.specs.Laws.Utf8.{utf8-isUtf8}
-use Rattle.heads.specs.Head.{HeadOf, kindAt, headAt}
+use Rattle.heads.specs.Head.{kindAt, headAt}
 use Rattle.heads.specs.declared.Kind.{Kind}
 use Rattle.heads.specs.declared.Head.{Head}
 use Rattle.heads.specs.Laws.Span.{follows, holds, fits}
 use Rattle.heads.specs.Laws.Head.{Told, head-told}
 use Rattle.numbers.specs.BigEndian.{bytesOf}
 use Rattle.heads.specs.Lead.{moreOf}
-use Rattle.messagepack.specs.Limits.{entryLimit, integerLimit}
+use Rattle.messagepack.specs.Limits.{integerLimit}
 use Rattle.messagepack.specs.Document.{Document, Documents, Entries, integer, float, string, binary, array, map, none, item, empty, entry, count, size, UnsignedOf, SignedOf, TextOf, Writes, WritesAll, WritesEntries}
 use Rattle.messagepack.specs.Rules.{depth, depthAll, depthEntries, InRange, Distinct, Keeps, KeepsAll, KeepsEntries}
-use Rattle.messagepack.specs.Walk.{bodyAt, textAt, keyAt, manyAt, entriesFrom, valueAt, among}
+use Rattle.messagepack.specs.Walk.{bodyAt, textAt, keyAt, manyAt, entriesFrom, valueAt}
 use Rattle.messagepack.specs.declared.Walk.{Walk}
 use Rattle.messagepack.specs.declared.Text.{Text}
 use Rattle.messagepack.specs.Laws.Walk as w

@@ -5,21 +5,21 @@ use mathlib.Core.Path.{_≡_, refl, sym, ap, subst, _∙_}
 use mathlib.Core.Bool.{Bool, true, false, cond}
 use mathlib.Core.List.{List, [], _++_, append-nil}
 use mathlib.Core.Logic.{_↔_}
-use Prim.Native.Nat.{ℕ, zero, suc, _+_, _≤_, _<_}
+use Prim.Native.Nat.{ℕ, _+_, _≤_, _<_}
 use native.Mathlib.Nat.{zero-add}
 use native.Mathlib.Omega.{arith}
 use lib.Dec.{leb, eqb, lit<, lit≤}
-use lib.ListN.{length, drop}
+use lib.ListN.{length}
 use lib.Seq.{drop-length}
 use borrow.Author.Tests.{eqb-true, eq-eqb, leb-true, le-leb}
 use Rattle.refusal.specs.Table.{accepted, fileOverLimit, bytesAfter}
 use Rattle.numbers.specs.BigEndian.{Bytes}
 use Rattle.heads.specs.Head.{kindAt, headAt}
 use Rattle.heads.specs.declared.Kind.{Kind}
-use Rattle.heads.specs.Laws.Head.{Told, head-told}
+use Rattle.heads.specs.Laws.Head.{head-told}
 use Rattle.messagepack.specs.Limits.{fileLimit, nestingLimit}
-use Rattle.messagepack.specs.Document.{Document, Entries, map, size, Writes}
-use Rattle.messagepack.specs.Rules.{depth, Keeps, Container}
+use Rattle.messagepack.specs.Document.{Entries, map, Writes}
+use Rattle.messagepack.specs.Rules.{Container}
 use Rattle.messagepack.specs.Walk.{valueAt, ended, outer, containerNumber}
 use Rattle.messagepack.specs.declared.Walk.{Walk}
 use Rattle.messagepack.specs.Laws.Walk as w

@@ -1,6 +1,6 @@
 -- Keys that are equal, keys that are new, and keys that are different.
 -- Assumes nothing.
-use mathlib.Core.Path.{_≡_, refl, sym, ap, ap₂, _∙_}
+use mathlib.Core.Path.{_≡_, refl, sym, ap, ap₂}
 use mathlib.Core.Bool.{Bool, true, false, _&&_, _||_}
 use mathlib.Core.List.{List, [], _∷_}
 use Prim.Native.Nat.{ℕ, _+_, _<_, _≤_}
@@ -11,7 +11,7 @@ use lib.ListN.{length, getD, drop, drop-of-length-le}
 use lib.Seq.{drop-cons}
 use borrow.Author.Tests.{eqb-true, eq-eqb, ne-eqb}
 use Rattle.messagepack.specs.Document.{Entries, empty, entry}
-use Rattle.messagepack.specs.Rules.{NoKey, Distinct}
+use Rattle.messagepack.specs.Rules.{NoKey}
 use Rattle.messagepack.specs.Equal.{equal}
 use Rattle.messagepack.specs.Walk.{among}
 

@@ -1,11 +1,10 @@
 -- Values that hold no others, and the quick looks at them: an integer in its lead byte, and a short string of bytes below 80.
 -- Assumes nothing.
-use mathlib.Core.Path.{_≡_, refl, sym, ap, subst, _∙_}
+use mathlib.Core.Path.{_≡_, refl, sym, subst, _∙_}
 use mathlib.Core.Bool.{true}
 use mathlib.Core.List.{List}
 use Prim.Native.Nat.{ℕ, _+_, _-_, _<_, _≤_}
 use native.Mathlib.Omega.{arith}
-use lib.Dec.{lit<}
 use lib.ListN.{length, getD, take, drop}
 use borrow.Author.Tests.{le-leb}
 use Rattle.utf8.specs.Check.{isAscii}
@@ -17,8 +16,8 @@ use Rattle.heads.specs.declared.Head.{Head}
 use Rattle.heads.specs.Laws.Head.{kind-in, head-held}
 use Rattle.heads.specs.Laws.Table.{low-lead, string-lead}
 use Rattle.messagepack.specs.Limits.{integerLimit}
-use Rattle.messagepack.specs.Walk.{textAt, keyAt, manyAt, integerAt, plainAt, binaryAt, stringAt, valueAt}
-use Rattle.messagepack.specs.Quick.{leafOf, leafByKind, leafAt, QuickSays, ends, other, ShortSays, found, another, RunSays}
+use Rattle.messagepack.specs.Walk.{keyAt, integerAt, plainAt, binaryAt, stringAt, valueAt}
+use Rattle.messagepack.specs.Quick.{leafOf, leafByKind, leafAt, QuickSays, ends, ShortSays, found, RunSays}
 use Rattle.messagepack.specs.declared.Walk.{Walk}
 use Rattle.messagepack.specs.declared.Text.{Text}
 use Rattle.messagepack.specs.declared.Leaf.{Leaf}

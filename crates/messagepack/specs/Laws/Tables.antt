@@ -1,17 +1,15 @@
 -- The tables of keys: rows that hold keys, a row more, and the loop over a map's entries.
 -- Assumes nothing.
-use mathlib.Core.Path.{_≡_, refl, sym, ap, ap₂, subst, _∙_}
-use mathlib.Core.Bool.{Bool, true, false, _||_}
-use mathlib.Core.List.{List, [], _∷_}
+use mathlib.Core.Path.{_≡_, refl, sym, ap, subst, _∙_}
+use mathlib.Core.Bool.{Bool, false, _||_}
+use mathlib.Core.List.{List, _∷_}
 use mathlib.Core.Logic.{⊎-elim, _≢_}
 use Prim.Native.Nat.{ℕ, zero, suc, _+_, _-_, _*_, _%_, _<_, _≤_}
 use native.Mathlib.Nat.{not-suc-le-zero, eq-or-lt-of-le, le-of-suc-le-suc, add-zero, add-assoc, mod-eq-of-lt}
-use native.Mathlib.Numerals.{add-one, sub-one}
 use native.Mathlib.Omega.{arith}
 use lib.ListN.{length, getD, take, drop, set, length-set, length-drop}
-use lib.Seq.{drop-cons, drop-drop, getD-drop, getD-take, getD-set-same, getD-set-other, drop-set-lt, drop-set-add}
+use lib.Seq.{drop-drop, getD-drop, getD-take, getD-set-same, getD-set-other, drop-set-lt, drop-set-add}
 use borrow.Author.Tests.{le-leb, lt-leb}
-use Rattle.refusal.specs.Table.{keyRepeated}
 use Rattle.numbers.specs.BigEndian.{unsignedAt}
 use Rattle.numbers.specs.Laws.BigEndian.{loads, unsignedAt-loads, unsignedAt-out}
 use Rattle.heads.specs.Head.{headAt}
@@ -42,9 +40,13 @@ module _ (s : List ℕ) (a m : ℕ) (le : a + m ≤ length s) where
       let i : a + (m - k) ≡ a + m - k = omega arith in
       unsignedAt-loads k (take m (drop a s)) (m - k) (rw (part-length s a m le) (omega arith)) ∙ loads-part k (m - k) (omega arith) ∙ rw i (sym (unsignedAt-loads k s (a + m - k) (omega arith)))
 
-  pub print-four : 4 ≤ m → printOf (take m (drop a s)) ≡ (m % 65536 * 65536 + unsignedAt 4 s (a + m - 4)) % 4294967296
+  first-part : (k : ℕ) → k ≤ m → unsignedAt k (take m (drop a s)) 0 ≡ unsignedAt k s a
+  first-part k h =
+      unsignedAt-loads k (take m (drop a s)) 0 (rw (part-length s a m le) (omega arith)) ∙ loads-part k 0 (omega arith) ∙ rw (add-zero a) (sym (unsignedAt-loads k s a (omega arith)))
+
+  pub print-four : 4 ≤ m → printOf (take m (drop a s)) ≡ (m % 65536 * 65536 + (unsignedAt 4 s a + unsignedAt 4 s (a + m - 4)) % 4294967296) % 4294967296
   unfolding printOf
-  print-four h = rw (part-length s a m le, le-leb 4 m h, last-part 4 h)
+  print-four h = rw (part-length s a m le, le-leb 4 m h, first-part 4 h, last-part 4 h)
 
   pub print-two : m < 4 → 2 ≤ m → printOf (take m (drop a s)) ≡ (m % 65536 * 65536 + unsignedAt 2 s (a + m - 2)) % 4294967296
   unfolding printOf

@@ -1,13 +1,13 @@
 -- No bytes are writings of two documents, whether they keep the rules or not. The bytes are read back, with no rule tested: a writing of a
 -- document, whatever follows it, reads as that document and what follows.
 -- Assumes nothing.
-use mathlib.Core.Path.{_≡_, refl, sym, ap, ap₂, subst, _∙_}
-use mathlib.Core.List.{List, [], _∷_, _++_, append-assoc, append-nil}
+use mathlib.Core.Path.{_≡_, refl, sym, ap, _∙_}
+use mathlib.Core.List.{List, [], _++_, append-assoc, append-nil}
 use mathlib.Core.Logic.{_⊎_, inl, inr}
-use Prim.Native.Nat.{ℕ, zero, suc, _+_, _<_, _≤_, max}
+use Prim.Native.Nat.{ℕ, zero, suc, _+_, _≤_, max}
 use native.Mathlib.Omega.{arith}
 use native.Mathlib.Nat.{zero-add}
-use lib.IntN.{ℤ, pos}
+use lib.IntN.{ℤ}
 use lib.ListN.{length, getD, take, drop}
 use lib.Seq.{take-at, drop-at}
 use Rattle.heads.specs.Lead.{moreOf}
@@ -17,10 +17,10 @@ use Rattle.heads.specs.declared.Head.{Head}
 use Rattle.heads.specs.Laws.Span.{starts}
 use Rattle.heads.specs.Laws.Head.{Told, head-told}
 use Rattle.numbers.specs.BigEndian.{bytesOf}
-use Rattle.messagepack.specs.Document.{Document, Documents, Entries, integer, float, string, binary, array, map, none, item, empty, entry, count, size, signedValue, UnsignedOf, SignedOf, TextOf, Writes, WritesAll, WritesEntries}
+use Rattle.messagepack.specs.Document.{Document, Documents, Entries, integer, float, string, binary, array, map, none, item, empty, entry, count, size, signedValue, UnsignedOf, SignedOf, Writes, WritesAll, WritesEntries}
 use Rattle.messagepack.specs.Limits.{nestingLimit}
 use Rattle.messagepack.specs.Rules.{depth, depthAll, depthEntries}
-use Rattle.messagepack.specs.Read.{Read, read, fault, thenRead, readHead, readAll, readEntries, readKind, readValue, documentIn, documentOf}
+use Rattle.messagepack.specs.Read.{read, readAll, readEntries, readKind, readValue, documentIn, documentOf}
 
 -- a head that is written first is read, and what follows it
 record First (k : Kind) (n b : ℕ) (s t : List ℕ) : Type 0 where

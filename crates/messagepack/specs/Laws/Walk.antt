@@ -1,6 +1,6 @@
 -- The walk's definition as equations, in the form in which proofs meet it.
 -- Assumes nothing.
-use mathlib.Core.Path.{_≡_, refl, sym, ap, subst, _∙_}
+use mathlib.Core.Path.{_≡_, refl, _∙_}
 use mathlib.Core.Bool.{Bool, true, false, cond}
 use mathlib.Core.List.{List, [], _∷_}
 use Prim.Native.Nat.{ℕ, zero, suc, _+_, _-_, _<_, _≤_}
@@ -9,14 +9,14 @@ use native.Mathlib.Numerals.{sub-one}
 use native.Mathlib.Omega.{arith}
 use lib.Dec.{leb}
 use lib.ListN.{length, take, drop}
-use borrow.Author.Tests.{leb-true, leb-false, le-leb, lt-leb}
-use Rattle.refusal.specs.Table.{fileOverLimit, cutShort, leadByteUnknown, unsignedTooLarge, stringNotUtf8, nestedTooDeep, tooManyEntries, keyNotString, keyRepeated}
+use borrow.Author.Tests.{leb-true, le-leb, lt-leb}
+use Rattle.refusal.specs.Table.{fileOverLimit, cutShort, leadByteUnknown, unsignedTooLarge, stringNotUtf8, nestedTooDeep, tooManyEntries, keyRepeated}
 use Rattle.utf8.specs.Check.{isUtf8}
 use Rattle.heads.specs.Head.{kindAt, headAt}
 use Rattle.heads.specs.declared.Kind.{Kind}
 use Rattle.heads.specs.declared.Head.{Head}
 use Rattle.messagepack.specs.Limits.{fileLimit, entryLimit, integerLimit}
-use Rattle.messagepack.specs.Walk.{onHead, onWalk, onText, bodyAt, textBody, textHead, textAt, keyOfKind, keyAt, among, manyAt, entriesFrom, entriesAt, integerAt, plainAt, binaryAt, stringAt, valueAt, outer, containerNumber}
+use Rattle.messagepack.specs.Walk.{onHead, onText, bodyAt, textBody, textHead, textAt, keyOfKind, keyAt, among, manyAt, entriesFrom, entriesAt, valueAt, outer, containerNumber}
 use Rattle.messagepack.specs.declared.Walk.{Walk}
 use Rattle.messagepack.specs.declared.Text.{Text}
 

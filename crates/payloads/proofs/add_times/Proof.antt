@@ -1,10 +1,9 @@
 -- In 64 bits the product and the sum do not wrap, and the count may be taken modulo 2 ^ 32 (`times-mod`).
 use mathlib.Core.Path.{_≡_, ap, _∙_}
-use Prim.Native.Nat.{ℕ, _+_, _*_, _%_, _^_, _<_, _≤_}
-use native.Mathlib.Nat.{mod-lt, mul-le-mul}
+use Prim.Native.Nat.{_+_, _*_, _%_, _^_}
 use native.Mathlib.Omega.{arith}
-use mir.Syntax.{w32, w64}
-use mir.Val.{toZ, ofZ, Fits}
+use mir.Syntax.{w32}
+use mir.Val.{toZ, ofZ}
 use mir.Facts.{toZ-ofZ}
 use borrow.Author.Needs.{needs}
 use Rattle.payloads.specs.Laws.Scan.{times-mod, times-fit}

@@ -1,5 +1,5 @@
 -- With delta the sum, else the value itself.
-use mathlib.Core.Path.{_≡_, sym, ap, ap₂, _∙_}
+use mathlib.Core.Path.{sym, ap, ap₂, _∙_}
 use mathlib.Core.Bool.{Bool}
 use lib.IntN.{ℤ}
 use mir.Syntax.{w32}

@@ -1,6 +1,5 @@
 -- Each path is one clause of the definition.
-use mathlib.Core.Path.{_≡_, sym, ap, ap₂, _∙_}
-use mathlib.Core.Bool.{Bool}
+use mathlib.Core.Path.{ap₂, _∙_}
 use Prim.Native.Nat.{_+_}
 use lib.IntN.{ℤ}
 use mir.Syntax.{w32}

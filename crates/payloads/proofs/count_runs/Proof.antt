@@ -1,7 +1,7 @@
 -- The tally of a scan of items, of which the loop keeps what is left of the results (`kept-run`).
-use mathlib.Core.Path.{_≡_, refl, sym, ap, subst, _∙_}
+use mathlib.Core.Path.{_≡_, refl, ap, subst, _∙_}
 use mathlib.Core.Bool.{Bool, true, false, cond, not, _&&_, _||_}
-use Prim.Native.Nat.{ℕ, _-_, _≤_}
+use Prim.Native.Nat.{_-_, _≤_}
 use native.Mathlib.Omega.{arith}
 use lib.ListN.{length}
 use lib.IntN.{pos}
@@ -9,7 +9,6 @@ use lib.Dec.{eqb}
 use borrow.Author.Needs.{needs}
 use Rattle.refusal.specs.Table.{lengthDiffers}
 use Rattle.codecs.specs.declared.Form.the-variants.{Runs}
-use Rattle.payloads.specs.declared.Item.{Item}
 use Rattle.payloads.specs.declared.Item.the-variants.{Run}
 use Rattle.payloads.specs.declared.Outcome.the-variants.{Fine, Refused}
 use Rattle.payloads.specs.Held.{exact}

@@ -1,7 +1,4 @@
 -- Both tests.
-use mathlib.Core.Path.{sym, ap, _∙_}
-use mathlib.Core.Bool.{Bool, _&&_}
-use lib.Dec.{leb}
 use borrow.Author.Tests.{le-leb, lt-leb}
 use Rattle.payloads.proofs.is_short.Statement.{statement}
 use Rattle.payloads.proofs.is_short.Tie as tie

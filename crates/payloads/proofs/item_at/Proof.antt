@@ -1,6 +1,5 @@
 -- Each arm is the reader of its form; at the end there is nothing.
 use mathlib.Core.Path.{sym, subst}
-use native.Mathlib.Omega.{arith}
 use borrow.Author.Needs.{needs}
 use Rattle.codecs.specs.declared.Form.{Form}
 use Rattle.payloads.specs.Items.{Gives}

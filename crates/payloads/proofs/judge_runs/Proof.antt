@@ -1,23 +1,16 @@
 -- The tally of a scan of items, of which the loop keeps what is asked for (`passed-run`); past the end there is no cell (`passed-none`).
-use mathlib.Core.Path.{_≡_, refl, sym, ap, ap₂, subst, _∙_}
-use mathlib.Core.Bool.{Bool, true, false, cond, not, _&&_, _||_}
-use Prim.Native.Nat.{ℕ, _-_, _≤_}
+use mathlib.Core.Path.{ap, subst, _∙_}
+use mathlib.Core.Bool.{Bool, _&&_}
+use Prim.Native.Nat.{_-_, _≤_}
 use native.Mathlib.Omega.{arith}
 use lib.ListN.{length}
-use lib.IntN.{ℤ, pos}
-use lib.Dec.{eqb, ltb}
 use mir.Syntax.{w32}
 use mir.Facts.{toZ-ofZ}
 use borrow.Author.Needs.{needs}
-use Rattle.refusal.specs.Table.{lengthDiffers}
 use Rattle.codecs.specs.declared.Form.the-variants.{Runs}
-use Rattle.payloads.specs.declared.Item.{Item}
 use Rattle.payloads.specs.declared.Item.the-variants.{Run}
-use Rattle.payloads.specs.declared.Tally.{Tally}
-use Rattle.payloads.specs.declared.Outcome.{Outcome}
-use Rattle.payloads.specs.declared.Outcome.the-variants.{Fine, Refused}
 use Rattle.payloads.specs.Held.{exact}
-use Rattle.payloads.specs.Items.{Gives, passRun}
+use Rattle.payloads.specs.Items.{Gives}
 use Rattle.payloads.specs.Laws.Scan.{Kept, kept-start, kept-run, kept-wrong, kept-end}
 use Rattle.payloads.proofs.judge_runs.Statement.{statement}
 use Rattle.payloads.proofs.judge_runs.Tie as tie

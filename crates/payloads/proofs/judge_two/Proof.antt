@@ -1,16 +1,15 @@
 -- Few limits keep every sum inside 32 bits, so that the total tells of the results (`totalled-more`, `totalled-done`); where there are
 -- more, the other loop does the work.
 use mathlib.Core.Path.{_≡_, refl, sym, ap, _∙_}
-use mathlib.Core.Bool.{Bool, true, false, cond, _&&_}
-use Prim.Native.Nat.{_+_, _-_, _≤_}
+use mathlib.Core.Bool.{Bool, _&&_}
+use Prim.Native.Nat.{_-_, _≤_}
 use native.Mathlib.Omega.{arith}
 use lib.ListN.{length}
-use lib.IntN.{ℤ}
 use mir.Syntax.{w16, w32}
 use mir.Val.{toZ, ofZ, SFits}
 use mir.Facts.{toZ-ofZ}
 use borrow.Author.Needs.{needs}
-use Rattle.numbers.specs.BigEndian.{Bytes, signedAt}
+use Rattle.numbers.specs.BigEndian.{signedAt}
 use Rattle.numbers.specs.Laws.BigEndian.{bytes-of}
 use Rattle.codecs.specs.Delta.{plusDelta}
 use Rattle.codecs.specs.Packing.{isLimit}

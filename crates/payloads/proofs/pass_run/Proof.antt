@@ -1,15 +1,13 @@
 -- Each field is its function's answer.
-use mathlib.Core.Path.{_≡_, refl, sym, ap, ap₂, _∙_}
-use mathlib.Core.Bool.{Bool, _&&_, _||_}
-use Prim.Native.Nat.{ℕ, _-_}
+use mathlib.Core.Path.{ap, ap₂, _∙_}
+use mathlib.Core.Bool.{Bool, _&&_}
+use Prim.Native.Nat.{_-_}
 use lib.IntN.{ℤ}
-use lib.Dec.{ltb}
 use mir.Syntax.{w32}
 use mir.Facts.{toZ-ofZ}
 use borrow.Author.Needs.{needs}
-use Rattle.payloads.specs.declared.Tally.{Tally}
 use Rattle.payloads.specs.Held.{exact}
-use Rattle.payloads.specs.Items.{afterRun, cellAfter, passRun}
+use Rattle.payloads.specs.Items.{afterRun, cellAfter}
 use Rattle.payloads.specs.Laws.Scan.{tally-is}
 use Rattle.payloads.proofs.pass_run.Statement.{statement}
 use Rattle.payloads.proofs.pass_run.Tie as tie

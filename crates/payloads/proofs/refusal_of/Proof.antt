@@ -1,5 +1,5 @@
 -- Each arm is a loop of its form, or what a scan says (`told-scan`).
-use mathlib.Core.Path.{sym, ap, _∙_}
+use mathlib.Core.Path.{ap, _∙_}
 use mathlib.Core.Bool.{false}
 use native.Mathlib.Omega.{arith}
 use borrow.Author.Needs.{needs}

@@ -1,15 +1,14 @@
 -- The tally tells of the values before the place (`passed-run`); at the end it tells of all.
-use mathlib.Core.Path.{_≡_, sym, ap, subst, _∙_}
+use mathlib.Core.Path.{sym, ap, subst, _∙_}
 use Prim.Native.Nat.{_-_, _≤_}
 use native.Mathlib.Omega.{arith}
 use lib.ListN.{length}
-use lib.IntN.{ℤ, pos}
+use lib.IntN.{ℤ}
 use mir.Syntax.{w32}
 use mir.Facts.{toZ-ofZ}
 use borrow.Author.Needs.{needs}
 use Rattle.payloads.specs.declared.Item.{Item}
 use Rattle.payloads.specs.declared.Item.the-variants.{Run}
-use Rattle.payloads.specs.declared.Tally.{Tally}
 use Rattle.payloads.specs.Items.{Gives, passRun}
 use Rattle.payloads.specs.Laws.Scan.{Passed, passed-start, passed-run, passed-wrong, passed-end}
 use Rattle.payloads.proofs.scan_items.Statement.{statement}

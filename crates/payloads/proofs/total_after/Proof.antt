@@ -1,5 +1,5 @@
 -- Each arm is one of the two.
-use mathlib.Core.Path.{refl, sym, ap, _∙_}
+use mathlib.Core.Path.{sym, ap, _∙_}
 use mathlib.Core.Bool.{Bool, cond}
 use lib.IntN.{pos}
 use mir.Syntax.{w32}

@@ -1,24 +1,23 @@
 -- Laws of the values that a payload holds: plain and packed numbers are in range by themselves. Assumes nothing.
-use mathlib.Core.Path.{_≡_, refl, sym, ap, ap₂, subst, _∙_}
-use mathlib.Core.Bool.{Bool, true, false, cond, not, _&&_}
+use mathlib.Core.Path.{_≡_, refl, sym, ap, _∙_}
+use mathlib.Core.Bool.{Bool, true, false, cond, _&&_}
 use mathlib.Core.Option.{Option, none, some, Option·map}
-use mathlib.Core.List.{List, [], _∷_, _++_}
+use mathlib.Core.List.{List, [], _∷_}
 use Prim.Native.Nat.{ℕ, suc, _<_, _≤_}
 use native.Mathlib.Omega.{arith}
-use lib.IntN.{ℤ, pos, negsuc, natAbs, _+ℤ_}
+use lib.IntN.{ℤ, pos, negsuc, _+ℤ_}
 use lib.Signed.{mag, ltZ, leZ}
-use lib.Dec.{leb, ltb}
 use mir.Syntax.{w8, w16}
 use mir.Val.{SFits}
-use borrow.Author.Tests.{le-leb, lt-leb, leb-true, leb-false, lt-ltb, le-ltb, ltb-true, ltb-false}
+use borrow.Author.Tests.{le-leb, lt-leb, ltb-true, ltb-false}
 use Rattle.numbers.specs.BigEndian.{Bytes}
 use Rattle.codecs.specs.declared.Size.{Size}
 use Rattle.codecs.specs.declared.Size.the-variants.{One, Two, Four}
 use Rattle.codecs.specs.declared.Range.{Range}
-use Rattle.codecs.specs.declared.Range.the-variants.{Int8, Int16, Int32, Ascii}
+use Rattle.codecs.specs.declared.Range.the-variants.{Int32}
 use Rattle.codecs.specs.declared.Form.{Form}
 use Rattle.codecs.specs.declared.Form.the-variants.{Plain, Packed, Runs, Names}
-use Rattle.codecs.specs.Width.{widthOf, sizeOf, upper, lower}
+use Rattle.codecs.specs.Width.{widthOf, upper, lower}
 use Rattle.codecs.specs.Numbers.{numbersIn}
 use Rattle.codecs.specs.Fits.{Every}
 use Rattle.codecs.specs.Laws.NumbersBack.{numbersIn-fit}

@@ -1,16 +1,16 @@
 -- Laws of items: what the readers of each form find at a place. Assumes nothing.
-use mathlib.Core.Path.{_≡_, refl, sym, ap, ap₂, subst, _∙_}
+use mathlib.Core.Path.{_≡_, refl, ap, _∙_}
 use mathlib.Core.Bool.{Bool, true, false, cond, _&&_}
 use mathlib.Core.Option.{Option, none, some, Option·map}
 use mathlib.Core.List.{List, [], _∷_, _++_}
-use Prim.Native.Nat.{ℕ, zero, suc, _+_, _-_, _*_, _<_, _≤_}
+use Prim.Native.Nat.{ℕ, zero, suc, _+_, _-_, _<_, _≤_}
 use native.Mathlib.Omega.{arith}
-use lib.ListN.{length, drop, replicate, drop-of-length-le}
+use lib.ListN.{length, drop, replicate}
 use lib.IntN.{ℤ, pos, negsuc, natAbs, _+ℤ_}
-use lib.Signed.{ltZ, mag}
+use lib.Signed.{ltZ}
 use lib.Dec.{ltb}
 use mir.Syntax.{w32}
-use mir.Val.{toZ, ofZ, SFits}
+use mir.Val.{ofZ}
 use borrow.Author.Tests.{ltb-true, ltb-false}
 use Rattle.numbers.specs.BigEndian.{signedAt}
 use Rattle.codecs.specs.declared.Size.{Size}

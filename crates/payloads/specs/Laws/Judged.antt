@@ -1,5 +1,5 @@
 -- Laws that join a scan's answer to what a column decodes to. Assumes nothing.
-use mathlib.Core.Path.{_≡_, refl, sym, ap, ap₂, _∙_}
+use mathlib.Core.Path.{_≡_, refl, sym, ap, _∙_}
 use mathlib.Core.Bool.{Bool, true, false, cond, _&&_}
 use mathlib.Core.Option.{Option, none, some}
 use mathlib.Core.List.{List}
@@ -13,10 +13,10 @@ use Rattle.refusal.specs.Table.{numberNotAllowed, lengthDiffers}
 use Rattle.codecs.specs.declared.Form.{Form}
 use Rattle.codecs.specs.declared.Form.the-variants.{Plain, Packed, Runs, Names}
 use Rattle.codecs.specs.Delta.{sumsIf}
-use Rattle.codecs.specs.Payload.{valuesIn, allIn, rangeOf, padded, allowed}
+use Rattle.codecs.specs.Payload.{valuesIn, allIn, rangeOf, padded}
 use Rattle.columns.specs.declared.Kind.{Kind}
 use Rattle.columns.specs.Table.{elements}
-use Rattle.columns.specs.Decode.{Decoding, refused, column, judgedValues}
+use Rattle.columns.specs.Decode.{refused, column, judgedValues}
 use Rattle.payloads.specs.declared.Outcome.{Outcome}
 use Rattle.payloads.specs.declared.Outcome.the-variants.{Fine, Refused}
 use Rattle.payloads.specs.Held.{within, heldIn, allExact}

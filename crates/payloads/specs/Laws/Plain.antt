@@ -1,6 +1,6 @@
 -- Laws of scans of plain numbers: their count is the payload's size, and each stands at its place. Assumes nothing.
-use mathlib.Core.Path.{_≡_, refl, sym, ap, ap₂, _∙_}
-use mathlib.Core.Bool.{Bool, true, false, _&&_}
+use mathlib.Core.Path.{_≡_, refl, sym, ap, _∙_}
+use mathlib.Core.Bool.{false, _&&_}
 use mathlib.Core.List.{List}
 use Prim.Native.Nat.{ℕ, zero, suc, _+_, _*_, _/_, _<_, _≤_}
 use native.Mathlib.Nat.{div-mul-le-self, mul-le-mul-right}
@@ -15,7 +15,7 @@ use Rattle.codecs.specs.declared.Size.the-variants.{One, Two, Four}
 use Rattle.codecs.specs.declared.Form.the-variants.{Plain}
 use Rattle.codecs.specs.Width.{widthOf, sizeOf}
 use Rattle.codecs.specs.Numbers.{numbersIn}
-use Rattle.codecs.specs.Laws.Numbers.{size-pos, numbers-step, length-numbers}
+use Rattle.codecs.specs.Laws.Numbers.{numbers-step, length-numbers}
 use Rattle.payloads.specs.declared.Outcome.the-variants.{Fine, Refused}
 use Rattle.payloads.specs.Held.{allExact}
 use Rattle.payloads.specs.Scan.{judgesExact, scanOf}

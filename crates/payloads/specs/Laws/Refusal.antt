@@ -8,11 +8,10 @@ use native.Mathlib.Omega.{arith}
 use lib.ListN.{length, getD}
 use lib.IntN.{ℤ, pos}
 use lib.Dec.{eqb}
-use Rattle.refusal.specs.Table.{numberNotAllowed, lengthDiffers}
+use Rattle.refusal.specs.Table.{lengthDiffers}
 use Rattle.numbers.specs.BigEndian.{Bytes}
 use Rattle.codecs.specs.declared.Form.{Form}
 use Rattle.codecs.specs.Delta.{sumsIf}
-use Rattle.payloads.specs.declared.Outcome.{Outcome}
 use Rattle.payloads.specs.declared.Outcome.the-variants.{Fine, Refused}
 use Rattle.payloads.specs.Held.{heldIn, allExact}
 use Rattle.payloads.specs.Items.{readIn, told}

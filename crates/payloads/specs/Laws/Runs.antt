@@ -1,14 +1,14 @@
 -- Laws of writing runs where more than a run may be written for it, inside the room of the results: what stands there is written over.
 -- Assumes nothing.
-use mathlib.Core.Path.{_≡_, refl, sym, ap, ap₂, subst, _∙_}
+use mathlib.Core.Path.{_≡_, refl, sym, ap, ap₂, _∙_}
 use mathlib.Core.Bool.{Bool, true, false}
 use mathlib.Core.Option.{Option, none, some, Option·map}
 use mathlib.Core.List.{List, [], _∷_, _++_, append-nil, append-assoc, map}
-use Prim.Native.Nat.{ℕ, zero, suc, _+_, _-_, _<_, _≤_}
+use Prim.Native.Nat.{ℕ, zero, suc, _+_, _-_, _≤_}
 use native.Mathlib.Omega.{arith}
-use lib.ListN.{length, take, drop, set, getD, replicate, length-append, length-replicate, length-drop, take-append-drop, replicate-append-replicate}
-use lib.Seq.{drop-drop, take-append-le, length-take-le, take-at, drop-at}
-use lib.IntN.{ℤ, pos, natAbs}
+use lib.ListN.{length, take, drop, set, replicate, length-append, length-replicate, take-append-drop, replicate-append-replicate}
+use lib.Seq.{drop-drop, length-take-le, take-at, drop-at}
+use lib.IntN.{ℤ, pos}
 use lib.Signed.{ltZ}
 use mir.Syntax.{w32}
 use mir.Val.{ofZ}
@@ -18,10 +18,10 @@ use Rattle.codecs.specs.declared.Form.{Form}
 use Rattle.codecs.specs.declared.Form.the-variants.{Runs}
 use Rattle.codecs.specs.Payload.{inRange}
 use Rattle.payloads.specs.Items.{readIn}
-use Rattle.payloads.specs.Results.{paste, resultsFrom, Filled, HasResults, Covered}
+use Rattle.payloads.specs.Results.{paste, Filled, HasResults, Covered}
 use Rattle.payloads.specs.Laws.Items.{count-bits, runs-count, runs-run, runs-wrong}
 use Rattle.payloads.specs.Laws.Scan.{results-plain, map-id, map-both}
-use Rattle.payloads.specs.Laws.Writing.{map-append, length-map, paste-length, paste-set, paste-none}
+use Rattle.payloads.specs.Laws.Writing.{map-append, paste-length, paste-set, paste-none}
 
 -- The next run
 

@@ -6,7 +6,7 @@ use mathlib.Core.List.{List, [], _∷_, _++_, append-nil, append-assoc, map}
 use Prim.Native.Nat.{ℕ, zero, suc, _+_, _-_, _<_, _≤_}
 use native.Mathlib.Omega.{arith}
 use native.Mathlib.Numerals.{add-one}
-use lib.ListN.{length, take, drop, set, getD, replicate, length-append, length-replicate, length-drop, take-append-drop, replicate-append-replicate}
+use lib.ListN.{length, take, drop, set, getD, replicate, length-append, length-replicate, length-drop, take-append-drop}
 use lib.Seq.{drop-cons, drop-drop, set-at, length-take-le, take-at, drop-at}
 use lib.IntN.{ℤ, pos}
 use Rattle.codecs.specs.declared.Form.{Form}

@@ -9,7 +9,7 @@ use borrow.Author.Tests.{not-true, not-false}
 use Rattle.text.specs.Laws.Put.{put-length}
 use Rattle.receipt.specs.Receipt.{allowed}
 use Rattle.receipt.specs.Steps.{receiptFrom, readFrom}
-use Rattle.receipt.specs.Laws.Rules.{allowed-small, page-holds}
+use Rattle.receipt.specs.Laws.Rules.{page-holds}
 use Rattle.receipt.specs.Laws.Reading.{reads-long, reads-broken, reads-other, reads-is}
 use Rattle.receipt.proofs.read.Statement.{statement}
 use Rattle.receipt.proofs.read.Tie as tie

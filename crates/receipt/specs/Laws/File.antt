@@ -1,7 +1,7 @@
 -- The receipt of a file: that of its document or of its number, one by the rules, and what is written of it.
 -- Assumes nothing.
 use mathlib.Core.Path.{_≡_, refl, sym, ap, subst, _∙_}
-use mathlib.Core.Bool.{Bool, true, false, cond, _&&_}
+use mathlib.Core.Bool.{Bool, true, false}
 use mathlib.Core.List.{List, _++_}
 use mathlib.Core.Logic.{_⊎_, inl, inr, ⊎-elim}
 use Prim.Native.Nat.{ℕ, _<_, _≤_}
@@ -10,11 +10,10 @@ use lib.Count.{ones}
 use lib.Dec.{eqb, leb}
 use lib.ListN.{length, take, drop}
 use lib.Seq.{take-at}
-use borrow.Author.Tests.{eq-eqb, ne-eqb, eqb-true, eqb-false, le-leb, lt-leb, leb-true, leb-false}
-use Rattle.refusal.specs.Table.{accepted, bufferTooSmall, receiptMalformed}
+use borrow.Author.Tests.{ne-eqb, eqb-true, eqb-false, le-leb, lt-leb, leb-true, leb-false}
+use Rattle.refusal.specs.Table.{bufferTooSmall, receiptMalformed}
 use Rattle.numbers.specs.BigEndian.{Bytes}
 use Rattle.counts.specs.Counts.{countLimit}
-use Rattle.fields.specs.Fields.{presenceOf}
 use Rattle.text.specs.Put.{Put}
 use Rattle.structure.specs.Accepted.{Accepted, verdictOf}
 use Rattle.structure.specs.Summary.{acceptedSummary, refused, summaryOf}
@@ -24,7 +23,7 @@ use Rattle.structure.specs.declared.Summary.{Summary}
 use Rattle.receipt.specs.declared.Receipt.{Receipt}
 use Rattle.receipt.specs.declared.Written.{Written}
 use Rattle.receipt.specs.declared.Written.the-variants as writing
-use Rattle.receipt.specs.Receipt.{numbered, allowed, written, IsReceipt}
+use Rattle.receipt.specs.Receipt.{numbered, allowed, written}
 use Rattle.receipt.specs.Laws.Rules.{put-all, page-holds, receipt-most}
 use Rattle.receipt.specs.File.{unitsOf, receiptBy, ReceiptOf, accepts, refuses, Receipted, receiptText, told, left}
 

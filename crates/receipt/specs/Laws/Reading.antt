@@ -1,9 +1,9 @@
 -- Reading: what is written is read back, so that no bytes are two receipts and no bytes have two answers; and the cases of reading.
 -- Assumes nothing.
-use mathlib.Core.Path.{_≡_, refl, sym, ap, subst, _∙_}
-use mathlib.Core.Bool.{Bool, true, false}
+use mathlib.Core.Path.{_≡_, refl, sym, ap, _∙_}
+use mathlib.Core.Bool.{true, false}
 use mathlib.Core.List.{List, [], _∷_, _++_, append-assoc, append-nil}
-use Prim.Native.Nat.{ℕ, _<_, _≤_}
+use Prim.Native.Nat.{ℕ, _<_}
 use Prim.Native.String as Text
 use native.Mathlib.Omega.{arith}
 use lib.ListN.{length, replicate}
@@ -11,7 +11,7 @@ use lib.Seq.{sets}
 use Rattle.refusal.specs.Table.{receiptMalformed}
 use Rattle.messagepack.specs.Equal.{equal}
 use Rattle.messagepack.specs.Laws.Keys.{equal-true, false-equal}
-use Rattle.text.specs.Put.{ascii}
+use Rattle.utf8.specs.Ascii.{ascii}
 use Rattle.fields.specs.Laws.Types.{clash}
 use Rattle.receipt.specs.declared.Receipt.{Receipt}
 use Rattle.receipt.specs.declared.Reading.{Reading}

@@ -1,6 +1,6 @@
 -- The numbers of a receipt that keeps the rules are small, and so is its text: a page has room for it.
 -- Assumes nothing.
-use mathlib.Core.Path.{_≡_, refl, sym, ap, subst, _∙_}
+use mathlib.Core.Path.{_≡_, refl, sym, ap, _∙_}
 use mathlib.Core.Bool.{Bool, true, false, cond, _&&_}
 use mathlib.Core.List.{List, [], _∷_, _++_, append-assoc}
 use Prim.Native.Nat.{ℕ, zero, suc, _+_, _/_, _%_, _^_, _<_, _≤_}
@@ -12,7 +12,7 @@ use lib.ListN.{length, length-append, take, drop}
 use lib.Seq.{take-at, sets-eq}
 use borrow.Author.Tests.{eqb-true, ltb-true, ltb-false, leb-true}
 use Rattle.refusal.specs.Table.{accepted}
-use Rattle.text.specs.Put.{ascii}
+use Rattle.utf8.specs.Ascii.{ascii}
 use Rattle.fields.specs.Laws.Types.{and-left, and-right}
 use Rattle.counts.specs.Counts.{countLimit}
 use Rattle.text.specs.Decimal.{glyph, decimal}

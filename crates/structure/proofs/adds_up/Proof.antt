@@ -1,12 +1,7 @@
 -- The difference is the other number.
-use mathlib.Core.Path.{_≡_, refl, sym, ap, ap₂, subst, _∙_}
-use mathlib.Core.Bool.{Bool, true, false, cond, _&&_}
-use Prim.Native.Nat.{ℕ, suc, _+_, _-_, _*_, _/_, _%_, _≤_, _<_}
-use native.Mathlib.Omega.{arith}
-use borrow.Author.Tests.{eq-eqb, ne-eqb, le-leb, lt-leb, not-true, not-false}
-use lib.Dec.{eqb}
+use mathlib.Core.Path.{sym}
+use Prim.Native.Nat.{_-_}
 use Rattle.structure.specs.Laws.Steps.{sum-less, sum-rest}
-use borrow.Author.Needs.{needs}
 use Rattle.structure.proofs.adds_up.Statement.{statement}
 use Rattle.structure.proofs.adds_up.Tie as tie
 

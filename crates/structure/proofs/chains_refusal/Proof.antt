@@ -1,9 +1,7 @@
 -- Each test is one of rules 2 and 3.
-use mathlib.Core.Path.{_≡_, refl, sym, ap, ap₂, subst, _∙_}
-use mathlib.Core.Bool.{Bool, true, false, cond, _&&_}
-use Prim.Native.Nat.{ℕ, suc, _+_, _-_, _*_, _/_, _%_, _≤_, _<_}
-use native.Mathlib.Omega.{arith}
-use borrow.Author.Tests.{eq-eqb, ne-eqb, le-leb, lt-leb, not-true, not-false}
+use mathlib.Core.Path.{sym, ap, _∙_}
+use Prim.Native.Nat.{_-_, _<_}
+use borrow.Author.Tests.{not-true, not-false}
 use lib.Dec.{lit<}
 use Rattle.groups.specs.Group.{integersIn, listIn}
 use Rattle.groups.specs.declared.List as list
@@ -52,22 +50,7 @@ returns-4 c =
     let ms = sum-is _ _ (sym (c .before .before .before .before .before .before .before .chains .given .1) ∙ c .before .before .before .before .before .before .before .before .before .sum-at2 .ensures t l (m .x) (m .end) (m .at) ∙ ap summed (sym mi)) in
     let mc = ap (λ (z : list.List). z .count) (c .before .before .before .before .list-at .ensures .1 t (fieldAt 15 es) (f .places-of .says 15 (lit< tt))) ∙ list-length (fieldAt 15 es) ∙ ap (λ o. length (listIn (integersIn o))) (n .chainsPerModel) in
     let gc = ap (λ (z : list.List). z .count) (c .before .before .list-at2 .ensures .1 t (fieldAt 14 es) (f .places-of .says 14 (lit< tt))) ∙ list-length (fieldAt 14 es) ∙ ap (λ o. length (listIn (integersIn o))) (n .groupsPerChain) in
-    chains-are k fit (gs .0) (ms .0) mc (ms .1) gc (gs .1) (sym (c .before .chains-agree .ensures) ∙ c .if2 .taken)
-
-returns-5 : tie.Need-returns-5
-returns-5 c =
-    λ t l es f k.
-    let n = by-name es in
-    let fit = sym (c .before .before .before .before .before .before .before .before .before .before .before .before .before .before .before .before .before .counts-fit .ensures) ∙ not-false _ (c .before .before .before .before .before .before .before .before .before .before .before .before .before .before .before .before .if1 .left) in
-    let g = stands-at f 14 (lit< tt) (needed .groupsPerChain) in
-    let m = stands-at f 15 (lit< tt) (needed .chainsPerModel) in
-    let gi = integers-of (field "groupsPerChain" es) (sym (n .groupsPerChain) ∙ g .is) in
-    let mi = integers-of (field "chainsPerModel" es) (sym (n .chainsPerModel) ∙ m .is) in
-    let gs = sum-is _ _ (sym (c .before .before .before .before .before .before .before .before .before .before .before .before .groups .given .1) ∙ c .before .before .before .before .before .before .before .before .before .before .before .before .before .before .sum-at .ensures t l (g .x) (g .end) (g .at) ∙ ap summed (sym gi)) in
-    let ms = sum-is _ _ (sym (c .before .before .before .before .before .before .before .chains .given .1) ∙ c .before .before .before .before .before .before .before .before .before .sum-at2 .ensures t l (m .x) (m .end) (m .at) ∙ ap summed (sym mi)) in
-    let mc = ap (λ (z : list.List). z .count) (c .before .before .before .before .list-at .ensures .1 t (fieldAt 15 es) (f .places-of .says 15 (lit< tt))) ∙ list-length (fieldAt 15 es) ∙ ap (λ o. length (listIn (integersIn o))) (n .chainsPerModel) in
-    let gc = ap (λ (z : list.List). z .count) (c .before .before .list-at2 .ensures .1 t (fieldAt 14 es) (f .places-of .says 14 (lit< tt))) ∙ list-length (fieldAt 14 es) ∙ ap (λ o. length (listIn (integersIn o))) (n .groupsPerChain) in
-    chains-are k fit (gs .0) (ms .0) mc (ms .1) gc (gs .1) (sym (c .before .chains-agree .ensures) ∙ c .if2 .left)
+    c .unless .ensures ∙ chains-are k fit (gs .0) (ms .0) mc (ms .1) gc (gs .1) (sym (c .before .chains-agree .ensures))
 
 pub chains-refusal-spec : {M : Type 1} → statement M
 chains-refusal-spec =
@@ -90,5 +73,5 @@ chains-refusal-spec =
     (λ c. search needs)
     (λ c κs. search needs)
     (λ c κs. search needs)
-    returns-4
-    returns-5)
+    (λ c κs. search needs)
+    returns-4)

@@ -1,9 +1,5 @@
 -- Each num field stands at its place, and each count is small.
-use mathlib.Core.Path.{_≡_, refl, sym, ap, ap₂, subst, _∙_}
-use mathlib.Core.Bool.{Bool, true, false, cond, _&&_}
-use Prim.Native.Nat.{ℕ, suc, _+_, _-_, _*_, _/_, _%_, _≤_, _<_}
-use native.Mathlib.Omega.{arith}
-use borrow.Author.Tests.{eq-eqb, ne-eqb, le-leb, lt-leb, not-true, not-false}
+use Prim.Native.Nat.{_-_, _<_}
 use lib.Dec.{lit<}
 use Rattle.counts.specs.Columns.{field}
 use Rattle.structure.specs.Laws.Steps.{count-named, by-name, needed}

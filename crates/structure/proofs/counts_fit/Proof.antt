@@ -1,10 +1,6 @@
 -- Each count is compared with the limit.
-use mathlib.Core.Path.{_≡_, refl, sym, ap, ap₂, subst, _∙_}
-use mathlib.Core.Bool.{Bool, true, false, cond, _&&_}
-use Prim.Native.Nat.{ℕ, suc, _+_, _-_, _*_, _/_, _%_, _≤_, _<_}
-use native.Mathlib.Omega.{arith}
-use borrow.Author.Tests.{eq-eqb, ne-eqb, le-leb, lt-leb, not-true, not-false}
-use borrow.Author.Needs.{needs}
+use Prim.Native.Nat.{_-_}
+use borrow.Author.Tests.{le-leb, lt-leb}
 use Rattle.structure.proofs.counts_fit.Statement.{statement}
 use Rattle.structure.proofs.counts_fit.Tie as tie
 

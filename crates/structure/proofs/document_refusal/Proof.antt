@@ -1,17 +1,10 @@
 -- The fields, then the columns, then the counts.
-use mathlib.Core.Path.{_≡_, refl, sym, ap, ap₂, subst, _∙_}
-use mathlib.Core.Bool.{Bool, true, false, cond, _&&_}
-use Prim.Native.Nat.{ℕ, suc, _+_, _-_, _*_, _/_, _%_, _≤_, _<_}
-use native.Mathlib.Omega.{arith}
-use borrow.Author.Tests.{eq-eqb, ne-eqb, le-leb, lt-leb, not-true, not-false}
+use mathlib.Core.Path.{sym, _∙_}
+use Prim.Native.Nat.{_-_}
 use Rattle.fields.specs.Laws.Fields.{fields-exactly}
 use Rattle.counts.specs.Steps.{PlacesOf}
 use Rattle.structure.specs.Laws.Columns.{columns-exactly}
 use Rattle.structure.specs.Laws.Steps.{first-part, then-part}
-use Rattle.counts.specs.Columns.{columnsNumber}
-use Rattle.counts.specs.Counts.{countsNumber}
-use Rattle.fields.specs.Fields.{fieldsNumber}
-use Rattle.groups.specs.Group.{orElse}
 use borrow.Author.Needs.{needs}
 use Rattle.structure.proofs.document_refusal.Statement.{statement}
 use Rattle.structure.proofs.document_refusal.Tie as tie

@@ -1,9 +1,7 @@
 -- The verdict that is said of a file is 0 exactly for an accepted one.
-use mathlib.Core.Path.{_≡_, refl, sym, ap, ap₂, subst, _∙_}
-use mathlib.Core.Bool.{Bool, true, false, cond, _&&_}
-use Prim.Native.Nat.{ℕ, suc, _+_, _-_, _*_, _/_, _%_, _≤_, _<_}
+use mathlib.Core.Path.{sym, ap, _∙_}
+use Prim.Native.Nat.{_-_}
 use native.Mathlib.Omega.{arith}
-use borrow.Author.Tests.{eq-eqb, ne-eqb, le-leb, lt-leb, not-true, not-false}
 use Rattle.numbers.specs.Laws.BigEndian.{bytes-of}
 use Rattle.structure.specs.Laws.Accepted.{accepted-exactly}
 use Rattle.structure.specs.Laws.Summary.{summary-verdict}

@@ -2,7 +2,7 @@
 -- container's is 0 exactly for a writing of a map that keeps the rules; and the document that was judged is the one that the file is a writing of,
 -- since there is no other.
 -- Assumes nothing.
-use mathlib.Core.Path.{_≡_, refl, sym, ap, subst, _∙_}
+use mathlib.Core.Path.{_≡_, sym, subst}
 use mathlib.Core.List.{List}
 use mathlib.Core.Logic.{_↔_}
 use Prim.Native.Nat.{ℕ}

@@ -1,7 +1,7 @@
 -- The number of the columns is 0 exactly when each column that is there is of its kind and decodes, and at most 19: a refusal of a column is
 -- 14 to 19.
 -- Assumes nothing.
-use mathlib.Core.Path.{_≡_, refl, ap, sym, subst, _∙_}
+use mathlib.Core.Path.{_≡_, refl, ap}
 use mathlib.Core.Bool.{Bool, _&&_}
 use mathlib.Core.List.{List, [], _∷_}
 use mathlib.Core.Logic.{_↔_}
@@ -11,10 +11,9 @@ use native.Mathlib.Omega.{arith}
 use lib.Dec.{eqb, leb, ltb, lit≤}
 use lib.IntN.{ℤ}
 use lib.ListN.{length, drop}
-use Rattle.refusal.specs.Table.{accepted, columnShort, headerRange, payloadSize, numberNotAllowed, lengthDiffers, codecUnknown}
+use Rattle.refusal.specs.Table.{columnShort, lengthDiffers}
 use Rattle.numbers.specs.BigEndian.{unsignedAt}
 use Rattle.codecs.specs.declared.Form.{Form}
-use Rattle.codecs.specs.Delta.{sumsIf}
 use Rattle.codecs.specs.Payload.{valuesIn, allowed}
 use Rattle.columns.specs.declared.Kind.{Kind}
 use Rattle.columns.specs.declared.Wanted.{Wanted}
@@ -72,10 +71,6 @@ decode-sure w s = payload-sure (headerOf w s) (drop 12 s) (header-sure w s)
 pub field-sure : (w : Wanted) (s : List ℕ) → Sure (fieldColumn w s)
 unfolding fieldColumn
 field-sure w s = either Sure (otherNames w s) (lit≤ tt, lit≤ tt) (decode-sure w s)
-
--- a refused column has one of them
-pub refused-number : (w : Wanted) (s : List ℕ) (r : ℕ) → fieldColumn w s ≡ refused r → OfColumn r
-refused-number w s r e = subst Sure e (field-sure w s)
 
 -- The first number of two is 0 exactly when both are
 

@@ -1,26 +1,24 @@
 -- The rules of counts in parts: what each part says by what is read of a file's fields, and that the parts are all of the rules.
 -- Assumes nothing.
-use mathlib.Core.Path.{_≡_, refl, sym, ap, ap₂, subst, _∙_}
+use mathlib.Core.Path.{_≡_, refl, sym, ap, ap₂, _∙_}
 use mathlib.Core.Bool.{Bool, true, false, cond, _&&_}
 use mathlib.Core.List.{List, [], _∷_}
 use mathlib.Core.Option.{Option, some, none as nothing}
-use Prim.Native.Nat.{ℕ, zero, suc, _+_, _-_, _*_, _/_, _%_, _≤_, _<_}
+use Prim.Native.Nat.{ℕ, zero, suc, _+_, _-_, _/_, _%_, _≤_, _<_}
 use native.Mathlib.Omega.{arith}
-use lib.Dec.{eqb, leb, ltb, lit≤}
+use lib.Dec.{eqb, leb, ltb}
 use lib.IntN.{ℤ, pos, negsuc, natAbs}
-use lib.Signed.{leZ, ltZ}
+use lib.Signed.{ltZ}
 use lib.ListN.{length, getD}
 use borrow.Author.Tests.{leb-true, le-leb, lt-leb, ltb-true, eqb-true, eqb-false, eq-eqb, ne-eqb}
 use Rattle.refusal.specs.Table.{accepted, countsDisagree, indexOutside, valueOutside, tooManyGroupTypes}
-use Rattle.messagepack.specs.Document.{Document, Documents, Entries, map, count}
+use Rattle.messagepack.specs.Document.{Document, Entries, map, count}
 use Rattle.messagepack.specs.Rules.{Container}
 use Rattle.messagepack.specs.Walk.{containerNumber}
 use Rattle.messagepack.specs.Read.{documentOf}
 use Rattle.messagepack.specs.Laws.Unique.{documentOf-is}
 use Rattle.values.specs.Parts.{integerOf, textOf, itemsOf, entriesOf}
 use Rattle.values.specs.Places.{At}
-use Rattle.fields.specs.Types.{Has, look, bytesIn}
-use Rattle.fields.specs.Tests.{all}
 use Rattle.fields.specs.Table.{named, fieldCount}
 use Rattle.fields.specs.Fields.{valueOf, fieldAt, requiredIn}
 use Rattle.fields.specs.Noted.{PlaceSays, gone, there}
@@ -29,9 +27,8 @@ use Rattle.fields.specs.Laws.Fields.{field-there}
 use Rattle.columns.specs.declared.Kind.{Kind}
 use Rattle.columns.specs.declared.Kind.the-variants.{Int8, Int32}
 use Rattle.columns.specs.declared.Wanted.the-variants.{Only}
-use Rattle.columns.specs.Decode.{column}
-use Rattle.survey.specs.Field.{fieldColumn, isStrings, lengthOf}
-use Rattle.survey.specs.Cells.{allPass, between, below, allBetween, allBelow, total, TotalsOf}
+use Rattle.survey.specs.Field.{isStrings}
+use Rattle.survey.specs.Cells.{allPass, between, allBetween, allBelow, total, TotalsOf, typeLimit}
 use Rattle.survey.specs.declared.Sums.{Sums}
 use Rattle.survey.specs.Laws.Field.{length-cells, suits-only, fieldColumn-suits}
 use Rattle.lists.specs.Integers.{integersOf, noneNegative, sum, summed}
@@ -41,10 +38,9 @@ use Rattle.groups.specs.Group.{itemsIn, integersIn, listIn, bondsAgree, pairs, 
 use Rattle.groups.specs.Steps.{agrees, listOf as groupList}
 use Rattle.groups.specs.declared.List as list
 use Rattle.groups.specs.Laws.Group.{Stands, place-some}
-use Rattle.indices.specs.Indices.{chainsInside, transformsInside}
-use Rattle.counts.specs.Columns.{field, columns, AllRight, decoded, cellsOf, cellsIn, lengthIn}
-use Rattle.counts.specs.Counts.{typeLimit, countLimit, integerIn, integer, natural, integers, cells, groupTypes, groupCells, outerBonds, outerOrders, fewTypes, numbersRight, chainsAgree, lengthsAgree, groupsInside, atomsAgree, bondsTotal, outerInside, outerRight, valuesRight, indicesInside, unless, first, countsNumber}
-use Rattle.counts.specs.Steps.{PlacesOf, listOf, Right}
+use Rattle.counts.specs.Columns.{field, decoded, cellsOf, cellsIn, lengthIn}
+use Rattle.counts.specs.Counts.{countLimit, integerIn, integer, integers, cells, groupTypes, groupCells, outerBonds, outerOrders, fewTypes, numbersRight, chainsAgree, lengthsAgree, groupsInside, atomsAgree, bondsTotal, outerInside, outerRight, valuesRight, indicesInside, unless, countsNumber}
+use Rattle.counts.specs.Steps.{listOf, Right}
 use Rattle.structure.specs.Accepted.{entriesNumber, verdictOf}
 use Rattle.structure.specs.Steps.{Facts, countOf, CountsIn, CountsAre, countsFit, chainsFit, typeCount, chainsNumber, totalsNumber, totalsPart, groupsPart, valuesPart}
 use Rattle.structure.specs.declared.Counts.{Counts}
@@ -361,11 +357,8 @@ module _ (es : Entries) where
 pub and-first : (a b : Bool) → a ≡ false → a && b ≡ false
 and-first a b e = rw e
 
-pub and-second : (a b : Bool) → a ≡ true → b ≡ false → a && b ≡ false
-and-second a b e f = rw (e, f)
-
-pub and-both : (a b : Bool) → a ≡ true → b ≡ true → a && b ≡ true
-and-both a b e f = rw (e, f)
+pub and-true : (a b : Bool) → a ≡ true → a && b ≡ b
+and-true a b e = rw e
 
 -- numbers one after the other
 

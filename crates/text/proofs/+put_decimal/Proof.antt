@@ -1,12 +1,9 @@
 -- One digit is put alone; of more, those above the last are put first, and the number falls.
-use mathlib.Core.Path.{refl, sym, ap, _∙_}
-use mathlib.Core.List.{List, [], _∷_, _++_}
-use Prim.Native.Nat.{ℕ, _/_, _<_}
+use mathlib.Core.Path.{_∙_}
+use Prim.Native.Nat.{ℕ, _<_}
 use native.Mathlib.Omega.{arith}
 use borrow.Fn.Kinds.{In}
 use borrow.Fn.PlainCycle.{Measures, is, falls, and}
-use borrow.Author.Needs.{needs}
-use Rattle.text.specs.Decimal.{decimal}
 use Rattle.text.specs.Laws.Put.{put-more, put-as, put-length}
 use Rattle.text.specs.Laws.Decimal.{decimal-one, decimal-more}
 use Rattle.text.proofs.put_decimal.Reads as put-decimal

@@ -1,6 +1,5 @@
 -- A byte inside the buffer is stored; past its end nothing is.
 use mathlib.Core.Path.{sym}
-use mathlib.Core.List.{[], _∷_}
 use native.Mathlib.Omega.{arith}
 use borrow.Author.Needs.{needs}
 use lib.Seq.{set-out}

@@ -2,7 +2,7 @@
 use mathlib.Core.Path.{_≡_, refl, sym, ap, _∙_}
 use mathlib.Core.Bool.{Bool, true, false, cond}
 use mathlib.Core.List.{List, [], _∷_, _++_}
-use Prim.Native.Nat.{ℕ, zero, suc, _+_, _-_, _*_, _/_, _%_, _^_, _<_, _≤_, min}
+use Prim.Native.Nat.{ℕ, zero, suc, _+_, _-_, _*_, _/_, _%_, _^_, _<_, _≤_}
 use native.Mathlib.Omega.{arith}
 use native.Mathlib.Nat.{pow-suc}
 use lib.Dec.{ltb, leb}
@@ -12,30 +12,57 @@ use Rattle.text.specs.declared.Number.{Number}
 use Rattle.text.specs.declared.Number.the-variants.{Is, None}
 use Rattle.text.specs.Decimal.{glyph, decimalIn, decimal, allDigits, valueFrom, most, numberIn}
 
+-- a decimal digit is one of base 16
+glyph-digit : (n : ℕ) → n < 10 → glyph n ≡ 48 + n
+glyph-digit n h = let e : n % 16 ≡ n = omega arith in rw e (simp (lt-ltb n 10 h))
+
 -- one digit
 pub decimal-one : (n : ℕ) → n < 10 → decimal n ≡ glyph n ∷ []
 unfolding decimal decimalIn
-decimal-one n h = simp (lt-ltb n 10 h)
+decimal-one n h = simp (lt-ltb n 10 h) (ap (λ (d : ℕ). d ∷ []) (sym (glyph-digit n h)))
 
 -- more room changes nothing
 decimal-room : (k n : ℕ) → n < 10 ^ suc k → decimalIn (suc k) n ≡ decimalIn k n
 unfolding decimalIn
-decimal-room zero n h = simp (lt-ltb n 10 h)
+decimal-room zero n h = let e : 48 + n ≡ 48 + n % 10 = omega arith in simp (lt-ltb n 10 h) (ap (λ (d : ℕ). d ∷ []) e)
 decimal-room (suc k) n h =
     let e = pow-suc 10 (suc k) in
-    ap (λ (l : List ℕ). cond (ltb n 10) (glyph n ∷ []) (l ++ (glyph (n % 10) ∷ []))) (decimal-room k (n / 10) (omega arith))
+    ap (λ (l : List ℕ). cond (ltb n 10) ((48 + n) ∷ []) (l ++ ((48 + n % 10) ∷ []))) (decimal-room k (n / 10) (omega arith))
 
 -- the last digit, after those above it
-decimal-last : (k n : ℕ) → 10 ≤ n → n < 10 ^ suc k → decimalIn k n ≡ decimalIn k (n / 10) ++ (glyph (n % 10) ∷ [])
+decimal-last : (k n : ℕ) → 10 ≤ n → n < 10 ^ suc k → decimalIn k n ≡ decimalIn k (n / 10) ++ ((48 + n % 10) ∷ [])
 unfolding decimalIn
 decimal-last zero n h r = absurd (omega arith)
 decimal-last (suc k) n h r =
     let e = pow-suc 10 (suc k) in
-    simp (le-ltb n 10 h) (ap (λ (l : List ℕ). l ++ (glyph (n % 10) ∷ [])) (sym (decimal-room k (n / 10) (omega arith))))
+    simp (le-ltb n 10 h) (ap (λ (l : List ℕ). l ++ ((48 + n % 10) ∷ [])) (sym (decimal-room k (n / 10) (omega arith))))
 
 pub decimal-more : (n : ℕ) → 10 ≤ n → n < 10000000000 → decimal n ≡ decimal (n / 10) ++ (glyph (n % 10) ∷ [])
 unfolding decimal
-decimal-more n h r = decimal-last 9 n h r
+decimal-more n h r =
+    decimal-last 9 n h r ∙ ap (λ (d : ℕ). decimalIn 9 (n / 10) ++ (d ∷ [])) (sym (glyph-digit (n % 10) (omega arith)))
+
+-- a digit more at the end
+value-last : (s : List ℕ) (n d : ℕ) → valueFrom n (s ++ (d ∷ [])) ≡ valueFrom n s * 10 + (d - 48)
+unfolding valueFrom
+value-last [] n d = refl
+value-last (b ∷ s) n d = value-last s (n * 10 + (b - 48)) d
+
+decimalIn-value : (k n : ℕ) → n < 10 ^ suc k → valueFrom 0 (decimalIn k n) ≡ n
+unfolding decimalIn valueFrom
+decimalIn-value zero n h = omega arith
+decimalIn-value (suc k) n h =
+    let e = pow-suc 10 (suc k) in
+    by (ltb n 10) refl (decimalIn-value k (n / 10) (omega arith))
+  where
+    by : (test : Bool) → ltb n 10 ≡ test → valueFrom 0 (decimalIn k (n / 10)) ≡ n / 10 → valueFrom 0 (cond test ((48 + n) ∷ []) (decimalIn k (n / 10) ++ ((48 + n % 10) ∷ []))) ≡ n
+    by true t i = omega arith
+    by false t i = rw (value-last (decimalIn k (n / 10)) 0 (48 + n % 10), i) (omega arith)
+
+-- a number in decimal says that number
+pub decimal-value : (n : ℕ) → n < 10000000000 → valueFrom 0 (decimal n) ≡ n
+unfolding decimal
+decimal-value n h = decimalIn-value 9 n h
 
 -- at most ten digits
 decimalIn-few : (k n : ℕ) → length (decimalIn k n) ≤ suc k
@@ -43,7 +70,7 @@ unfolding decimalIn
 decimalIn-few zero n = omega arith
 decimalIn-few (suc k) n = by (ltb n 10) (decimalIn-few k (n / 10))
   where
-    by : (test : Bool) → length (decimalIn k (n / 10)) ≤ suc k → length (cond test (glyph n ∷ []) (decimalIn k (n / 10) ++ (glyph (n % 10) ∷ []))) ≤ suc (suc k)
+    by : (test : Bool) → length (decimalIn k (n / 10)) ≤ suc k → length (cond test ((48 + n) ∷ []) (decimalIn k (n / 10) ++ ((48 + n % 10) ∷ []))) ≤ suc (suc k)
     by true h = omega arith
     by false h = simp length-append (omega arith)
 

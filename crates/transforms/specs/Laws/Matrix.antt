@@ -25,7 +25,8 @@ use Rattle.values.specs.Laws.Places.{heads, isFloat, read-heads, open-float, op
 use Rattle.messagepack.specs.Rules.{Container}
 use Rattle.messagepack.specs.Walk.{containerNumber}
 use Rattle.messagepack.specs.Laws.Unique.{documentOf-is}
-use Rattle.fields.specs.Types.{FieldType, Rows, arrayOf, exactly, mapWith, aFloat, bytesIn, look, Each, Has, HasType, Fits}
+use Rattle.fields.specs.Types.{FieldType, Rows, arrayOf, exactly, mapWith, aFloat, look, Each, Has, HasType, Fits}
+use Rattle.utf8.specs.Ascii.{ascii}
 use Rattle.fields.specs.Table.{transformRows, assemblyRows, named}
 use Rattle.fields.specs.Tests.{isThere, typed}
 use Rattle.fields.specs.Fields.{typeIn, fieldTypeOf}
@@ -252,14 +253,14 @@ map-rows rows x {y} i h q =
     let e : entriesOf y ≡ m .entries = ap entriesOf (m .is) in
     (subst (Has rows) (sym e) (m .has), subst (Fits rows) (sym e) (m .fits))
 
-pub transforms-held : (x : Document) {y : Document} (a : ℕ) → typed assembliesType x ≡ true → nth a (itemsOf x) ≡ some y → Held (bytesIn "transformList") (arrayOf (mapWith transformRows)) y
+pub transforms-held : (x : Document) {y : Document} (a : ℕ) → typed assembliesType x ≡ true → nth a (itemsOf x) ≡ some y → Held (ascii "transformList") (arrayOf (mapWith transformRows)) y
 unfolding assemblyRows Has Fits
 transforms-held x a h q =
     let m = map-rows assemblyRows x a (typed-exactly assembliesType x .0 h) q in
     let v = m .0 .1 .0 in
     record { x = v .x; is = v .is; typed = m .1 .1 .0 (v .x) (v .is) }
 
-pub matrix-held : (z : Document) {w : Document} (t : ℕ) → HasType (arrayOf (mapWith transformRows)) z → nth t (itemsOf z) ≡ some w → Held (bytesIn "matrix") (exactly 16 aFloat) w
+pub matrix-held : (z : Document) {w : Document} (t : ℕ) → HasType (arrayOf (mapWith transformRows)) z → nth t (itemsOf z) ≡ some w → Held (ascii "matrix") (exactly 16 aFloat) w
 unfolding transformRows Has Fits
 matrix-held z t h q =
     let m = map-rows transformRows z t h q in
@@ -277,11 +278,11 @@ module _ (a t : ℕ) (x : Document) (h : typed assembliesType x ≡ true) where
   pub no-assembly : nth a (itemsOf x) ≡ nothing → refusedBy noSuchEntry ≡ answer (assembliesNumber a t (some x)) (matrixIn (transformIn a t (some x)))
   no-assembly q = rw (h, q)
 
-  module _ {y z : Document} (p : nth a (itemsOf x) ≡ some y) (q : look (bytesIn "transformList") (entriesOf y) ≡ some z) where
+  module _ {y z : Document} (p : nth a (itemsOf x) ≡ some y) (q : look (ascii "transformList") (entriesOf y) ≡ some z) where
     pub no-transform : nth t (itemsOf z) ≡ nothing → refusedBy noSuchEntry ≡ answer (assembliesNumber a t (some x)) (matrixIn (transformIn a t (some x)))
     no-transform n = rw (h, p, q, n)
 
-    pub matrix-there : {w m : Document} {floats : List Float} → nth t (itemsOf z) ≡ some w → look (bytesIn "matrix") (entriesOf w) ≡ some m → floats ≡ floatsOf (itemsOf m) → record { refusal = accepted; floats = floats } ≡ answer (assembliesNumber a t (some x)) (matrixIn (transformIn a t (some x)))
+    pub matrix-there : {w m : Document} {floats : List Float} → nth t (itemsOf z) ≡ some w → look (ascii "matrix") (entriesOf w) ≡ some m → floats ≡ floatsOf (itemsOf m) → record { refusal = accepted; floats = floats } ≡ answer (assembliesNumber a t (some x)) (matrixIn (transformIn a t (some x)))
     matrix-there u v f = rw (h, p, q, u, v, f)
 
 pub no-assemblies : (a t : ℕ) {o : Option Document} → o ≡ nothing → refusedBy noSuchField ≡ answer (assembliesNumber a t o) (matrixIn (transformIn a t o))
@@ -317,8 +318,8 @@ no-container {s} a t {r} n e =
     answers-by {n = containerNumber s} (rw (ne-eqb (containerNumber s) accepted n)) refl (e ∙ rw (ne-eqb (containerNumber s) accepted n))
 
 -- in a container bioAssemblyList decides
-pub container-answers : {s : List ℕ} (a t : ℕ) {r : Transform} (c : Container s) → containerNumber s ≡ 0 → r ≡ answer (assembliesNumber a t (look (bytesIn "bioAssemblyList") (c .entries))) (matrixIn (transformIn a t (look (bytesIn "bioAssemblyList") (c .entries)))) → Answers s a t r
+pub container-answers : {s : List ℕ} (a t : ℕ) {r : Transform} (c : Container s) → containerNumber s ≡ 0 → r ≡ answer (assembliesNumber a t (look (ascii "bioAssemblyList") (c .entries))) (matrixIn (transformIn a t (look (ascii "bioAssemblyList") (c .entries)))) → Answers s a t r
 unfolding matrixNumber
 container-answers {s} a t {r} c z e =
-    let d : assembliesOf s ≡ look (bytesIn "bioAssemblyList") (c .entries) = ap (λ (x : Document). look (bytesIn "bioAssemblyList") (entriesOf x)) (documentOf-is (map (c .entries)) s (c .writes) (c .nested)) in
+    let d : assembliesOf s ≡ look (ascii "bioAssemblyList") (c .entries) = ap (λ (x : Document). look (ascii "bioAssemblyList") (entriesOf x)) (documentOf-is (map (c .entries)) s (c .writes) (c .nested)) in
     answers-by (rw (eq-eqb (containerNumber s) accepted z) (ap (assembliesNumber a t) d)) (ap (λ (o : Option Document). matrixIn (transformIn a t o)) d) e

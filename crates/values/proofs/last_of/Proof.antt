@@ -1,6 +1,5 @@
 -- Each size is a case.
 use borrow.Author.Tests.{eq-eqb, ne-eqb}
-use borrow.Author.Needs.{needs}
 use Rattle.values.proofs.last_of.Statement.{statement}
 use Rattle.values.proofs.last_of.Tie as tie
 

@@ -1,11 +1,11 @@
 -- What is left to pass over, whatever it is, stands from here up to the same end; a count that cannot be true stands nowhere.
-use mathlib.Core.Path.{_≡_, sym, _∙_}
-use Prim.Native.Nat.{ℕ, suc, _+_, _-_, _≤_}
+use mathlib.Core.Path.{_≡_}
+use Prim.Native.Nat.{ℕ, _-_}
 use native.Mathlib.Omega.{arith}
 use lib.ListN.{length}
 use Rattle.heads.specs.Table.{leadTable}
 use Rattle.values.specs.Standing.{Standing}
-use Rattle.values.specs.Laws.Standing.{Went, standing-counts, standing-inside, standing-none, standing-suc, standing-swap, stepped-stop, stepped-on}
+use Rattle.values.specs.Laws.Standing.{standing-counts, standing-inside, standing-none, standing-suc, standing-swap, stepped-stop, stepped-on}
 use borrow.Author.Needs.{needs}
 use Rattle.values.proofs.skip.Statement.{statement}
 use Rattle.values.proofs.skip.Tie as tie

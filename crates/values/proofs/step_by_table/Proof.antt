@@ -1,7 +1,7 @@
 -- Each kind is a case of the laws of steps.
 use mathlib.Core.Path.{sym, refl, _∙_}
 use Rattle.heads.specs.Laws.Head.{head-inside}
-use Rattle.values.specs.Laws.Standing.{steps-cut-head, steps-no-value, steps-on, steps-past, steps-pairs}
+use Rattle.values.specs.Laws.Standing.{steps-cut-head, steps-no-value, steps-on, steps-past, steps-pairs, steps-items}
 use borrow.Author.Needs.{needs}
 use Rattle.values.proofs.step_by_table.Statement.{statement}
 use Rattle.values.proofs.step_by_table.Tie as tie
@@ -31,7 +31,7 @@ returns-8 : tie.Need-returns-8
 returns-8 c = λ t. steps-past _ _ (sym (c .before .before .before .before .before .before .before .head-at .ensures .1 t) ∙ c .before .before .before .before .before .n .given .1) (sym (c .before .before .before .kind-at .ensures .1 t) ∙ c .before .enum-told8 .given .1) refl refl (c .past2 .ensures)
 
 returns-9 : tie.Need-returns-9
-returns-9 c = λ t. let h = sym (c .before .before .before .before .before .before .head-at .ensures .1 t) ∙ c .before .before .before .before .n .given .1 in steps-on _ _ h (sym (c .before .before .kind-at .ensures .1 t) ∙ c .enum-told9 .given .1) (head-inside _ _ h .1)
+returns-9 c = λ t. steps-items _ _ (sym (c .before .before .before .before .before .before .before .head-at .ensures .1 t) ∙ c .before .before .before .before .before .n .given .1) (sym (c .before .before .before .kind-at .ensures .1 t) ∙ c .before .enum-told9 .given .1) (c .over-items .ensures)
 
 returns-10 : tie.Need-returns-10
 returns-10 c = λ t. steps-pairs _ _ (sym (c .before .before .before .before .before .before .before .head-at .ensures .1 t) ∙ c .before .before .before .before .before .n .given .1) (sym (c .before .before .before .kind-at .ensures .1 t) ∙ c .before .enum-told10 .given .1) refl refl (c .pairs .ensures)
@@ -55,6 +55,7 @@ step-by-table-spec =
     (λ c. search needs)
     (λ c κs. search needs)
     (λ c. search needs)
+    (λ c κs. search needs)
     (λ c. search needs)
     (λ c κs. search needs)
     returns-2

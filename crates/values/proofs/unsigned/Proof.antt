@@ -1,5 +1,4 @@
 -- A number up to the limit is its own integer.
-use mathlib.Core.Path.{_∙_}
 use native.Mathlib.Omega.{arith}
 use mir.Syntax.{w32}
 use mir.Facts.{toZ-pos}

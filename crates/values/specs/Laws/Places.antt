@@ -2,14 +2,14 @@
 -- Assumes nothing.
 use mathlib.Core.Path.{_≡_, refl, sym, ap, subst, _∙_}
 use mathlib.Core.Bool.{Bool, true, false, cond}
-use mathlib.Core.List.{List, [], _∷_, _++_, append-assoc, append-nil}
+use mathlib.Core.List.{List, [], _++_, append-nil}
 use mathlib.Core.Logic.{_⊎_, inl, inr}
-use Prim.Native.Nat.{ℕ, zero, suc, _+_, _-_, _^_, _*_, _<_, _≤_}
+use Prim.Native.Nat.{ℕ, zero, suc, _+_, _-_, _<_, _≤_}
 use native.Mathlib.Omega.{arith}
 use borrow.Author.Tests.{le-leb, le-ltb}
 use native.Mathlib.Nat.{zero-add}
-use lib.Dec.{ltb, leb, eqb, lit<, lit≤}
-use lib.IntN.{ℤ, pos, negsuc}
+use lib.Dec.{eqb, lit<, lit≤}
+use lib.IntN.{ℤ, pos}
 use lib.ListN.{length, take, drop, getD, length-append}
 use lib.Seq.{drop-length}
 use Rattle.heads.specs.Lead.{moreOf}
@@ -18,13 +18,13 @@ use Rattle.heads.specs.declared.Kind.{Kind}
 use Rattle.heads.specs.declared.Head.{Head}
 use Rattle.heads.specs.Table.{kindNumber}
 use Rattle.heads.specs.Span.{Span}
-use Rattle.heads.specs.Laws.Span.{span-none, follows, holds, fits}
+use Rattle.heads.specs.Laws.Span.{span-none, holds, fits}
 use Rattle.heads.specs.Laws.Head.{Told, head-told, kind-in, head-held}
-use Rattle.heads.specs.Laws.Table.{moreOf-bound, moreOf-four, low-lead}
+use Rattle.heads.specs.Laws.Table.{moreOf-bound, moreOf-four, low-lead, string-lead}
 use Rattle.numbers.specs.Laws.BigEndian.{length-bytesOf}
 use Rattle.messagepack.specs.Document.{Document, Documents, Entries, integer, float, string, binary, array, map, none, item, empty, entry, count, size, signedValue, UnsignedOf, SignedOf, TextOf, Writes, WritesAll, WritesEntries}
 use Rattle.messagepack.specs.Rules.{Keeps, KeepsAll, KeepsEntries, Distinct, NoKey, InRange, Container}
-use Rattle.values.specs.Parts.{integerOf, textOf, itemsOf, entriesOf}
+use Rattle.values.specs.Parts.{integerOf}
 use Rattle.values.specs.Places.{At, AtAll, AtEntries, TextAt, ItemsAt, EntriesAt, lastOf, halfOf, unsignedBy, signedBy}
 use Rattle.values.specs.declared.Part.{Part}
 use Rattle.values.specs.Standing.{Standing}
@@ -420,6 +420,13 @@ module _ {s : List ℕ} {p e : ℕ} (x : Document) (a : At s p x e) {n r : ℕ} 
       go (integer v) b g = clash g
       go (float bits) b g = clash g
       go (array ds) b g = clash g
+
+-- a string whose head is its lead byte
+pub read-short : {s : List ℕ} {p e : ℕ} (x : Document) → At s p x e → p < length s → 0xa0 ≤ getD s p 0 → getD s p 0 < 0xc0 → {n : ℕ} → n ≡ getD s p 0 - 0xa0 → (y : Part) → (p + 1 + n ≤ length s → (y .at ≡ p + 1) × (y .count ≡ n)) → TextAt s x e y
+read-short {s} {p} {e} x a lt low high is y f =
+    let l = string-lead (getD s p 0) low high in
+    let k : kindAt s p ≡ Kind.Str = kind-in s p lt ∙ l .kind in
+    read-text x a (sym (head-held s p {size = 1} (rw (l .more)) refl (omega arith) (is ∙ sym (l .held)))) k refl refl refl refl y f
 
 -- there are at most as many values as bytes
 pub all-inside : {s : List ℕ} {p e : ℕ} (ds : Documents) → p ≤ length s → AtAll s p ds e → p + count ds ≤ length s

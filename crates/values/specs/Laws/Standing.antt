@@ -1,27 +1,25 @@
 -- Values one after another: each takes a byte at least, and a head is followed by the values inside.
 -- Assumes nothing.
 use mathlib.Core.Path.{_≡_, refl, sym, ap, subst, _∙_}
-use mathlib.Core.Bool.{Bool, true, false, cond, not}
-use mathlib.Core.List.{List, [], _∷_, _++_, append-assoc, append-nil}
+use mathlib.Core.Bool.{Bool, true, false, cond}
+use mathlib.Core.List.{List, [], _++_, append-assoc, append-nil}
 use mathlib.Core.Logic.{_⊎_, inl, inr}
 use Prim.Native.Nat.{ℕ, zero, suc, _+_, _-_, _<_, _≤_}
 use native.Mathlib.Omega.{arith}
 use native.Mathlib.Nat.{add-zero, zero-add, suc-add, add-assoc}
 use lib.Dec.{leb}
-use lib.IntN.{ℤ}
 use borrow.Author.Tests.{leb-true, leb-false}
 use lib.ListN.{length, getD, drop, length-append}
-use Rattle.numbers.specs.BigEndian.{bytesOf}
-use Rattle.heads.specs.Lead.{moreOf}
+use Rattle.heads.specs.Lead.{kindOf, moreOf}
 use Rattle.heads.specs.Head.{HeadOf, kindAt, headAt}
 use Rattle.heads.specs.declared.Kind.{Kind}
 use Rattle.heads.specs.declared.Head.{Head}
 use Rattle.heads.specs.Span.{Span}
-use Rattle.heads.specs.Laws.Span.{span-join, follows, fits}
-use Rattle.heads.specs.Laws.Head.{Told, head-told, head-inside, kind-in, head-held}
+use Rattle.heads.specs.Laws.Span.{follows, fits}
+use Rattle.heads.specs.Laws.Head.{Told, head-told, head-inside, kind-in, head-held, head-number, head-cut}
 use Rattle.heads.specs.Laws.Table.{Alone, low-lead, string-lead}
 use Rattle.messagepack.specs.Document.{Document, Documents, Entries, integer, float, string, binary, array, map, none, item, empty, entry, count, size, UnsignedOf, SignedOf, TextOf, Writes, WritesAll, WritesEntries}
-use Rattle.values.specs.Standing.{Standing, pastOver, pairsOver, Stepped, on, stop}
+use Rattle.values.specs.Standing.{Standing, pastOver, pairsOver, LowRun, ItemsOver, over, each, Stepped, on, stop}
 use Rattle.values.specs.declared.Over.{Over}
 
 -- a head has a byte at least
@@ -313,3 +311,50 @@ module _ (s : List ℕ) (p : ℕ) (lt : p < length s) where
 
   pub steps-short : {o : Over} {n : ℕ} → 0xa0 ≤ getD s p 0 → getD s p 0 < 0xc0 → n ≡ getD s p 0 - 0xa0 → o ≡ pastOver (length s) n (p + 1) → Stepped s p o
   steps-short l h e q = let a = alone-head (string-lead (getD s p 0) l h) in steps-past s p (a .1) (a .0) refl refl (q ∙ ap (λ (m : ℕ). pastOver (length s) m (p + 1)) e)
+
+-- a float
+
+float-kind : (b : ℕ) → b ≡ 0xca → kindOf b ≡ Kind.Float
+unfolding kindOf
+float-kind b e = rw e
+
+float-more : (b : ℕ) → b ≡ 0xca → moreOf b ≡ 4
+unfolding moreOf
+float-more b e = rw e
+
+pub steps-float : (s : List ℕ) (p : ℕ) → p < length s → {o : Over} → getD s p 0 ≡ 0xca → o ≡ pastOver (length s) 4 (p + 1) → Stepped s p o
+steps-float s p lt b q = subst (Stepped s p) (sym q) (go (leb (p + 1 + 4) (length s)) refl)
+  where
+    size : 5 ≡ moreOf (getD s p 0) + 1
+    size = rw (float-more (getD s p 0) b)
+
+    kind : kindAt s p ≡ Kind.Float
+    kind = kind-in s p lt ∙ float-kind (getD s p 0) b
+
+    go : (t : Bool) → leb (p + 1 + 4) (length s) ≡ t → Stepped s p (cond t (Over.On (p + 1 + 4) 0) Over.Stop)
+    go true e =
+        let l = leb-true (p + 1 + 4) (length s) e in
+        let f : p + 5 ≡ p + 1 + 4 = omega arith in
+        subst (λ (r : ℕ). Stepped s p (Over.On r 0)) f (steps-on s p (sym (head-number s p 3 size refl (omega arith) refl)) kind (omega arith))
+    go false e = steps-cut-head s p (head-cut s p size lt (omega (arith, leb-false (p + 1 + 4) (length s) e)))
+
+-- an array, by its values or at once
+
+pub low-first : {s : List ℕ} {r m : ℕ} → LowRun s r (suc m) → (r < length s) × (getD s r 0 < 0x80)
+low-first {s} {r} l = (omega (arith, l .within), subst (λ (q : ℕ). getD s q 0 < 0x80) (add-zero r) (l .low 0 (omega arith)))
+
+pub low-rest : {s : List ℕ} {r m : ℕ} → LowRun s r (suc m) → LowRun s (r + 1) m
+low-rest {s} l = record { within = omega (arith, l .within); low = λ i h. subst (λ (q : ℕ). getD s q 0 < 0x80) (omega arith) (l .low (suc i) (omega arith)) }
+
+low-standing : (s : List ℕ) (m n r e : ℕ) → LowRun s r m → Standing s (m + n) r e → Standing s (0 + n) (r + m) e
+low-standing s zero n r e l st = subst (λ (q : ℕ). Standing s (0 + n) q e) (sym (add-zero r)) st
+low-standing s (suc m) n r e l st =
+    let first : Standing s (suc (m + n)) r e = subst (λ (k : ℕ). Standing s k r e) (suc-add m n) st in
+    let b = low-first l in
+    let w = stepped-on s r (steps-low s r (b .0) (b .1)) refl in
+    let rest : Standing s (m + n) (r + 1) e = subst (λ (k : ℕ). Standing s k (r + 1) e) (zero-add (m + n)) (w .goes (m + n) e first) in
+    subst (λ (q : ℕ). Standing s (0 + n) q e) (omega arith) (low-standing s m n (r + 1) e (low-rest l) rest)
+
+pub steps-items : (s : List ℕ) (p : ℕ) {m r : ℕ} → headAt s p ≡ Head.At m r → kindAt s p ≡ Kind.Array → {o : Over} → ItemsOver s m r o → Stepped s p o
+steps-items s p g h each = steps-on s p g h (head-inside s p g .1)
+steps-items s p {m} {r} g h (over l) = let after : p < r + m = omega (arith, head-inside s p g) in on after (l .within) (λ n e st. low-standing s m n r e l (stands-step s p n e st g h))

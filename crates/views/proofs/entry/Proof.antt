@@ -1,16 +1,16 @@
 -- The entries from here on decide: the next one's key is the name, or the search goes on after its value.
 use mathlib.Core.Path.{_≡_, sym, ap, subst, _∙_}
 use mathlib.Core.Bool.{true, false}
-use Prim.Native.Nat.{ℕ, _+_, _-_, _≤_}
+use Prim.Native.Nat.{ℕ, _+_, _-_}
 use native.Mathlib.Omega.{arith}
-use lib.ListN.{length, take, drop}
+use lib.ListN.{length, drop}
 use borrow.Author.Needs.{needs}
 use Rattle.numbers.specs.Laws.BigEndian.{bytes-of}
 use Rattle.messagepack.specs.Equal.{equal}
 use Rattle.views.specs.View.{Placed}
 use Rattle.views.specs.Shown.{Looking}
 use Rattle.values.specs.Laws.Standing.{stands-one}
-use Rattle.views.specs.Laws.View.{Next, looking-next, looking-last, next-read, next-there, next-same}
+use Rattle.views.specs.Laws.View.{looking-next, looking-last, next-read, next-there, next-same}
 use Rattle.views.proofs.entry.Statement.{statement}
 use Rattle.views.proofs.entry.Tie as tie
 

@@ -1,10 +1,8 @@
 -- A file that is no container has its number; in one the search begins after the outer map's head.
-use mathlib.Core.Path.{_≡_, sym, _∙_}
-use Prim.Native.Nat.{ℕ}
-use native.Mathlib.Omega.{arith}
+use mathlib.Core.Path.{sym, _∙_}
 use native.Mathlib.Nat.{pos-of-ne-zero}
 use borrow.Author.Needs.{needs}
-use Rattle.views.specs.View.{Viewable, refused}
+use Rattle.views.specs.View.{refused}
 use Rattle.views.specs.Laws.View.{refused-number, container-head, looking-first}
 use Rattle.views.proofs.find.Statement.{statement}
 use Rattle.views.proofs.find.Tie as tie

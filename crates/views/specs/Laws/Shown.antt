@@ -1,8 +1,8 @@
 -- The part that shows a value: the body of a string or a binary, else the whole value.
 -- Assumes nothing.
-use mathlib.Core.Path.{_≡_, refl, sym, ap, subst, _∙_}
+use mathlib.Core.Path.{_≡_, refl, sym, ap, _∙_}
 use mathlib.Core.Bool.{Bool, true, false, not}
-use mathlib.Core.List.{List, [], _∷_, _++_, append-assoc}
+use mathlib.Core.List.{List, _++_, append-assoc}
 use mathlib.Core.Logic.{_⊎_, inl, inr}
 use Prim.Native.Nat.{ℕ, _+_, _-_}
 use native.Mathlib.Omega.{arith}
@@ -10,11 +10,10 @@ use lib.IntN.{ℤ}
 use lib.ListN.{length, drop, length-append}
 use Rattle.heads.specs.Head.{HeadOf, kindAt, headAt}
 use Rattle.heads.specs.declared.Kind.{Kind}
-use Rattle.heads.specs.Laws.Head.{Told, head-told}
+use Rattle.heads.specs.Laws.Head.{head-told}
 use Rattle.messagepack.specs.Document.{Document, integer, float, string, binary, array, map, UnsignedOf, SignedOf, TextOf, Writes}
 use Rattle.values.specs.Standing.{Standing}
 use Rattle.values.specs.Laws.Standing.{stands-one}
-use Rattle.views.specs.View.{shown}
 use Rattle.views.specs.Shown.{isText, bodyPlace, ShowsAt}
 use Rattle.views.specs.declared.Place.{Place}
 

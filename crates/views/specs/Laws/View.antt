@@ -2,26 +2,24 @@
 -- Assumes nothing.
 use mathlib.Core.Path.{_≡_, refl, sym, ap, subst, _∙_}
 use mathlib.Core.Bool.{Bool, true, false, cond, _||_}
-use mathlib.Core.List.{List, [], _∷_, _++_, append-assoc, append-nil}
+use mathlib.Core.List.{List, [], _++_, append-assoc, append-nil}
 use mathlib.Core.Logic.{_↔_}
-use Prim.Native.Nat.{ℕ, zero, suc, _+_, _-_, _<_, _≤_}
+use Prim.Native.Nat.{ℕ, suc, _+_, _-_, _<_, _≤_}
 use native.Mathlib.Omega.{arith}
-use native.Mathlib.Nat.{add-zero, zero-add, add-suc, suc-add, not-suc-le-zero}
-use native.Mathlib.Numerals.{sub-one}
-use lib.Dec.{eqb, lit<}
+use native.Mathlib.Nat.{add-zero, zero-add, suc-add}
+use lib.Dec.{lit<}
 use lib.ListN.{length, take, drop, length-append}
 use lib.Seq.{drop-at, take-at, drop-drop, drop-append-le}
 use borrow.Author.Tests.{eq-eqb, ne-eqb}
 use Rattle.refusal.specs.Table.{accepted, noSuchField}
 use Rattle.numbers.specs.BigEndian.{Bytes}
-use Rattle.heads.specs.Head.{HeadOf, kindAt, headAt}
+use Rattle.heads.specs.Head.{HeadOf, headAt}
 use Rattle.heads.specs.declared.Kind.{Kind}
 use Rattle.heads.specs.declared.Head.{Head}
-use Rattle.heads.specs.Span.{Span}
 use Rattle.heads.specs.Laws.Span.{follows, holds, fits}
 use Rattle.heads.specs.Laws.Head.{Told, head-told}
 use Rattle.messagepack.specs.Document.{Document, Entries, integer, float, string, binary, array, map, empty, entry, size, TextOf, Writes, WritesEntries}
-use Rattle.messagepack.specs.Rules.{depth, Container}
+use Rattle.messagepack.specs.Rules.{Container}
 use Rattle.messagepack.specs.Equal.{equal}
 use Rattle.messagepack.specs.Walk.{containerNumber}
 use Rattle.messagepack.specs.Read.{documentOf}
@@ -30,8 +28,6 @@ use Rattle.messagepack.specs.Laws.Unique.{no-two-documents, documentOf-is}
 use Rattle.messagepack.specs.Laws.Container.{container-exactly}
 use Rattle.views.specs.View.{EntryIn, shown, Viewable, startOf, hasKey, viewNumber, Placed, placed, refused, Viewed, viewed, nothing}
 use Rattle.views.specs.Shown.{Looking}
-use Rattle.values.specs.Parts.{entriesOf}
-use Rattle.values.specs.Laws.Standing.{writes-long}
 use Rattle.views.specs.declared.Place.{Place}
 
 -- entries after entries

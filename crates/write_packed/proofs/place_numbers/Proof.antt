@@ -1,22 +1,70 @@
--- Each arm is the same call with its own size.
-use Prim.Native.Nat.{_-_}
+-- The bytes are counted up to the room, and put where they fit.
+use mathlib.Core.Path.{_≡_, sym, ap, _∙_}
+use Prim.Native.Nat.{_-_, _<_}
+use native.Mathlib.Omega.{arith}
+use lib.ListN.{length}
 use borrow.Author.Needs.{needs}
+use borrow.Author.Tests.{not-true, not-false}
+use Rattle.codecs.specs.Payload.{allowed}
+use Rattle.codecs.specs.declared.Form.the-variants.{Packed}
+use Rattle.codecs.specs.Numbers.{bytesFor}
+use Rattle.codecs.specs.Delta.{deltasIf}
+use Rattle.codecs.specs.Packing.{pack}
+use Rattle.columns.specs.Encode.{payloadOf}
+use Rattle.writers.specs.Placed.{over}
+use Rattle.writers.specs.Laws.Placed.{answer-refused, answer-over, answer-in}
+use Rattle.write_packed.specs.Bits.{upTo}
+use Rattle.write_packed.specs.Laws.Packed.{packed-payload, packed-allowed, up-above, up-within}
 use Rattle.write_packed.proofs.place_numbers.Statement.{statement}
 use Rattle.write_packed.proofs.place_numbers.Tie as tie
+
+allows : (c : tie.After-all-in) → allowed (Packed (c .before .before .args .size)) 0 (c .before .before .args .values .now) ≡ c .all-in .result
+allows c = packed-allowed (c .before .before .args .size) (c .before .before .args .values .now) ∙ sym (c .all-in .ensures)
+
+returns : tie.Need-returns
+returns c =
+    let a = c .before .before .before .args in
+    answer-refused (payloadOf (Packed (a .size)) (a .delta) (a .values .now)) (a .buffer .now) (a .start) (allows (c .before) ∙ not-true _ (c .if1 .taken))
+
+returns-2 : tie.Need-returns-2
+returns-2 c =
+    let a = c .before .before .before .before .args in
+    answer-over (payloadOf (Packed (a .size)) (a .delta) (a .values .now)) (a .buffer .now) (a .start) (allows (c .before .before) ∙ not-false _ (c .before .if1 .left)) (omega arith)
+
+returns-3 : tie.Need-returns-3
+returns-3 c =
+    let a = c .before .before .before .before .before .before .args in
+    let r = length (a .buffer .now) - a .start in
+    let e = c .before .count-numbers .ensures in
+    let h : r < length (bytesFor (a .size) (pack (a .size) (deltasIf (a .delta) (a .values .now)))) = up-above r _ (omega arith) in
+    answer-over (payloadOf (Packed (a .size)) (a .delta) (a .values .now)) (a .buffer .now) (a .start) (allows (c .before .before .before .before) ∙ not-false _ (c .before .before .before .if1 .left)) (omega (arith, ap length (packed-payload (a .size) (a .delta) (a .values .now))))
+
+write-numbers-requires : tie.Need-write-numbers-requires
+write-numbers-requires c κs =
+    let a = c .before .before .before .before .before .before .before .args in
+    let r = length (a .buffer .now) - a .start in
+    let e = c .before .before .count-numbers .ensures in
+    let h : upTo r (length (bytesFor (a .size) (pack (a .size) (deltasIf (a .delta) (a .values .now))))) ≡ length (bytesFor (a .size) (pack (a .size) (deltasIf (a .delta) (a .values .now)))) = up-within r _ (omega arith) in
+    omega arith
+
+returns-4 : tie.Need-returns-4
+returns-4 c =
+    let a = c .before .before .before .before .before .before .before .before .before .before .args in
+    let r = length (a .buffer .now) - a .start in
+    let e = c .before .before .before .before .before .count-numbers .ensures in
+    let h : upTo r (length (bytesFor (a .size) (pack (a .size) (deltasIf (a .delta) (a .values .now))))) ≡ length (bytesFor (a .size) (pack (a .size) (deltasIf (a .delta) (a .values .now)))) = up-within r _ (omega arith) in
+    answer-in (payloadOf (Packed (a .size)) (a .delta) (a .values .now)) (a .buffer .now) (a .start) (allows (c .before .before .before .before .before .before .before .before) ∙ not-false _ (c .before .before .before .before .before .before .before .if1 .left)) (omega (arith, ap length (packed-payload (a .size) (a .delta) (a .values .now)))) (omega (arith, ap length (packed-payload (a .size) (a .delta) (a .values .now)))) (c .before .before .write-numbers .ensures ∙ ap (over (a .buffer .now) (a .start)) (sym (packed-payload (a .size) (a .delta) (a .values .now))))
 
 pub place-numbers-spec : {M : Type 1} → statement M
 place-numbers-spec =
     tie.close
     (tie.spec
-    (λ c. search needs)
     (λ c κs. search needs)
+    returns
+    returns-2
     (λ c. search needs)
-    (λ c κs. search needs)
+    (λ c κs. omega (arith, c .before .before .before .before .good))
+    returns-3
+    write-numbers-requires
     (λ c. search needs)
-    (λ c κs. search needs)
-    (λ c. search needs)
-    (λ c. rw (c .before .before .before .before .enum-told .given .1) (c .before .before .place-sized .ensures))
-    (λ c. search needs)
-    (λ c. rw (c .before .before .before .before .enum-told2 .given .1) (c .before .before .place-sized2 .ensures))
-    (λ c. search needs)
-    (λ c. rw (c .before .before .before .before .enum-told3 .given .1) (c .before .before .place-sized3 .ensures)))
+    returns-4)

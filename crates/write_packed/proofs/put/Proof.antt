@@ -1,20 +1,10 @@
 -- Each arm puts as many bytes as its size says.
-use mathlib.Core.Path.{ap, _∙_}
-use Prim.Native.Nat.{ℕ, _-_}
+use mathlib.Core.Path.{_∙_}
+use Prim.Native.Nat.{_-_}
 use borrow.Author.Needs.{needs}
-use Rattle.numbers.specs.BigEndian.{bytesOf}
-use Rattle.writers.specs.Placed.{over}
 use Rattle.writers.specs.Laws.Placed.{over-written}
-use Rattle.write_packed.specs.Laws.Packed.{low-half}
 use Rattle.write_packed.proofs.put.Statement.{statement}
 use Rattle.write_packed.proofs.put.Tie as tie
-
-returns-2 : tie.Need-returns-2
-returns-2 c =
-    let a = c .before .before .before .before .before .before .before .before .args in
-    rw (c .before .before .before .before .before .enum-told2 .given .1)
-    (c .before .before .write-u16 .ensures ∙ over-written (a .buffer .now) (a .at) 2 (c .before .before .before .low-half .result) (rw (c .before .before .before .before .before .enum-told2 .given .1) at (c .before .before .before .before .before .before .before .before .pre))
-    ∙ ap (λ (n : ℕ). over (a .buffer .now) (a .at) (bytesOf 2 n)) (c .before .before .before .low-half .ensures) ∙ ap (over (a .buffer .now) (a .at)) (low-half (a .bits)))
 
 returns-3 : tie.Need-returns-3
 returns-3 c =
@@ -28,13 +18,12 @@ put-spec =
     (λ c. search needs)
     (λ c κs. rw (c .before .enum-told .given .1) at (c .before .before .before .before .pre))
     (λ c. search needs)
-    (λ c κs. search needs)
-    (λ c κs. search needs)
+    (λ c κs. rw (c .before .enum-told2 .given .1) at (c .before .before .before .before .pre))
     (λ c. search needs)
     (λ c κs. search needs)
     (λ c. search needs)
-    (λ c. rw (c .before .before .before .before .enum-told .given .1) (c .before .before .put-byte .ensures))
+    (λ c. rw (c .before .before .before .before .enum-told .given .1) (c .before .before .put-one .ensures))
     (λ c. search needs)
-    returns-2
+    (λ c. rw (c .before .before .before .before .enum-told2 .given .1) (c .before .before .put-two .ensures))
     (λ c. search needs)
     returns-3)

@@ -1,7 +1,7 @@
--- The loop's invariant: the bytes of the values that are left, put over the buffer from `at` on, give the finished one.
+-- The loop's invariant: what is to be written at the spot, put over the buffer from its place on, gives the finished one.
 use mathlib.Core.Path.{_≡_, refl, sym, ap, _∙_}
 use mathlib.Core.List.{List}
-use Prim.Native.Nat.{_+_, _-_, _<_, _≤_}
+use Prim.Native.Nat.{_+_, _-_, _<_}
 use native.Mathlib.Omega.{arith}
 use lib.ListN.{length, drop, getD}
 use lib.IntN.{ℤ, pos}
@@ -14,46 +14,50 @@ use Rattle.codecs.specs.Numbers.{bytesFor}
 use Rattle.codecs.specs.Delta.{deltasIf}
 use Rattle.codecs.specs.Packing.{packOne, pack}
 use Rattle.writers.specs.Placed.{over}
-use Rattle.writers.specs.Steps.{stepsFrom}
+use Rattle.writers.specs.Steps.{stepOf, stepsFrom}
 use Rattle.writers.specs.Laws.Placed.{ToCome, Parts, come-end, come-same, come-room, come-on}
 use Rattle.writers.specs.Laws.Steps.{steps-all, steps-read, steps-end}
+use Rattle.write_packed.specs.Bits.{toWrite}
 use Rattle.write_packed.specs.Laws.Packed.{packed-more, packed-none}
 use Rattle.write_packed.proofs.write_numbers.Statement.{statement}
 use Rattle.write_packed.proofs.write_numbers.Tie as tie
 
 abbrev Inv-loop : tie.InvT-loop
-Inv-loop values size delta buffer₀ start before₀ at₀ i₀ buffer before at i =
-    (i ≤ length values) × (length buffer ≡ length buffer₀)
-    × ToCome (over buffer₀ start (bytesFor size (pack size (deltasIf delta values)))) buffer at (bytesFor size (pack size (stepsFrom delta (toZ w32 before) (drop i values))))
+Inv-loop values size delta buffer₀ start spot₀ buffer spot =
+    (length buffer ≡ length buffer₀) × ToCome (over buffer₀ start (bytesFor size (pack size (deltasIf delta values)))) buffer (spot .at) (toWrite size delta values spot)
 
 abbrev μ-loop : tie.MeasureT-loop
-μ-loop values size delta buffer₀ start before₀ at₀ i₀ buffer before at i = length values - i
+μ-loop values size delta buffer₀ start spot₀ buffer spot = length values - spot .next
 
 loop-holds : tie.Need-loop-holds Inv-loop μ-loop
 loop-holds c =
     let a = c .before .args in
-    (omega arith, refl, come-same (record { gives = refl; room = c .before .pre }) (ap (λ (l : List ℤ). bytesFor (a .size) (pack (a .size) l)) (sym (steps-all (a .delta) (a .values .now)))))
+    (refl, come-same (record { gives = refl; room = c .before .pre }) (ap (λ (l : List ℤ). bytesFor (a .size) (pack (a .size) l)) (sym (steps-all (a .delta) (a .values .now)))))
 
--- the bytes of the next value
-more : (c : tie.After-step Inv-loop μ-loop)
-    → Parts (bytesFor (c .before .before .before .before .before .args .size) (pack (c .before .before .before .before .before .args .size) (stepsFrom (c .before .before .before .before .before .args .delta) (toZ w32 (c .before .before .before .loop .before)) (drop (c .before .before .before .loop .i) (c .before .before .before .before .before .args .values .now)))))
-    (bytesFor (c .before .before .before .before .before .args .size) (packOne (upper (c .before .before .before .before .before .args .size)) (lower (c .before .before .before .before .before .args .size)) (toZ w32 (ofZ w32 (c .step .result)))))
-    (bytesFor (c .before .before .before .before .before .args .size) (pack (c .before .before .before .before .before .args .size) (stepsFrom (c .before .before .before .before .before .args .delta) (toZ w32 (ofZ w32 (getD (c .before .before .before .before .before .args .values .now) (c .before .before .before .loop .i) (pos 0)))) (drop (c .before .before .before .loop .i + 1) (c .before .before .before .before .before .args .values .now)))))
-more c =
-    let a = c .before .before .before .before .before .args in
-    let p = c .before .before .before .loop in
-    let h : p .i < length (a .values .now) = omega arith in
-    packed-more (a .size) _ _ _ (steps-read (a .delta) (toZ w32 (p .before)) (a .values .now) (p .i) h (record { sfits = c .before .x .given }) (toZ-ofZ {w = w32} (record { sfits = c .step .ok }) ∙ c .step .ensures))
-
-loop-again : tie.Need-loop-again Inv-loop μ-loop
-loop-again c =
-    let p = c .before .before .before .before .before .before .before .loop in
-    (omega arith, c .before .before .write-one .kept .1 .1 .0 ∙ p .inv .1, come-on (p .inv .2) (more (c .before .before .before .before)) (c .before .before .write-one .ensures .1) (c .before .before .write-one .ensures .0))
+-- what is left after the short values
+come : (c : tie.After-write-short Inv-loop μ-loop)
+    → ToCome (over (c .before .before .before .before .args .buffer .now) (c .before .before .before .before .args .start) (bytesFor (c .before .before .before .before .args .size) (pack (c .before .before .before .before .args .size) (deltasIf (c .before .before .before .before .args .delta) (c .before .before .before .before .args .values .now))))) (c .write-short .last .1 .1 .1 .0) (c .write-short .result .at) (toWrite (c .before .before .before .before .args .size) (c .before .before .before .before .args .delta) (c .before .before .before .before .args .values .now) (c .write-short .result))
+come c = record { gives = c .write-short .ensures .1 .0 ∙ c .before .before .loop .inv .1 .gives; room = omega (arith, c .write-short .ensures .0, c .write-short .kept .1 .1 .1 .0) }
 
 returns : tie.Need-returns Inv-loop μ-loop
 returns c =
-    let a = c .before .before .before .args in
-    come-end (c .before .loop .inv .2) (packed-none (a .size) _ (steps-end (a .delta) (toZ w32 (c .before .loop .before)) (a .values .now) (c .before .loop .i) (omega arith)))
+    let a = c .before .before .before .before .before .before .before .args in
+    come-end (come (c .before .before .before)) (packed-none (a .size) _ (steps-end (a .delta) (c .before .before .before .write-short .result .before) (a .values .now) (c .before .before .before .write-short .result .next) (omega arith)))
+
+-- the bytes of the next value
+more : (c : tie.After-step Inv-loop μ-loop)
+    → Parts (toWrite (c .before .before .before .before .before .before .before .before .before .before .args .size) (c .before .before .before .before .before .before .before .before .before .before .args .delta) (c .before .before .before .before .before .before .before .before .before .before .args .values .now) (c .before .before .before .before .before .before .write-short .result))
+    (bytesFor (c .before .before .before .before .before .before .before .before .before .before .args .size) (packOne (upper (c .before .before .before .before .before .before .before .before .before .before .args .size)) (lower (c .before .before .before .before .before .before .before .before .before .before .args .size)) (toZ w32 (ofZ w32 (c .step .result)))))
+    (bytesFor (c .before .before .before .before .before .before .before .before .before .before .args .size) (pack (c .before .before .before .before .before .before .before .before .before .before .args .size) (stepsFrom (c .before .before .before .before .before .before .before .before .before .before .args .delta) (toZ w32 (ofZ w32 (getD (c .before .before .before .before .before .before .before .before .before .before .args .values .now) (c .before .before .before .before .before .before .write-short .result .next) (pos 0)))) (drop (c .before .before .before .before .before .before .write-short .result .next + 1) (c .before .before .before .before .before .before .before .before .before .before .args .values .now)))))
+more c =
+    let a = c .before .before .before .before .before .before .before .before .before .before .args in
+    let p = c .before .before .before .before .before .before .write-short .result in
+    let h : p .next < length (a .values .now) = omega arith in
+    let t = toZ-ofZ {w = w32} {z = p .before} (record { sfits = c .before .struct-told .given .1 .1 .0 .1 }) in
+    packed-more (a .size) _ _ _ (steps-read (a .delta) (p .before) (a .values .now) (p .next) h (record { sfits = c .before .before .x .given }) (toZ-ofZ {w = w32} (record { sfits = c .step .ok }) ∙ c .step .ensures ∙ ap (λ (b : ℤ). stepOf (a .delta) b (toZ w32 (ofZ w32 (getD (a .values .now) (p .next) (pos 0))))) t))
+
+loop-again : tie.Need-loop-again Inv-loop μ-loop
+loop-again c = (c .before .before .write-long .kept .1 .1 .0 ∙ c .before .before .before .before .before .before .before .before .before .before .write-short .kept .1 .1 .1 .0 ∙ c .before .before .before .before .before .before .before .before .before .before .before .before .loop .inv .0, come-on (come (c .before .before .before .before .before .before .before .before .before .before)) (more (c .before .before .before .before)) (c .before .before .write-long .ensures .1) (c .before .before .write-long .ensures .0))
 
 pub write-numbers-spec : {M : Type 1} → statement M
 write-numbers-spec =
@@ -62,12 +66,13 @@ write-numbers-spec =
     Inv-loop
     μ-loop
     loop-holds
+    (λ c κs. c .before .loop .inv .1 .room)
+    (λ c. c .before .before .before .write-short .kept .1 .1 .1 .0 ∙ c .before .before .before .before .before .loop .inv .0)
+    returns
     (λ c. search needs)
     (λ c. search needs)
     (λ c κs. search needs)
-    (λ c κs. come-room (c .before .before .before .before .loop .inv .2) (more (c .before)) refl)
+    (λ c κs. come-room (come (c .before .before .before .before .before .before .before)) (more (c .before)) refl)
     (λ c. search needs)
-    (λ c. search needs)
-    loop-again
-    (λ c. c .before .loop .inv .1)
-    returns)
+    (λ c. omega (arith, c .before .before .before .before .before .before .before .before .before .before .write-short .ensures .1 .1))
+    loop-again)

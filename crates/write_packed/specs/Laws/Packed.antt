@@ -3,16 +3,15 @@ use mathlib.Core.Path.{_≡_, refl, sym, ap, ap₂, _∙_}
 use mathlib.Core.Bool.{Bool, true, false}
 use mathlib.Core.List.{List, [], _∷_, _++_, append-nil}
 use Prim.Native.Nat.{ℕ, zero, suc, _+_, _-_, _*_, _/_, _%_, _<_, _≤_}
-use native.Mathlib.Nat.{mod-eq-of-lt, mod-lt, div-eq-of-lt, div-add-mod'}
+use native.Mathlib.Nat.{mod-eq-of-lt, mod-lt, div-eq-of-lt}
 use native.Mathlib.Omega.{arith}
-use lib.ListN.{length, replicate, length-append, length-replicate}
+use lib.ListN.{length, replicate, drop, length-append, length-replicate, length-drop}
 use lib.IntN.{ℤ, pos, negsuc, negℤ}
 use lib.Dec.{leb, ltb}
 use mir.Syntax.{w32}
 use mir.Val.{SFits, ofZ}
 use borrow.Author.Tests.{le-leb, lt-leb, leb-true, leb-false, ltb-true, ltb-false}
 use Rattle.numbers.specs.BigEndian.{bytesOf}
-use Rattle.numbers.specs.Laws.BigEndian.{bytesOf-above}
 use Rattle.codecs.specs.declared.Size.{Size}
 use Rattle.codecs.specs.declared.Size.the-variants.{One, Two, Four}
 use Rattle.codecs.specs.declared.Range.the-variants.{Int32}
@@ -23,9 +22,11 @@ use Rattle.codecs.specs.Delta.{deltasIf}
 use Rattle.codecs.specs.Packing.{packOne, packAll, pack}
 use Rattle.codecs.specs.Payload.{numbersFor, allIn, allowed}
 use Rattle.codecs.specs.Laws.Packing.{limits}
+use Rattle.codecs.specs.Laws.Delta.{length-deltasFrom}
 use Rattle.columns.specs.Encode.{payloadOf}
+use Rattle.writers.specs.Steps.{stepsFrom}
 use Rattle.writers.specs.Laws.Placed.{Parts}
-use Rattle.writers.specs.Laws.Numbers.{bytes-more, bytes-none, bytes-append, narrow}
+use Rattle.writers.specs.Laws.Numbers.{bytes-more, bytes-none, bytes-append, length-bytesFor, narrow}
 use Rattle.writers.specs.Laws.Cells.{and-true}
 use Rattle.write_packed.specs.Bits.{bitsFor, upTo}
 
@@ -66,12 +67,39 @@ module _ (room n : ℕ) where
   pub up-within : upTo room n ≤ room → upTo room n ≡ n
   up-within = up-cases (leb n room) refl .1
 
--- How many numbers one value has
+-- Numbers up to the room, where k is their size
 
-pub small-product : (z : Size) (n : ℕ) → n ≤ 4294967296 → n * sizeOf z < 18446744073709551616
-small-product One n h = omega arith
-small-product Two n h = omega arith
-small-product Four n h = omega arith
+pub size-least : (z : Size) → 0 < sizeOf z
+size-least One = omega arith
+size-least Two = omega arith
+size-least Four = omega arith
+
+room-over : (room n : ℕ) (z : Size) → room / sizeOf z < n → room < n * sizeOf z
+room-over room n One h = omega arith
+room-over room n Two h = omega arith
+room-over room n Four h = omega arith
+
+room-in : (room n : ℕ) (z : Size) → n ≤ room / sizeOf z → n * sizeOf z ≤ room
+room-in room n One h = omega arith
+room-in room n Two h = omega arith
+room-in room n Four h = omega arith
+
+module _ (z : Size) (room n : ℕ) {k : ℕ} (e : k ≡ sizeOf z) where
+  pub product-in : n ≤ room / k → n * k ≤ room
+  product-in h = let q = ap (λ (j : ℕ). room / j) e in rw e (room-in room n z (omega arith))
+
+  pub size-over : (l : List ℤ) → room / k < length l → room + 1 ≡ upTo room (length (bytesFor z l))
+  size-over l h =
+      let q = ap (λ (j : ℕ). room / j) e in
+      let p = room-over room (length l) z (omega arith) in
+      sym (up-over room (length (bytesFor z l)) (omega (arith, length-bytesFor z l)))
+
+  pub size-in : (l : List ℤ) → n ≤ room / k → n ≡ length l → n * k ≡ upTo room (length (bytesFor z l))
+  size-in l h q =
+      let p : n * k ≡ length (bytesFor z l) = ap₂ (λ (i j : ℕ). i * j) q e ∙ sym (length-bytesFor z l) in
+      p ∙ sym (up-in room (length (bytesFor z l)) (omega (arith, product-in h)))
+
+-- How many numbers one value has
 
 -- so many limits and a rest
 parts-length : (k : ℕ) (l r : ℤ) → length (replicate k l ++ (r ∷ [])) ≡ k + 1
@@ -91,6 +119,42 @@ module _ (z : Size) (u : ℕ) where
   unfolding packOne
   count-down (pos n) f e h = absurd (omega (arith, f .sfits))
   count-down (negsuc n) f e h = parts-length (suc n / lower z) (negℤ (pos (lower z))) (negℤ (pos (suc n % lower z))) ∙ ap (λ (m : ℕ). m / lower z + 1) (sym (size-down n (f .sfits) e))
+
+-- How many numbers values have: at least one each
+
+pub count-more : (z : Size) (y : ℤ) (xs ys : List ℤ) → ys ≡ y ∷ xs → length (pack z ys) ≡ length (packOne (upper z) (lower z) y) + length (pack z xs)
+unfolding packAll
+count-more z y xs ys e = ap (λ (l : List ℤ). length (pack z l)) e ∙ length-append (packOne (upper z) (lower z) y) (pack z xs)
+
+pub count-none : (z : Size) (ys : List ℤ) → ys ≡ [] → length (pack z ys) ≡ 0
+unfolding packAll
+count-none z ys e = ap (λ (l : List ℤ). length (pack z l)) e
+
+one-least : (p q : ℕ) (x : ℤ) → 0 < length (packOne p q x)
+unfolding packOne
+one-least p q (pos n) = let e = parts-length (n / p) (pos p) (pos (n % p)) in omega arith
+one-least p q (negsuc n) = let e = parts-length (suc n / q) (negℤ (pos q)) (negℤ (pos (suc n % q))) in omega arith
+
+count-least : (z : Size) (ys : List ℤ) → length ys ≤ length (pack z ys)
+unfolding packAll
+count-least z [] = omega arith
+count-least z (y ∷ ys) =
+    let a = length-append (packOne (upper z) (lower z) y) (pack z ys) in
+    let b = one-least (upper z) (lower z) y in
+    let c = count-least z ys in
+    omega arith
+
+length-steps : (d : Bool) (a : ℤ) (xs : List ℤ) → length (stepsFrom d a xs) ≡ length xs
+unfolding stepsFrom
+length-steps true a xs = length-deltasFrom a xs
+length-steps false a xs = refl
+
+pub steps-least : (z : Size) (d : Bool) (a : ℤ) (xs : List ℤ) (i : ℕ) → length xs - i ≤ length (pack z (stepsFrom d a (drop i xs)))
+steps-least z d a xs i =
+    let p = count-least z (stepsFrom d a (drop i xs)) in
+    let q = length-steps d a (drop i xs) in
+    let r = length-drop i xs in
+    omega arith
 
 -- Their bytes by the bits
 
@@ -149,9 +213,9 @@ short-bits : (z : Size) (x : ℤ) → Short (upper z) (lower z) x → bytesOf (s
 short-bits z (pos n) h = refl
 short-bits z (negsuc n) h = narrow z (negsuc n) (omega arith)
 
-module _ (z : Size) (u : ℕ) (x : ℤ) (f : SFits w32 x) (e : u ≡ ofZ w32 x) (h : ltb ((u + (lower z - 1)) % 4294967296) (upper z + (lower z - 1)) ≡ true) where
+module _ (z : Size) (u low span : ℕ) (x : ℤ) (f : SFits w32 x) (e : u ≡ ofZ w32 x) (a : low ≡ lower z - 1) (b : span ≡ upper z + low) (h : ltb ((u + low) % 4294967296) span ≡ true) where
   is-short : Short (upper z) (lower z) x
-  is-short = let l = limits z in short (upper z) (lower z) (l .1) (l .2) (l .3) u x f e (ltb-true _ _ h)
+  is-short = let l = limits z in short (upper z) (lower z) (l .1) (l .2) (l .3) u x f e (ltb-true _ _ (rw (b, a) at h))
 
   pub short-count : length (packOne (upper z) (lower z) x) ≡ 1
   short-count = ap length (short-pack (upper z) (lower z) x is-short)
@@ -172,7 +236,3 @@ pub rest-last : (z : Size) (k l r : ℕ) → k ≤ 0 → Parts (bitsFor z (repli
 unfolding bitsFor
 rest-last z zero l r h = record { are = refl }
 rest-last z (suc k) l r h = absurd (omega arith)
-
--- the low 16 bits
-pub low-half : (n : ℕ) → bytesOf 2 (n % 65536) ≡ bytesOf 2 n
-low-half n = sym (bytesOf-above 2 (n / 65536) (n % 65536)) ∙ ap (bytesOf 2) (div-add-mod' n 65536)

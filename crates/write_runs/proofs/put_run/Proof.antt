@@ -4,10 +4,10 @@ use mathlib.Core.List.{List}
 use Prim.Native.Nat.{ℕ, _+_, _-_, _%_}
 use native.Mathlib.Omega.{arith}
 use borrow.Author.Needs.{needs}
-use Rattle.numbers.specs.BigEndian.{bytesOf, writtenAt}
+use Rattle.numbers.specs.BigEndian.{bytesOf}
 use Rattle.numbers.specs.Laws.BigEndian.{length-bytesOf}
 use Rattle.writers.specs.Placed.{over}
-use Rattle.writers.specs.Laws.Placed.{over-length, over-then, over-written}
+use Rattle.writers.specs.Laws.Placed.{over-then}
 use Rattle.write_runs.specs.Laws.Runs.{low-count}
 use Rattle.write_runs.proofs.put_run.Statement.{statement}
 use Rattle.write_runs.proofs.put_run.Tie as tie
@@ -18,12 +18,11 @@ returns c =
     let s = a .buffer .now in
     let h = c .before .before .before .before .before .before .before .before .before .pre in
     let b = bytesOf 4 (a .bits) in
-    let e = c .before .before .before .before .before .before .write-u32 .ensures ∙ over-written s (a .at) 4 (a .bits) (omega arith) in
+    let e = c .before .before .before .before .before .before .put-four .ensures in
     let l = length-bytesOf 4 (a .bits) in
     let m = length-bytesOf 4 (a .count) in
-    let o = over-length s (a .at) b (omega arith) in
-    c .before .before .write-u322 .ensures ∙ ap (λ (t : List ℕ). writtenAt 4 t (a .at + 4) (a .count % 4294967296)) e
-    ∙ over-written (over s (a .at) b) (a .at + 4) 4 (a .count % 4294967296) (omega arith) ∙ ap (over (over s (a .at) b) (a .at + 4)) (low-count (a .count))
+    c .before .before .put-four2 .ensures ∙ ap (λ (t : List ℕ). over t (a .at + 4) (bytesOf 4 (a .count % 4294967296))) e
+    ∙ ap (over (over s (a .at) b) (a .at + 4)) (low-count (a .count))
     ∙ over-then s (a .at) 4 b (bytesOf 4 (a .count)) l (omega arith)
 
 pub put-run-spec : {M : Type 1} → statement M

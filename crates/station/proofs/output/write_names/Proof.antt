@@ -4,7 +4,6 @@ use Prim.Native.Nat.{_-_, _≤_}
 use native.Mathlib.Nat.{pos-of-ne-zero}
 use native.Mathlib.Omega.{arith}
 use lib.ListN.{length}
-use borrow.Author.Needs.{needs}
 use Rattle.station.specs.Laws.Output.{turn-part, step-inside}
 use Rattle.station.proofs.output.write_names.Statement.{statement}
 use Rattle.station.proofs.output.write_names.Tie as tie
