@@ -1,0 +1,128 @@
+"""What tests/c/dump.c writes about a file, by the Python module instead: the same text, byte for byte."""
+
+from __future__ import annotations
+
+import array
+import math
+import struct
+from typing import Any, Callable, Iterator
+
+import mmtf
+
+# The named fields, a field that the structure files have besides, and names of none.
+NAMES = (
+    "mmtfVersion mmtfProducer numBonds numAtoms numGroups numChains numModels groupList xCoordList yCoordList zCoordList "
+    "groupIdList groupTypeList chainIdList groupsPerChain chainsPerModel bondAtomList bondOrderList bFactorList atomIdList "
+    "altLocList occupancyList secStructList insCodeList sequenceIdList chainNameList title structureId spaceGroup "
+    "depositionDate releaseDate resolution rFree rWork unitCell experimentalMethods ncsOperatorList bioAssemblyList "
+    "entityList"
+).split() + ["sequenceIndexList", "", "noSuchField"]
+
+# Integers are encoded by every codec of their kind if there are at most so many, none larger than this.
+FEW, SMALL = 100, 100_000
+
+
+def of_file(data: Any) -> Iterator[str]:
+    """The lines of the text about a file."""
+    yield f"file of {len(data)} bytes: container {mmtf.container(data).number}, verdict {mmtf.verdict(data).number}"
+    yield from mmtf.receipt(data, 7, 12).decode("ascii").splitlines()
+    yield from of_matrices(data)
+    yield from of_column(data)
+    for name in NAMES:
+        yield f"view of {name}:" + answered(hexadecimal, mmtf.view, data, name)
+        try:
+            part = mmtf.view(data, name)
+        except mmtf.Refused:
+            continue
+        yield from of_column(part)
+
+
+def of_matrices(data: Any) -> Iterator[str]:
+    """The matrices of each assembly up to the first transform that there is not, up to an assembly without a first one."""
+    assembly = transform = 0
+    while True:
+        answer = answered(matrix, mmtf.matrix, data, assembly, transform)
+        yield f"matrix {assembly} {transform}" + answer
+        if "refused" not in answer:
+            transform += 1
+        elif transform == 0:
+            return
+        else:
+            assembly, transform = assembly + 1, 0
+
+
+def of_column(column: Any) -> Iterator[str]:
+    """All that is asked of a column."""
+    own, length, parameter = mmtf.header(column) if len(column) >= 12 else (0, 0, 0)
+    for kind in ("int32", "int16", "int8"):
+        yield from there_and_back(column, own, kind, integers)
+    yield from there_and_back(column, own, "fixed_point", fixed_point)
+    yield from there_and_back(column, own, "float32", floats)
+    yield from there_and_back(column, own, "chars", lambda text: hexadecimal(text.encode("ascii")))
+    yield from there_and_back(column, own, "strings", lambda names: strings(names, parameter), parameter)
+    length = max(0, length)
+    for index in (0, length // 2, (length - 1) % 2**64, length):
+        yield f"cell {index}" + answered(one_cell, mmtf.cell, column, index)
+
+
+def there_and_back(column: Any, own: int, kind: str, text: Callable[[Any], str], size: int = 4) -> Iterator[str]:
+    """A column decoded to a kind, and encoded again: by its own codec, by others too if it has few and small integers."""
+    try:
+        values = mmtf.decode(column, kind)
+    except mmtf.Refused as error:
+        yield f"{kind} refused {error.number}"
+        return
+    yield kind + text(values)
+    others = kind.startswith("int") and is_small(values) or kind == "fixed_point" and is_small(values.integers)
+    for codec in (codec for codec in mmtf.CODECS if mmtf.CODECS[codec] == kind):
+        if codec == own or others:
+            yield f"encoded by {codec}" + answered(hexadecimal, lambda: mmtf.encode(values, codec, size=size))
+
+
+def answered(text: Callable[[Any], str], call: Callable[..., Any], *words: Any) -> str:
+    """The text of a call's result, or its refusal."""
+    try:
+        return text(call(*words))
+    except mmtf.Refused as error:
+        return f" refused {error.number}"
+
+
+def is_small(values: Any) -> bool:
+    return len(values) <= FEW and all(-SMALL <= value <= SMALL for value in values)
+
+
+def hexadecimal(data: Any) -> str:
+    return " " + bytes(data).hex()
+
+
+def integers(values: Any) -> str:
+    return "".join([f" {value}" for value in values])
+
+
+def fixed_point(value: mmtf.FixedPoint) -> str:
+    return f" by {value.divisor}:" + integers(value.integers)
+
+
+def floats(values: array.array[float]) -> str:
+    """Floats by their bits."""
+    return "".join([f" {bits:08x}" for bits in array.array("I", values.tobytes())])
+
+
+def strings(names: list[str], size: int) -> str:
+    """Names with the 0 bytes at their ends."""
+    return hexadecimal(b"".join(name.encode("ascii").ljust(size, b"\0") for name in names))
+
+
+def single(value: float) -> str:
+    """A float by its bits, but a NaN only as a NaN."""
+    return " nan" if math.isnan(value) else " " + struct.pack(">f", value).hex()
+
+
+def matrix(rows: Any) -> str:
+    return "".join(single(value) for row in rows for value in row) + " "
+
+
+def one_cell(value: int | str | float) -> str:
+    if isinstance(value, float):
+        return " float" + single(value)
+    return f" character {ord(value)}" if isinstance(value, str) else f" integer {value}"
