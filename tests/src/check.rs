@@ -1,6 +1,7 @@
 //! Runs one file through the library and through the independent
 //! implementation, the container and views by name; columns stand in `columns`,
-//! the whole check and matrices in `files`, receipts in `receipts`.
+//! values and their encoders in `values`, the whole check and matrices in
+//! `files`, receipts in `receipts`.
 
 pub mod calls;
 pub mod columns;
@@ -8,6 +9,7 @@ pub mod files;
 pub mod made;
 pub mod receipts;
 pub mod sample;
+pub mod values;
 pub mod watch;
 
 use crate::independent;

@@ -5,6 +5,7 @@ mod damage;
 mod document;
 mod families;
 pub mod files;
+pub mod receipts;
 mod rng;
 mod strings;
 

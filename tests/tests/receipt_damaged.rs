@@ -3,6 +3,7 @@
 //! lines written otherwise, numbers at each limit and past it, and random bytes.
 
 use mmtf_tests::check::receipts::*;
+use mmtf_tests::generate::receipts::{any_numbers, receipt_text, TextKind, LIMIT, TEXT_KINDS};
 use mmtf_tests::generate::{damaged, Rng};
 use mmtf_tests::independent::receipt::{text, Numbers, LINES};
 use mmtf_tests::library::columns::Outcome;
@@ -15,9 +16,6 @@ const REFUSED: Numbers = [42, 4242, 24, 0, 0, 0, 0, 0, 0, 0];
 const LEAST: Numbers = [1, 1, 0, 0, 0, 0, 0, 0, 16, 1];
 
 const MOST: Numbers = [99, 999_999, 0, LIMIT, LIMIT, LIMIT, LIMIT, LIMIT, 39, 1];
-
-/// The most of each count.
-const LIMIT: u32 = 16_777_216;
 
 const RECEIPTS: [Numbers; 6] = [
     SAMPLE,
@@ -341,40 +339,14 @@ fn each_verdict() {
     }
 }
 
-/// A number that is allowed at times, at the ends of what is.
-fn near(rng: &mut Rng) -> u32 {
-    let end = *rng.pick(&[0, 1, 16, 24, 39, 99, 999_999, LIMIT, u32::MAX]);
-    match rng.below(4) {
-        0 => end.wrapping_sub(1),
-        1 => end.wrapping_add(1),
-        _ => end,
-    }
-}
-
 /// Receipts of any numbers, of which one or two are changed. Both kinds must come
 /// up often.
 #[test]
-fn any_numbers() {
+fn numbers_changed() {
     let mut rng = Rng::new(29);
     let mut tally = [0; 2];
     for _ in 0..40_000 {
-        let mut numbers = match rng.chance(1, 2) {
-            true => [0; 10].map(|_| rng.word() as u32 % (LIMIT + 1)),
-            false => [0; 10],
-        };
-        numbers[0] = rng.within(1, 99) as u32;
-        numbers[1] = rng.within(1, 999_999) as u32;
-        numbers[2] = match numbers[9] {
-            0 => rng.within(1, 24) as u32,
-            _ => 0,
-        };
-        if numbers[2] == 0 {
-            numbers[8] = rng.within(16, 39) as u32;
-            numbers[9] = 1;
-        }
-        for _ in 0..rng.below(3) {
-            numbers[rng.below(10)] = near(&mut rng);
-        }
+        let numbers = any_numbers(&mut rng);
         let read = agreed(text(&numbers).as_bytes());
         assert!(read.is_none_or(|read| read == numbers));
         tally[usize::from(read.is_some())] += 1;
@@ -394,27 +366,21 @@ fn random_damage() {
     assert!(read > 500, "{read}");
 }
 
-/// Random bytes, and bytes that stand in receipts.
+/// Random bytes, bytes that stand in receipts, and lines of any name.
 #[test]
 fn random_bytes() {
     let mut rng = Rng::new(31);
     for _ in 0..40_000 {
-        assert_eq!(agreed(&rng.bytes(0, 160)), None);
-        let count = rng.below(160);
-        let letters = b"station=job=verdict=\n\n\n0123456789";
-        let bytes: Vec<u8> = (0..count).map(|_| *rng.pick(letters)).collect();
-        assert_eq!(agreed(&bytes), None);
-        let parts: Vec<String> = (0..10).map(|_| random_line(&mut rng)).collect();
-        agreed(parts.concat().as_bytes());
+        assert_eq!(agreed(&receipt_text(TextKind::Random, &mut rng)), None);
+        assert_eq!(agreed(&receipt_text(TextKind::Letters, &mut rng)), None);
+        agreed(&receipt_text(TextKind::Lines, &mut rng));
     }
 }
 
-/// A line of any name, with any number of digits.
-fn random_line(rng: &mut Rng) -> String {
-    let digits: String = (0..rng.within(0, 9))
-        .map(|_| char::from(b'0' + rng.below(10) as u8))
-        .collect();
-    format!("{}={digits}\n", rng.pick(&LINES))
+#[test]
+fn shares_make_a_hundred() {
+    let total: u64 = TEXT_KINDS.iter().map(|(_, share)| share).sum();
+    assert_eq!(total, 100);
 }
 
 /// A long text is no receipt, whatever it begins with.

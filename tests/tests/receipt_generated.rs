@@ -4,47 +4,10 @@
 
 use mmtf_tests::check::hex;
 use mmtf_tests::check::receipts::*;
-use mmtf_tests::check::watch::Output;
 use mmtf_tests::generate::files::{file_case, FileKind, Size, Structure, FILE_KINDS};
+use mmtf_tests::generate::receipts::{JOBS, NO_JOBS, NO_STATIONS};
 use mmtf_tests::generate::{case, Kind, Rng, KINDS};
-use mmtf_tests::independent::receipt::Numbers;
 use mmtf_tests::independent::FILE_LIMIT;
-use mmtf_tests::library;
-use mmtf_tests::library::columns::Outcome;
-
-/// Stations and jobs that are allowed, at the ends of their digits.
-const STATIONS: [u32; 4] = [1, 9, 10, 99];
-const JOBS: [u32; 12] = [
-    1, 9, 10, 99, 100, 999, 1_000, 9_999, 10_000, 99_999, 100_000, 999_999,
-];
-
-/// Those that are not; some are small with fewer bits.
-const NO_STATIONS: [u32; 6] = [0, 100, 256 + 1, 65_536 + 99, 1 << 31, u32::MAX];
-const NO_JOBS: [u32; 5] = [0, 1_000_000, (1 << 24) + 1, 1 << 31, u32::MAX];
-
-/// A station and a job that are allowed.
-fn allowed(rng: &mut Rng) -> [u32; 2] {
-    let station = match rng.chance(1, 2) {
-        true => *rng.pick(&STATIONS),
-        false => rng.within(1, 99) as u32,
-    };
-    let job = match rng.chance(1, 2) {
-        true => *rng.pick(&JOBS),
-        false => rng.within(1, 999_999) as u32,
-    };
-    [station, job]
-}
-
-/// The same, but that the station or the job or both are not.
-fn not_allowed(rng: &mut Rng) -> [u32; 2] {
-    let [station, job] = allowed(rng);
-    let no_station = *rng.pick(&NO_STATIONS);
-    let no_job = *rng.pick(&NO_JOBS);
-    *rng.pick(&[[no_station, job], [station, no_job], [no_station, no_job]])
-}
-
-/// How many calls of each file are compared.
-const COMPARED: u64 = 12;
 
 /// How many files with fields are run, how many whose numbers are known from the
 /// making of them, and how many containers.
@@ -54,44 +17,6 @@ const CONTAINERS: u64 = 4_000;
 
 const _: () = assert!((FILES + MADE + CONTAINERS) * COMPARED >= 100_000);
 
-/// Runs a file. Gives the numbers of its receipt.
-fn run(rng: &mut Rng, file: &[u8]) -> Result<Numbers, String> {
-    let by = allowed(rng);
-    let (receipt, numbers) = agree_on_receipt(by, file)?;
-    let verdict = u32::from(library::verdict(file));
-    if numbers[..2] != by || numbers[2] != verdict {
-        return Err(format!("{by:?}, verdict {verdict}: {numbers:?}"));
-    }
-    let mut compared = 2;
-    let size = receipt.len();
-    let larger = size + 2 + rng.below(200);
-    for room in [0, 1, size - 1, size, size + 1, larger] {
-        let expected = match room < size {
-            true => Outcome::Refused(25),
-            false => Outcome::Done(Output {
-                values: receipt.clone(),
-                divisor: None,
-            }),
-        };
-        hold(agree_on_writing(by, file, room)?, expected)?;
-        compared += 1;
-    }
-    for room in [0, size - 1, size, larger] {
-        let by = not_allowed(rng);
-        hold(agree_on_writing(by, file, room)?, Outcome::Refused(29))?;
-        compared += 1;
-    }
-    assert_eq!(compared, COMPARED);
-    Ok(numbers)
-}
-
-fn hold(agreed: Outcome<Output<u8>>, expected: Outcome<Output<u8>>) -> Result<(), String> {
-    match agreed == expected {
-        true => Ok(()),
-        false => Err(format!("both give {agreed:?}, expected {expected:?}")),
-    }
-}
-
 /// How often each verdict came up.
 #[derive(Default)]
 struct Tally([u64; 25]);
@@ -99,7 +24,7 @@ struct Tally([u64; 25]);
 impl Tally {
     /// Runs a file whose verdict may be known, and counts it.
     fn note(&mut self, rng: &mut Rng, file: &[u8], known: Option<u8>) {
-        match run(rng, file) {
+        match agree_on_receipts(rng, file) {
             Err(difference) => panic!("{difference}\n{}", hex(file)),
             Ok([_, _, verdict, ..]) => {
                 let known = known.map_or(verdict, u32::from);
@@ -199,7 +124,7 @@ fn numbers_of_the_making() {
             structure.atoms,
             structure.bonds,
         ];
-        match run(&mut rng, &file) {
+        match agree_on_receipts(&mut rng, &file) {
             Ok([_, _, verdict, shown @ .., last, units]) => {
                 assert_eq!(shown, counts.map(|count| count as u32), "{}", hex(&file));
                 assert_eq!([verdict, last, units], [0, fields, 1], "{}", hex(&file));

@@ -2,9 +2,11 @@
 
 use super::calls::{alike, given, hold};
 use super::watch::{watched, Output};
+use crate::generate::receipts::{allowed, not_allowed};
+use crate::generate::Rng;
 use crate::independent::receipt::{self as own, text, Numbers};
 use crate::library::columns::Outcome;
-use crate::library::receipt as library;
+use crate::library::{receipt as library, verdict};
 
 /// The bytes of the longest receipt.
 pub const LONGEST: usize = 128;
@@ -54,6 +56,51 @@ pub fn agree_on_receipt(by: [u32; 2], file: &[u8]) -> Result<(Vec<u8>, Numbers),
     match agree_on_reading(&values)? {
         Outcome::Done(numbers) => Ok((values, numbers)),
         other => Err(format!("what is written is not read: {other:?}")),
+    }
+}
+
+/// How many calls `agree_on_receipts` compares.
+pub const COMPARED: u64 = 12;
+
+/// Runs a file by a station and a job that are allowed, with rooms around the
+/// receipt's size, and by some that are not. Gives the numbers of its receipt.
+pub fn agree_on_receipts(rng: &mut Rng, file: &[u8]) -> Result<Numbers, String> {
+    let by = allowed(rng);
+    let (receipt, numbers) = agree_on_receipt(by, file)?;
+    let verdict = u32::from(verdict(file));
+    if numbers[..2] != by || numbers[2] != verdict {
+        return Err(format!("{by:?}, verdict {verdict}: {numbers:?}"));
+    }
+    let mut compared = 2;
+    let size = receipt.len();
+    let larger = size + 2 + rng.below(200);
+    for room in [0, 1, size - 1, size, size + 1, larger] {
+        let expected = match room < size {
+            true => Outcome::Refused(25),
+            false => Outcome::Done(Output {
+                values: receipt.clone(),
+                divisor: None,
+            }),
+        };
+        expected_of_both(agree_on_writing(by, file, room)?, expected)?;
+        compared += 1;
+    }
+    for room in [0, size - 1, size, larger] {
+        let by = not_allowed(rng);
+        expected_of_both(agree_on_writing(by, file, room)?, Outcome::Refused(29))?;
+        compared += 1;
+    }
+    assert_eq!(compared, COMPARED);
+    Ok(numbers)
+}
+
+fn expected_of_both(
+    agreed: Outcome<Output<u8>>,
+    expected: Outcome<Output<u8>>,
+) -> Result<(), String> {
+    match agreed == expected {
+        true => Ok(()),
+        false => Err(format!("both give {agreed:?}, expected {expected:?}")),
     }
 }
 
