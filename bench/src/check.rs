@@ -7,35 +7,27 @@ use mmtf_tests::corpus;
 use mmtf_tests::library::matrix::Matrix;
 use mmtf_tests::{independent, library};
 
-use crate::check_data::{HOSTILE, MILLION};
+use crate::check_data::{structure, HOSTILE};
+use crate::table::Workloads;
 use crate::timing::{compare, Times};
-use crate::{row, title};
 
-pub fn tables() {
-    println!("The whole check");
-    title();
+pub fn rows(table: &Workloads) {
     for (name, file) in corpus::DERIVED {
         let number = if *name == "4CUP-0.2" { 24 } else { 0 };
-        row(name, file.len(), verdict(file, number));
+        table.row("verdict", name, file.len(), verdict(file, number));
     }
-    let file = (MILLION.build)();
-    row(MILLION.name, file.len(), verdict(&file, 0));
-    println!();
-    println!("The whole check of hostile files");
-    title();
+    let file = structure(1_000_000);
+    table.row("verdict", "1,000,000 atoms", file.len(), verdict(&file, 0));
     for made in HOSTILE {
         let file = (made.build)();
-        row(made.name, file.len(), verdict(&file, 0));
+        table.row("verdict, hostile", made.name, file.len(), verdict(&file, 0));
     }
-    println!();
-    println!("A matrix");
-    title();
-    matrices("1AUY", corpus::derived("1AUY"), [0, 59]);
-    matrices("4V5A", corpus::derived("4V5A"), [1, 0]);
+    matrices(table, "1AUY", corpus::derived("1AUY"), [0, 59]);
+    matrices(table, "4V5A", corpus::derived("4V5A"), [1, 0]);
 }
 
 /// Both check the same file and give this number.
-fn verdict(file: &[u8], number: u8) -> Times {
+pub fn verdict(file: &[u8], number: u8) -> Times {
     assert_eq!(library::verdict(file), number, "by the library");
     assert_eq!(independent::verdict(file), number, "by the Rust");
     compare(
@@ -49,7 +41,7 @@ fn verdict(file: &[u8], number: u8) -> Times {
 }
 
 /// Both look for the last transform, and for one that there is not.
-fn matrices(name: &str, file: &[u8], [assembly, transform]: [u64; 2]) {
+fn matrices(table: &Workloads, name: &str, file: &[u8], [assembly, transform]: [u64; 2]) {
     let last = agree_on_matrix(file, assembly, transform);
     assert!(matches!(last, Ok(Matrix::Rows(_))), "both give the same");
     for (which, assembly) in [("last transform", assembly), ("no such assembly", u64::MAX)] {
@@ -65,6 +57,6 @@ fn matrices(name: &str, file: &[u8], [assembly, transform]: [u64; 2]) {
                 let _ = black_box(independent::matrix(black_box(file), assembly, transform));
             },
         );
-        row(&format!("{name}, {which}"), file.len(), times);
+        table.row("matrix", &format!("{name}, {which}"), file.len(), times);
     }
 }

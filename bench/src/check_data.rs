@@ -20,8 +20,6 @@ pub struct Made {
     pub build: fn() -> Vec<u8>,
 }
 
-pub const MILLION: Made = made("1,000,000 atoms", million);
-
 pub const HOSTILE: &[Made] = &[
     made("14 columns of one run of 16,777,216", one_run),
     made("the same, 5 of them with delta", one_run_with_delta),
@@ -50,80 +48,80 @@ fn encoded<T: Element>(encoder: &Encoder<T>, header: [i32; 2], values: &[T]) -> 
     Binary(column)
 }
 
-/// A structure of a million atoms: 400 group types, some hundred chains, and
-/// columns by the codecs that structure files have.
-fn million() -> Vec<u8> {
-    const ATOMS: usize = 1_000_000;
+/// A structure of so many atoms: 400 group types and some hundred chains for a
+/// million, and columns by the codecs that structure files have.
+pub fn structure(atoms: usize) -> Vec<u8> {
     let mut rng = Rng::new(2);
-    let sizes: Vec<usize> = (0..400).map(|n| 1 + (7 * n + n / 9) % 24).collect();
+    let count = (400 * atoms).div_ceil(1_000_000);
+    let sizes: Vec<usize> = (0..count).map(|n| 1 + (7 * n + n / 9) % 24).collect();
     let types: Vec<Value> = sizes.iter().map(|&atoms| chained(atoms)).collect();
+    let groups = groups_of(&mut rng, &sizes, atoms);
+    let per_chain: Vec<i32> = groups.chunks(250).map(|part| part.len() as i32).collect();
+    let chains = per_chain.len();
+    let bonds = atoms - groups.len();
+    let outside: Vec<i32> = (0..groups.len() as i32 - 1)
+        .flat_map(|n| [n, n + 1])
+        .collect();
+    let sample = Sample::new()
+        .with("numBonds", Integer((bonds + outside.len() / 2) as i32))
+        .with("numAtoms", Integer(atoms as i32))
+        .with("numGroups", Integer(groups.len() as i32))
+        .with("numChains", Integer(chains as i32))
+        .with("groupList", Array(types))
+        .with("chainIdList", names(&b"AB\0\0".repeat(chains)))
+        .with("groupsPerChain", Value::integers(&per_chain))
+        .with("chainsPerModel", Value::integers(&[chains as i32]))
+        .with("chainNameList", names(&b"A\0\0\0".repeat(chains)));
+    let sample = with_group_columns(sample, &mut rng, &groups, &outside);
+    with_atom_columns(sample, &mut rng, atoms).bytes()
+}
+
+/// The types of groups that have so many atoms in all. The first type has one
+/// atom and fills the rest.
+fn groups_of(rng: &mut Rng, sizes: &[usize], atoms: usize) -> Vec<i32> {
     let mut groups = Vec::new();
-    let (mut atoms, mut bonds) = (0, 0);
-    while atoms < ATOMS {
-        // The first type has one atom and fills the rest.
-        let index = match ATOMS - atoms < 24 {
+    let mut left = atoms;
+    while left > 0 {
+        let index = match left < 24 {
             true => 0,
             false => rng.below(sizes.len()),
         };
         groups.push(index as i32);
-        atoms += sizes[index];
-        bonds += sizes[index] - 1;
+        left -= sizes[index];
     }
-    let per_chain: Vec<i32> = groups.chunks(250).map(|part| part.len() as i32).collect();
-    let chains = per_chain.len();
-    let outside: Vec<i32> = (0..groups.len() as i32 - 1)
-        .flat_map(|n| [n, n + 1])
-        .collect();
+    groups
+}
+
+fn with_group_columns(sample: Sample, rng: &mut Rng, groups: &[i32], outside: &[i32]) -> Sample {
+    let count = groups.len();
     let orders = vec![1; outside.len() / 2];
     let small: Vec<i32> = groups.iter().map(|n| n % 9 - 1).collect();
-    let cells = runs(&mut rng, 30);
-    let letters = vec![0; ATOMS];
-    let file = Sample::new()
-        .with("numBonds", Integer((bonds + orders.len()) as i32))
-        .with("numAtoms", Integer(ATOMS as i32))
-        .with("numGroups", Integer(groups.len() as i32))
-        .with("numChains", Integer(chains as i32))
-        .with("groupList", Array(types))
-        .with(
-            "xCoordList",
-            encoded(&TO_FIXED_POINT, [10, 1000], &walk(&mut rng)),
-        )
-        .with(
-            "yCoordList",
-            encoded(&TO_FIXED_POINT, [10, 1000], &walk(&mut rng)),
-        )
-        .with(
-            "zCoordList",
-            encoded(&TO_FIXED_POINT, [10, 1000], &walk(&mut rng)),
-        )
-        .with(
-            "groupIdList",
-            encoded(&TO_INT32, [8, 0], &ids(&mut rng)[..groups.len()]),
-        )
-        .with("groupTypeList", int32(&groups))
-        .with("chainIdList", names(&b"AB\0\0".repeat(chains)))
-        .with("groupsPerChain", Value::integers(&per_chain))
-        .with("chainsPerModel", Value::integers(&[chains as i32]))
-        .with("bondAtomList", int32(&outside))
+    let mut numbers = || encoded(&TO_INT32, [8, 0], &ids(rng, count));
+    let [group_ids, sequence] = [numbers(), numbers()];
+    sample
+        .with("groupIdList", group_ids)
+        .with("sequenceIdList", sequence)
+        .with("groupTypeList", int32(groups))
+        .with("bondAtomList", int32(outside))
         .with("bondOrderList", encoded(&TO_INT8, [2, 0], &orders))
-        .with("bFactorList", encoded(&TO_FIXED_POINT, [10, 100], &cells))
-        .with("atomIdList", encoded(&TO_INT32, [8, 0], &ids(&mut rng)))
-        .with("altLocList", encoded(&TO_CHARS, [6, 0], &letters))
-        .with(
-            "occupancyList",
-            encoded(&TO_FIXED_POINT, [9, 100], &vec![100; ATOMS]),
-        )
         .with("secStructList", encoded(&TO_INT8, [2, 0], &small))
-        .with(
-            "insCodeList",
-            encoded(&TO_CHARS, [6, 0], &letters[..groups.len()]),
-        )
-        .with(
-            "sequenceIdList",
-            encoded(&TO_INT32, [8, 0], &ids(&mut rng)[..groups.len()]),
-        )
-        .with("chainNameList", names(&b"A\0\0\0".repeat(chains)));
-    file.bytes()
+        .with("insCodeList", encoded(&TO_CHARS, [6, 0], &vec![0; count]))
+}
+
+fn with_atom_columns(sample: Sample, rng: &mut Rng, atoms: usize) -> Sample {
+    let mut coordinates = || encoded(&TO_FIXED_POINT, [10, 1000], &walk(rng, atoms));
+    let [x, y, z] = [coordinates(), coordinates(), coordinates()];
+    let factors = encoded(&TO_FIXED_POINT, [10, 100], &runs(rng, 30, atoms));
+    let atom_ids = encoded(&TO_INT32, [8, 0], &ids(rng, atoms));
+    let occupancies = encoded(&TO_FIXED_POINT, [9, 100], &vec![100; atoms]);
+    sample
+        .with("xCoordList", x)
+        .with("yCoordList", y)
+        .with("zCoordList", z)
+        .with("bFactorList", factors)
+        .with("atomIdList", atom_ids)
+        .with("altLocList", encoded(&TO_CHARS, [6, 0], &vec![0; atoms]))
+        .with("occupancyList", occupancies)
 }
 
 /// A group type whose atoms are bonded one to the next.
@@ -173,7 +171,12 @@ fn one_run() -> Vec<u8> {
 }
 
 fn one_run_with_delta() -> Vec<u8> {
-    of_runs(8, LIMIT).bytes()
+    runs_with_delta(LIMIT)
+}
+
+/// Runs of so many cells, five of them with delta.
+pub fn runs_with_delta(cells: i32) -> Vec<u8> {
+    of_runs(8, cells).bytes()
 }
 
 /// 4,096 types, which the groups go through upwards and downwards by runs of
@@ -242,13 +245,18 @@ fn long_lists() -> Vec<u8> {
 }
 
 fn one_large_type() -> Vec<u8> {
-    of_types(vec![written_type(13_000_000, 9_000_000)]).bytes()
+    large_type(13_000_000)
 }
 
-/// Copies of a value in an array that nearly fills the file.
-fn copies(value: &Value) -> Value {
+/// One group type of so many atoms.
+pub fn large_type(atoms: usize) -> Vec<u8> {
+    of_types(vec![written_type(atoms, atoms * 9 / 13)]).bytes()
+}
+
+/// Copies of a value in an array that nearly fills a file of so many bytes.
+fn copies(value: &Value, size: usize) -> Value {
     let unit = value.bytes();
-    let count = (LARGEST - 4_096) / unit.len();
+    let count = (size - 4_096) / unit.len();
     let mut bytes = vec![0xdd];
     bytes.extend((count as u32).to_be_bytes());
     bytes.extend(unit.repeat(count));
@@ -256,6 +264,11 @@ fn copies(value: &Value) -> Value {
 }
 
 fn small_entities() -> Vec<u8> {
+    entities(LARGEST)
+}
+
+/// Small maps in entityList, nearly as many bytes of them.
+pub fn entities(size: usize) -> Vec<u8> {
     let empty = Value::map([
         ("chainIndexList", Array(vec![])),
         ("description", Value::text("")),
@@ -263,15 +276,20 @@ fn small_entities() -> Vec<u8> {
         ("sequence", Value::text("")),
     ]);
     Sample::new()
-        .with("entityList", copies(&empty))
+        .with("entityList", copies(&empty, size))
         .with("bioAssemblyList", Array(vec![]))
         .bytes()
 }
 
 fn many_transforms() -> Vec<u8> {
+    transforms(LARGEST)
+}
+
+/// Transforms in bioAssemblyList, nearly as many bytes of them.
+pub fn transforms(size: usize) -> Vec<u8> {
     let list = Value::map([
         ("name", Value::text("1")),
-        ("transformList", copies(&transform())),
+        ("transformList", copies(&transform(), size)),
     ]);
     Sample::new()
         .with("entityList", Array(vec![entity()]))

@@ -1,10 +1,10 @@
-//! The columns that are measured: a million cells like those of structures.
+//! The columns that are measured: cells like those of structures.
 
 use mmtf_tests::check::calls::{Encoder, TO_FIXED_POINT, TO_INT32};
 use mmtf_tests::generate::Rng;
 use mmtf_tests::library::columns::Outcome;
 
-/// The cells of each column.
+/// The cells of each column of the table of workloads.
 pub const CELLS: usize = 1_000_000;
 
 /// A column with its values.
@@ -21,7 +21,7 @@ impl Measured {
             9..=13 => &TO_FIXED_POINT,
             _ => &TO_INT32,
         };
-        let mut column = vec![0; 12 + 16 * CELLS];
+        let mut column = vec![0; 12 + 16 * values.len()];
         match (encoder.independent)(header[0], header[1], &values, &mut column) {
             Outcome::Done(answer) => column.truncate(answer.count as usize),
             other => panic!("{name}: {other:?}"),
@@ -33,21 +33,34 @@ impl Measured {
             column,
         }
     }
+
+    /// What its cells are.
+    pub fn kind(&self) -> &'static str {
+        match self.header[0] {
+            9..=13 => "fixed point",
+            _ => "int32",
+        }
+    }
 }
 
-pub fn measured() -> Vec<Measured> {
+/// Columns of so many cells.
+pub fn measured(cells: usize) -> Vec<Measured> {
     let mut rng = Rng::new(1);
     vec![
-        Measured::new("8, ids with gaps", [8, 0], ids(&mut rng)),
-        Measured::new("9, long runs", [9, 100], runs(&mut rng, 20_000)),
-        Measured::new("9, short runs", [9, 100], runs(&mut rng, 4)),
-        Measured::new("10, coordinates", [10, 1000], walk(&mut rng)),
-        Measured::new("14, one of 100 packed", [14, 0], mostly_small(&mut rng)),
+        Measured::new("8, ids with gaps", [8, 0], ids(&mut rng, cells)),
+        Measured::new("9, long runs", [9, 100], runs(&mut rng, 20_000, cells)),
+        Measured::new("9, short runs", [9, 100], runs(&mut rng, 4, cells)),
+        Measured::new("10, coordinates", [10, 1000], walk(&mut rng, cells)),
+        Measured::new(
+            "14, one of 100 packed",
+            [14, 0],
+            mostly_small(&mut rng, cells),
+        ),
     ]
 }
 
 /// Numbers of atoms: rising by one, with a gap after some hundreds.
-pub fn ids(rng: &mut Rng) -> Vec<i32> {
+pub fn ids(rng: &mut Rng, cells: usize) -> Vec<i32> {
     let mut id = 0;
     let mut next = || {
         id += if rng.chance(1, 400) {
@@ -57,14 +70,14 @@ pub fn ids(rng: &mut Rng) -> Vec<i32> {
         };
         id
     };
-    (0..CELLS).map(|_| next()).collect()
+    (0..cells).map(|_| next()).collect()
 }
 
 /// Hundredths, each repeated up to so many times.
-pub fn runs(rng: &mut Rng, most: usize) -> Vec<i32> {
-    let mut values = Vec::with_capacity(CELLS);
-    while values.len() < CELLS {
-        let count = rng.within(1, most).min(CELLS - values.len());
+pub fn runs(rng: &mut Rng, most: usize, cells: usize) -> Vec<i32> {
+    let mut values = Vec::with_capacity(cells);
+    while values.len() < cells {
+        let count = rng.within(1, most).min(cells - values.len());
         let value = rng.below(10_000) as i32;
         values.extend(std::iter::repeat_n(value, count));
     }
@@ -72,7 +85,7 @@ pub fn runs(rng: &mut Rng, most: usize) -> Vec<i32> {
 }
 
 /// Thousandths of an angstrom from atom to atom, with a jump at some chains.
-pub fn walk(rng: &mut Rng) -> Vec<i32> {
+pub fn walk(rng: &mut Rng, cells: usize) -> Vec<i32> {
     let mut at = 0i32;
     let mut next = || {
         let most = if rng.chance(1, 2000) { 60_000 } else { 1_600 };
@@ -85,14 +98,14 @@ pub fn walk(rng: &mut Rng) -> Vec<i32> {
         };
         at
     };
-    (0..CELLS).map(|_| next()).collect()
+    (0..cells).map(|_| next()).collect()
 }
 
 /// Numbers below a thousand, one of a hundred beyond 16 bits.
-fn mostly_small(rng: &mut Rng) -> Vec<i32> {
+fn mostly_small(rng: &mut Rng, cells: usize) -> Vec<i32> {
     let mut next = || {
         let most = if rng.chance(1, 100) { 100_000 } else { 1_000 };
         rng.within(0, 2 * most) as i32 - most as i32
     };
-    (0..CELLS).map(|_| next()).collect()
+    (0..cells).map(|_| next()).collect()
 }

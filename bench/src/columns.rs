@@ -9,31 +9,29 @@ use mmtf_tests::corpus;
 use mmtf_tests::independent::{columns as own, outer_binaries};
 use mmtf_tests::library::columns::{self as library, Outcome};
 
-use crate::column_data::{measured, Measured};
+use crate::column_data::{measured, Measured, CELLS};
+use crate::table::Workloads;
 use crate::timing::{compare, Times};
-use crate::{row, title};
 
-pub fn tables() {
-    let columns = measured();
-    println!("Decoding a million cells");
-    title();
-    columns.iter().for_each(decoding);
-    println!();
-    println!("Encoding a million cells");
-    title();
-    columns.iter().for_each(encoding);
-    println!();
-    println!("All columns of 4V5A, by their kinds");
-    title();
-    whole_file();
-    println!();
-    println!("One cell, ten before the end");
-    title();
-    columns.iter().for_each(one_cell);
-    println!();
-    println!("One run of 8 bytes that claims millions of cells");
-    title();
-    hostile();
+pub fn rows(table: &Workloads) {
+    let columns = measured(CELLS);
+    for column in &columns {
+        decoding(table, column);
+    }
+    for column in &columns {
+        encoding(table, column);
+    }
+    whole_file(table);
+    for Measured { name, column, .. } in &columns {
+        let index = CELLS as u64 - 10;
+        table.row(
+            "cell, ten before the end",
+            name,
+            column.len(),
+            cell(column, index),
+        );
+    }
+    hostile(table);
 }
 
 /// Both decode the same column into the same buffer.
@@ -85,71 +83,93 @@ fn encode<T: Element>(
     )
 }
 
-fn decoding(measured: &Measured) {
+fn decoding(table: &Workloads, measured: &Measured) {
     let Measured { name, column, .. } = measured;
     let cells = measured.values.len();
-    let line = |kind: &str, times| row(&format!("{name}: {kind}"), column.len(), times);
-    match measured.header[0] {
-        9..=13 => {
-            line("fixed point", decode(&FIXED_POINT, column, cells));
-            line("float32", decode(&FLOAT32, column, cells));
-        }
-        _ => line("int32", decode(&INT32, column, cells)),
+    let line = |kind: &str, times| {
+        let on = format!("{name}: {kind}");
+        table.row("decode a million cells", &on, column.len(), times);
+    };
+    line(measured.kind(), decode_measured(measured));
+    if measured.kind() == "fixed point" {
+        line("float32", decode(&FLOAT32, column, cells));
     }
 }
 
-fn encoding(measured: &Measured) {
-    let encoder = match measured.header[0] {
-        9..=13 => &TO_FIXED_POINT,
+/// The integers of a column.
+pub fn decode_measured(measured: &Measured) -> Times {
+    let decoder = match measured.kind() {
+        "fixed point" => &FIXED_POINT,
+        _ => &INT32,
+    };
+    decode(decoder, &measured.column, measured.values.len())
+}
+
+fn encoding(table: &Workloads, measured: &Measured) {
+    let bytes = measured.column.len();
+    let times = encode_measured(measured);
+    table.row("encode a million cells", measured.name, bytes, times);
+}
+
+pub fn encode_measured(measured: &Measured) -> Times {
+    let encoder = match measured.kind() {
+        "fixed point" => &TO_FIXED_POINT,
         _ => &TO_INT32,
     };
     let room = measured.column.len();
-    let times = encode(encoder, measured.header, &measured.values, room);
-    row(measured.name, room, times);
+    encode(encoder, measured.header, &measured.values, room)
 }
 
-fn one_cell(measured: &Measured) {
-    let index = measured.values.len() as u64 - 10;
-    cell(measured.name, &measured.column, index);
-}
-
-fn cell(name: &str, column: &[u8], index: u64) {
+fn cell(column: &[u8], index: u64) -> Times {
     assert!(agree_on_cell(column, index).is_ok(), "both give the same");
-    let times = compare(
+    compare(
         || {
             black_box(library::cell(black_box(column), black_box(index)));
         },
         || {
             let _ = black_box(own::cell(black_box(column), black_box(index)));
         },
-    );
-    row(name, column.len(), times);
+    )
 }
 
-/// Refused with 19 since the header has another length, or else with 25.
-fn hostile() {
+/// One run of 8 bytes that claims millions of cells: refused with 19 since the
+/// header has another length, or else with 25.
+fn hostile(table: &Workloads) {
     let column = |length: i32, count: i32| {
         let numbers = [8, length, 0, 1, count];
         numbers.map(i32::to_be_bytes).concat()
     };
     let larger = column(16_777_216, i32::MAX);
-    row(
-        "int32, 2,147,483,647: another length",
-        20,
-        decode(&INT32, &larger, 1000),
-    );
-    cell("cell, 2,147,483,647: another length", &larger, 5);
     let whole = column(16_777_216, 16_777_216);
-    row(
-        "int32, 16,777,216: no room",
-        20,
-        decode(&INT32, &whole, 1000),
-    );
-    cell("cell, 16,777,216: the last", &whole, 16_777_215);
+    let rows = [
+        (
+            "decode, run of 2,147,483,647",
+            "another length",
+            decode(&INT32, &larger, 1000),
+        ),
+        (
+            "cell, run of 2,147,483,647",
+            "another length",
+            cell(&larger, 5),
+        ),
+        (
+            "decode, run of 16,777,216",
+            "no room",
+            decode(&INT32, &whole, 1000),
+        ),
+        (
+            "cell, run of 16,777,216",
+            "the last",
+            cell(&whole, 16_777_215),
+        ),
+    ];
+    for (on, which, times) in rows {
+        table.row("one run, hostile", &format!("{on}: {which}"), 20, times);
+    }
 }
 
 /// Adds up the times of all columns of the largest file.
-fn whole_file() {
+fn whole_file(table: &Workloads) {
     let file = corpus::derived("4V5A");
     let mut decoding = Sum::default();
     let mut encoding = Sum::default();
@@ -165,15 +185,18 @@ fn whole_file() {
         };
         subject.run(&mut decoding, &mut encoding);
     }
-    row(
-        "decoding, reals as float32",
+    let [decoded, encoded] = [decoding.times(), encoding.times()];
+    table.row(
+        "decode all columns",
+        "4V5A, reals as float32",
         decoding.bytes,
-        decoding.times(),
+        decoded,
     );
-    row(
-        "encoding, reals from fixed point",
+    table.row(
+        "encode all columns",
+        "4V5A, reals from fixed point",
         encoding.bytes,
-        encoding.times(),
+        encoded,
     );
 }
 

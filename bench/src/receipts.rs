@@ -8,31 +8,36 @@ use mmtf_tests::corpus;
 use mmtf_tests::independent::receipt::{read_receipt, text, write_receipt, Numbers};
 use mmtf_tests::library::receipt as library;
 
+use crate::table::Workloads;
 use crate::timing::{compare, Times};
-use crate::{row, title};
 
 /// The station and the job of every receipt.
 const BY: [u32; 2] = [42, 424_242];
 
-pub fn tables() {
-    println!("Writing a receipt, the whole check included");
-    title();
+pub fn rows(table: &Workloads) {
     for name in ["4QXX", "1AUY", "4V5A"] {
         let file = corpus::derived(name);
-        row(name, file.len(), writing(file));
+        table.row("receipt written", name, file.len(), writing(file));
     }
-    row("a file of no bytes", 0, writing(b""));
-    println!();
-    println!("Reading a receipt");
-    title();
+    table.row("receipt written", "a file of no bytes", 0, writing(b""));
     for name in ["4QXX", "4V5A"] {
         let (receipt, _) = agreed(corpus::derived(name));
-        row(name, receipt.len(), reading(&receipt));
+        table.row("receipt read", name, receipt.len(), reading(&receipt));
     }
     let (receipt, _) = agreed(b"");
-    row("a file of no bytes", receipt.len(), reading(&receipt));
+    table.row(
+        "receipt read",
+        "a file of no bytes",
+        receipt.len(),
+        reading(&receipt),
+    );
     let longest = text(&MOST).into_bytes();
-    row("the longest", longest.len(), reading(&longest));
+    table.row(
+        "receipt read",
+        "the longest",
+        longest.len(),
+        reading(&longest),
+    );
 }
 
 /// The numbers of the longest receipt.
@@ -54,7 +59,7 @@ fn agreed(file: &[u8]) -> (Vec<u8>, Numbers) {
 }
 
 /// Both write the receipt of the same file into the same buffer.
-fn writing(file: &[u8]) -> Times {
+pub fn writing(file: &[u8]) -> Times {
     agreed(file);
     let buffer = RefCell::new([0; LONGEST]);
     compare(

@@ -1,0 +1,103 @@
+//! Cost against size: the same work at 1, 4, 16 and 64 times the size, and the
+//! time for each byte or cell of it.
+
+use crate::check::verdict;
+use crate::check_data::{entities, large_type, runs_with_delta, structure, transforms};
+use crate::column_data::{self, measured, CELLS};
+use crate::columns::{decode_measured, encode_measured};
+use crate::container::walk;
+use crate::receipts::writing;
+use crate::table::{Column, Table};
+use crate::timing::Times;
+use crate::workloads::{HOSTILE, LARGEST};
+
+/// The parts of the largest size that are measured: 1, 4, 16 and 64 times the
+/// smallest.
+const PARTS: [usize; 4] = [64, 16, 4, 1];
+
+/// How much work there was, in bytes or cells, and its times.
+type Measured = (usize, Times);
+
+pub fn table() {
+    let table = Table::new(&[
+        Column::Names("work", 14),
+        Column::Names("on", 38),
+        Column::Names("unit", 4),
+        Column::Numbers("1", 8),
+        Column::Numbers("4", 8),
+        Column::Numbers("16", 8),
+        Column::Numbers("64", 8),
+        Column::Numbers("64 to 1", 8),
+        Column::Numbers("Rust", 8),
+    ]);
+    for hostile in HOSTILE {
+        let sizes = PARTS.map(|part| of_file((hostile.build)(LARGEST / part), walk));
+        row(&table, "container walk", hostile.name, "byte", sizes);
+    }
+    verdicts(&table);
+    columns(&table);
+    let sizes = PARTS.map(|part| of_file(structure(CELLS / part), writing));
+    row(
+        &table,
+        "receipt",
+        "15,625 to 1,000,000 atoms",
+        "byte",
+        sizes,
+    );
+}
+
+fn of_file(file: Vec<u8>, work: impl Fn(&[u8]) -> Times) -> Measured {
+    (file.len(), work(&file))
+}
+
+fn verdicts(table: &Table) {
+    let accepted = |file: &[u8]| verdict(file, 0);
+    let on_bytes = |on, build: fn(usize) -> Vec<u8>, largest: usize| {
+        let sizes = PARTS.map(|part| of_file(build(largest / part), accepted));
+        row(table, "verdict", on, "byte", sizes);
+    };
+    on_bytes("15,625 to 1,000,000 atoms", structure, CELLS);
+    on_bytes("one group type of many atoms", large_type, 13_000_000);
+    on_bytes("small maps in entityList", entities, LARGEST);
+    on_bytes("transforms in bioAssemblyList", transforms, LARGEST);
+    let sizes = PARTS.map(|part| {
+        let cells = 16_777_216 / part;
+        (cells, accepted(&runs_with_delta(cells as i32)))
+    });
+    row(
+        table,
+        "verdict",
+        "5 columns of one run with delta",
+        "cell",
+        sizes,
+    );
+}
+
+/// Work on a column.
+type OnColumn = fn(&column_data::Measured) -> Times;
+
+fn columns(table: &Table) {
+    let measured = PARTS.map(|part| measured(CELLS / part));
+    let works: [(&str, OnColumn); 2] = [("decode", decode_measured), ("encode", encode_measured)];
+    for (work, times) in works {
+        for (place, column) in measured[0].iter().enumerate() {
+            let sizes = [0, 1, 2, 3].map(|size: usize| {
+                let column = &measured[size][place];
+                (column.values.len(), times(column))
+            });
+            row(table, work, column.name, "cell", sizes);
+        }
+    }
+}
+
+/// Nanoseconds of the library for each unit at each size; then the last of them
+/// to the first, by the library and by the Rust.
+fn row(table: &Table, work: &str, on: &str, unit: &str, sizes: [Measured; 4]) {
+    let library = sizes.map(|(units, times)| times.library / units as f64);
+    let independent = sizes.map(|(units, times)| times.independent / units as f64);
+    let mut cells = vec![work.to_string(), on.to_string(), unit.to_string()];
+    cells.extend(library.map(|time| format!("{time:.3}")));
+    cells.push(format!("{:.2}", library[3] / library[0]));
+    cells.push(format!("{:.2}", independent[3] / independent[0]));
+    table.row(cells);
+}
