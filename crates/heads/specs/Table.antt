@@ -1,5 +1,6 @@
--- The table of lead bytes: what each row says, and what a kind and a head are by any table that is lent.
--- No lemma stands here; that by the table of lead bytes they are those of the lead-byte rule is in Laws/Table.antt. Assumes nothing.
+-- The tables of lead bytes: the kinds, the head sizes, and both in one table, which the code lends down; and what a kind and a head are by any
+-- table that is lent. No lemma stands here; that by the table of lead bytes they are those of the lead-byte rule is in Laws/Table.antt. Assumes
+-- nothing.
 use mathlib.Core.Bool.{cond}
 use mathlib.Core.List.{List, [], _∷_}
 use Prim.Native.Nat.{ℕ, zero, suc, _+_, _-_, _*_, _/_, _%_}
@@ -10,7 +11,7 @@ use Rattle.heads.specs.Lead.{kindOf, moreOf, heldBy}
 use Rattle.heads.specs.declared.Kind.{Kind}
 use Rattle.heads.specs.declared.Head.{Head}
 
--- a kind's number in the table; `Missing`, which is no lead byte's, never stands in it
+-- a kind's number in the table of kinds, which only tells kinds apart; `Missing`, which is no lead byte's, never stands in it
 abbrev pub kindNumber : Kind → ℕ
 kindNumber Kind.Unsigned = 1
 kindNumber Kind.Signed = 2
@@ -31,18 +32,22 @@ kindFrom n =
     (cond (eqb n 4) Kind.Str
     (cond (eqb n 5) Kind.Bin (cond (eqb n 6) Kind.Array (cond (eqb n 7) Kind.Map Kind.Outside))))))
 
--- the row of a lead byte: eight times its kind's number, plus the size of its head
-abbrev pub rowNumber : ℕ → ℕ
-rowNumber b = kindNumber (kindOf b) * 8 + (moreOf b + 1)
-
 -- n values of f, from i on
 abbrev pub valuesFrom : (ℕ → ℕ) → ℕ → ℕ → List ℕ
 valuesFrom f i zero = []
 valuesFrom f i (suc n) = f i ∷ valuesFrom f (suc i) n
 
--- the table of lead bytes: the row of each of the 256
+-- the table of kinds: the number of the kind of each of the 256 lead bytes
+unfoldable pub kindTable : List ℕ
+kindTable = valuesFrom (λ b. kindNumber (kindOf b)) 0 256
+
+-- the table of head sizes: a head is its lead byte and the bytes of its number
+unfoldable pub sizeTable : List ℕ
+sizeTable = valuesFrom (λ b. moreOf b + 1) 0 256
+
+-- the table of lead bytes: in each row eight times the row of kinds, plus the row of head sizes
 unfoldable pub leadTable : List ℕ
-leadTable = valuesFrom rowNumber 0 256
+leadTable = valuesFrom (λ b. getD kindTable b 0 * 8 + getD sizeTable b 0) 0 256
 
 -- the kind at a place by a table
 unfoldable pub kindBy : List ℕ → List ℕ → ℕ → Kind

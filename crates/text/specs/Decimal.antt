@@ -10,7 +10,7 @@ use Rattle.text.specs.declared.Number.the-variants.{Is, None}
 abbrev pub glyph : ℕ → ℕ
 glyph n = cond (ltb (n % 16) 10) (48 + n % 16) (87 + n % 16)
 
--- a number of at most so many digits and one more in ASCII, the higher digits first, with no leading zeros
+-- the digits of n in ASCII, the higher ones first and with no leading zeros, where n has at most k + 1 of them; of a longer n its last k + 1
 unfoldable pub decimalIn : ℕ → ℕ → List ℕ
 decimalIn zero n = (48 + n % 10) ∷ []
 decimalIn (suc k) n = cond (ltb n 10) ((48 + n) ∷ []) (decimalIn k (n / 10) ++ ((48 + n % 10) ∷ []))

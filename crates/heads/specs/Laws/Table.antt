@@ -1,4 +1,4 @@
--- The table of lead bytes: its rows, and that kind and head by it are those of the lead-byte rule.
+-- The tables of lead bytes: their rows, and that kind and head by it are those of the lead-byte rule.
 -- Assumes nothing.
 use mathlib.Core.Path.{_≡_, refl, sym, ap, _∙_}
 use mathlib.Core.Bool.{Bool, true, false, cond, _&&_, _||_}
@@ -9,12 +9,13 @@ use native.Mathlib.Nat.{add-zero, zero-add, add-suc, suc-add, le-of-suc-le-suc, 
 use lib.Arith.{digits-div, digits-mod}
 use lib.Dec.{ltb, leb, eqb}
 use lib.ListN.{length, getD}
+use lib.Seq.{ext-getD}
 use borrow.Author.Tests.{leb-true, eqb-true, ltb-true, ltb-false, lt-ltb, le-ltb}
 use Rattle.numbers.specs.BigEndian.{Bytes}
 use Rattle.numbers.specs.Laws.BigEndian.{unsignedAt-in, byte-at}
 use Rattle.heads.specs.Lead.{Row, row, leadBytes, inRow, rowIn, kindOf, moreOf, heldBy}
 use Rattle.heads.specs.Head.{kindAt, headNumber, headFrom, headAt}
-use Rattle.heads.specs.Table.{kindNumber, kindFrom, rowNumber, valuesFrom, leadTable, kindBy, sizedNumber, sizedHead, headBy}
+use Rattle.heads.specs.Table.{kindNumber, kindFrom, valuesFrom, kindTable, sizeTable, leadTable, kindBy, sizedNumber, sizedHead, headBy}
 use Rattle.heads.specs.declared.Kind.{Kind}
 use Rattle.heads.specs.declared.Head.{Head}
 
@@ -28,6 +29,11 @@ rows-from f i (suc n) (suc k) h = rows-from f (suc i) n k (le-of-suc-le-suc h) �
 -- the row at k is the value at k
 pub rows-at : (f : ℕ → ℕ) (n k : ℕ) → k < n → getD (valuesFrom f 0 n) k 0 ≡ f k
 rows-at f n k h = rows-from f 0 n k h ∙ ap f (zero-add k)
+
+-- as many rows as are asked for
+pub values-length : (f : ℕ → ℕ) (i n : ℕ) → length (valuesFrom f i n) ≡ n
+values-length f i zero = refl
+values-length f i (suc n) = ap suc (values-length f (suc i) n)
 
 -- what each row of lead bytes passes, and the row for none, the row of any byte passes
 abbrev every : (Row → Bool) → List Row → Bool
@@ -122,12 +128,33 @@ string-lead b l h = record {
   held = values-agree heldBy (λ i. i - 0xa0) 0xa0 32 refl b l (omega arith);
 }
 
--- the table of lead bytes
+-- the tables of lead bytes, row by row
 
 module _ (b : ℕ) (byte : b < 256) where
-  row-is : getD leadTable b 0 ≡ rowNumber b
+  kinds-row : getD kindTable b 0 ≡ kindNumber (kindOf b)
+  unfolding kindTable
+  kinds-row = rows-at (λ i. kindNumber (kindOf i)) 256 b byte
+
+  sizes-row : getD sizeTable b 0 ≡ moreOf b + 1
+  unfolding sizeTable
+  sizes-row = rows-at (λ i. moreOf i + 1) 256 b byte
+
+  -- kinds are at most 7 and head sizes at most 5, so that a row of both is a byte
+  pub kinds-bound : getD kindTable b 0 ≤ 7
+  unfolding kindOf
+  kinds-bound = rw kinds-row (leb-true _ 7 (row-passes (λ r. leb (kindNumber (r .kind)) 7) b leadBytes refl refl))
+
+  pub sizes-bound : getD sizeTable b 0 ≤ 5
+  sizes-bound = omega (arith, sizes-row, moreOf-bound b)
+
+  -- a row of the table of lead bytes, by the two tables
+  leads-row : getD leadTable b 0 ≡ getD kindTable b 0 * 8 + getD sizeTable b 0
   unfolding leadTable
-  row-is = rows-at rowNumber 256 b byte
+  leads-row = rows-at (λ i. getD kindTable i 0 * 8 + getD sizeTable i 0) 256 b byte
+
+  -- a row of the table of lead bytes, by the lead-byte rule: eight times its kind's number, plus the size of its head
+  pub row-is : getD leadTable b 0 ≡ kindNumber (kindOf b) * 8 + (moreOf b + 1)
+  row-is = leads-row ∙ rw (kinds-row, sizes-row)
 
   row-kind : kindFrom (getD leadTable b 0 / 8) ≡ kindOf b
   row-kind =
@@ -136,6 +163,13 @@ module _ (b : ℕ) (byte : b < 256) where
 
   row-size : getD leadTable b 0 % 8 ≡ moreOf b + 1
   row-size = rw row-is (digits-mod (kindNumber (kindOf b)) (omega (arith, moreOf-bound b)))
+
+-- 256 rows that are packed from the two tables are the table of lead bytes
+pub leads-packed : (rows : List ℕ) → length rows ≡ 256 → ((k : ℕ) → k < 256 → getD rows k 0 ≡ getD kindTable k 0 * 8 + getD sizeTable k 0) → rows ≡ leadTable
+unfolding leadTable
+leads-packed rows long h =
+    ext-getD 0 rows leadTable (long ∙ sym (values-length (λ b. getD kindTable b 0 * 8 + getD sizeTable b 0) 0 256))
+    (λ k lt. h k (omega arith) ∙ sym (leads-row k (omega arith)))
 
 -- what a lead byte holds, in ranges
 pub held-ranges : (b : ℕ) → b < 256 → heldBy b ≡ cond (ltb b 0x80) b (cond (ltb b 0xa0) (b % 16) (cond (ltb b 0xc0) (b % 32) (cond (ltb b 0xe0) 0 (b % 32))))
@@ -181,7 +215,7 @@ module _ (s : List ℕ) (bytes : Bytes s) (at : ℕ) where
           ap (sizedHead s b at) (row-size b (byte-at s bytes at lt)) ∙ whole (ltb (length s - (at + 1)) (moreOf b)) refl lt
       go false e = refl
 
--- the same of an answer by a table that is the table of lead bytes
+-- an answer by a table, where that is the table of lead bytes, is that of the lead-byte rule
 module _ (s : List ℕ) (bytes : Bytes s) (at : ℕ) {table : List ℕ} where
   pub kind-rule : {r : Kind} → r ≡ kindBy table s at → table ≡ leadTable → r ≡ kindAt s at
   kind-rule e t = e ∙ ap (λ (l : List ℕ). kindBy l s at) t ∙ kindBy-leads s bytes at
