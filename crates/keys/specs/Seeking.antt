@@ -6,7 +6,7 @@ use Prim.Native.Nat.{ℕ, _<_}
 use Rattle.messagepack.specs.Document.{Entries}
 use Rattle.messagepack.specs.Rules.{NoKey}
 use Rattle.fields.specs.Types.{look}
-use Rattle.fields.specs.Noted.{PlaceSays}
+use Rattle.values.specs.Places.{PlaceSays}
 
 -- a search for a name among entries, of which some are left: not found yet, or found at a place and not among those that are left
 pub data Seeking (s name : List ℕ) (es rest : Entries) : ℕ → Type 0 where

@@ -1,16 +1,13 @@
-// The value under a key of a map, by its place in a file.
-ghost use mathlib.Core.Path.{_≡_};
-ghost use Prim.Native.Nat.{ℕ};
-ghost use Rattle.heads.specs.Table.{leadTable};
-ghost use Rattle.messagepack.specs.Document.{Document, Entries, size};
+// The value under a key of a map, by its place in a file. Any bytes and any place are taken, and a meaning is promised for a file that has been
+// walked (`Walked.antt` of values).
 ghost use Rattle.values.specs.Parts.{entriesOf};
-ghost use Rattle.values.specs.Places.{At, AtEntries};
+ghost use Rattle.values.specs.Places.{PlaceSays};
+ghost use Rattle.values.specs.Walked.{Walked, WalkedEntries};
 ghost use Rattle.fields.specs.Types.{look};
-ghost use Rattle.fields.specs.Noted.{PlaceSays};
 
 // The place of the value under a name in the map at a place; 0 where there is none.
 pub fn find(leads: &[u8; 256], file: &[u8], at: usize, name: &[u8]) -> usize
-    ensures { λ r. ⌜ (now (leads .entry) ≡ leadTable → (x : Document) (e : ℕ) → At (now (file .entry)) at x e → PlaceSays (now (file .entry)) r (look (now (name .entry)) (entriesOf x))) ⌝ }
+    ensures { λ r. ⌜ Walked (now (leads .entry)) (now (file .entry)) at (λ x e. PlaceSays (now (file .entry)) r (look (now (name .entry)) (entriesOf x))) ⌝ }
 {
     let part = values::entries_at(leads, file, at);
     find_from(leads, file, part.count, part.at, name)
@@ -18,7 +15,7 @@ pub fn find(leads: &[u8; 256], file: &[u8], at: usize, name: &[u8]) -> usize
 
 // The place of the value under a name among n entries from a place on.
 fn find_from(leads: &[u8; 256], file: &[u8], n: usize, at: usize, name: &[u8]) -> usize
-    ensures { λ r. ⌜ (now (leads .entry) ≡ leadTable → (es : Entries) (e : ℕ) → AtEntries (now (file .entry)) at es e → size es ≡ n → PlaceSays (now (file .entry)) r (look (now (name .entry)) es)) ⌝ }
+    ensures { λ r. ⌜ WalkedEntries (now (leads .entry)) (now (file .entry)) n at (λ es e. PlaceSays (now (file .entry)) r (look (now (name .entry)) es)) ⌝ }
 {
     let mut left = n;
     let mut p = at;

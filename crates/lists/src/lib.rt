@@ -1,15 +1,12 @@
 // Arrays of integers at places of a file: their sum, and whether they lie between two numbers. Each function takes any bytes and any place, and
-// says what it answers for whatever document stands there; a document that is no array has no integers.
+// promises a meaning for a file that has been walked; a document that is no array has no integers.
 ghost use mathlib.Core.Path.{_≡_};
 ghost use mathlib.Core.Bool.{true};
 ghost use Prim.Native.Nat.{ℕ, _+_, _≤_, _<_};
 ghost use lib.IntN.{pos};
 ghost use lib.ListN.{length, getD};
-ghost use Rattle.heads.specs.Table.{leadTable};
-ghost use Rattle.messagepack.specs.Limits.{fileLimit};
-ghost use Rattle.messagepack.specs.Document.{Document, Documents, count};
-ghost use Rattle.values.specs.Parts.{itemsOf};
-ghost use Rattle.values.specs.Places.{At, AtAll};
+ghost use Rattle.values.specs.Parts.{integerOf, itemsOf};
+ghost use Rattle.values.specs.Walked.{Short, Walked, WalkedAll};
 ghost use Rattle.survey.specs.Cells.{between, allBetween};
 ghost use Rattle.lists.specs.Integers.{integersOf, summed};
 
@@ -19,9 +16,15 @@ pub enum Sum {
     Negative,
 }
 
+// An integer, and where it ends.
+pub struct Integer {
+    pub value: i32,
+    pub end: usize,
+}
+
 // The sum of the integers of the array at a place.
 pub fn sum_at(leads: &[u8; 256], file: &[u8], at: usize) -> Sum
-    ensures { λ r. ⌜ (now (leads .entry) ≡ leadTable → length (now (file .entry)) ≤ fileLimit → (x : Document) (e : ℕ) → At (now (file .entry)) at x e → r ≡ summed (integersOf (itemsOf x))) ⌝ }
+    ensures { λ r. ⌜ (Short (now (file .entry)) → Walked (now (leads .entry)) (now (file .entry)) at (λ x e. r ≡ summed (integersOf (itemsOf x)))) ⌝ }
 {
     let part = values::items_at(leads, file, at);
     sum_from(leads, file, part.count, part.at)
@@ -29,7 +32,7 @@ pub fn sum_at(leads: &[u8; 256], file: &[u8], at: usize) -> Sum
 
 // The sum of n integers from a place on. A file has no more values than bytes.
 fn sum_from(leads: &[u8; 256], file: &[u8], n: usize, at: usize) -> Sum
-    ensures { λ r. ⌜ (now (leads .entry) ≡ leadTable → length (now (file .entry)) ≤ fileLimit → (ds : Documents) (e : ℕ) → AtAll (now (file .entry)) at ds e → count ds ≡ n → r ≡ summed (integersOf ds)) ⌝ }
+    ensures { λ r. ⌜ (Short (now (file .entry)) → WalkedAll (now (leads .entry)) (now (file .entry)) n at (λ ds e. r ≡ summed (integersOf ds))) ⌝ }
 {
     if messagepack::FILE_LIMIT < n {
         return Sum::Negative;
@@ -38,7 +41,7 @@ fn sum_from(leads: &[u8; 256], file: &[u8], n: usize, at: usize) -> Sum
     let mut left = n;
     let mut p = at;
     while 0 < left {
-        let next = values::next_integer(leads, file, p);
+        let next = next_integer(leads, file, p);
         let value = next.value;
         if value < 0 {
             return Sum::Negative;
@@ -50,6 +53,25 @@ fn sum_from(leads: &[u8; 256], file: &[u8], n: usize, at: usize) -> Sum
     Sum::Is(total)
 }
 
+// The integer at a place, as `values::integer_at` has it, and where the value ends. The commonest, those in their lead byte, are found first.
+fn next_integer(leads: &[u8; 256], file: &[u8], at: usize) -> Integer
+    ensures { λ r. ⌜ Walked (now (leads .entry)) (now (file .entry)) at (λ x e. (r .value ≡ integerOf x) × (r .end ≡ e)) ⌝ }
+{
+    if at < file.len() {
+        let b = file[at];
+        if b < 0x80 {
+            return Integer {
+                value: as_integer(b),
+                end: at + 1,
+            };
+        }
+    }
+    Integer {
+        value: values::integer_at(leads, file, at),
+        end: values::skip(leads, file, at),
+    }
+}
+
 fn wide(x: u32) -> u64
     ensures { λ r. ⌜ (r ≡ x) × (r ≤ 4294967295) ⌝ }
 {
@@ -58,7 +80,7 @@ fn wide(x: u32) -> u64
 
 // Whether the integers of the array at a place lie between two numbers.
 pub fn all_between(leads: &[u8; 256], file: &[u8], at: usize, low: i32, high: i32) -> bool
-    ensures { λ r. ⌜ (now (leads .entry) ≡ leadTable → (x : Document) (e : ℕ) → At (now (file .entry)) at x e → r ≡ allBetween low high (integersOf (itemsOf x))) ⌝ }
+    ensures { λ r. ⌜ Walked (now (leads .entry)) (now (file .entry)) at (λ x e. r ≡ allBetween low high (integersOf (itemsOf x))) ⌝ }
 {
     let part = values::items_at(leads, file, at);
     let n = part.count;
@@ -95,12 +117,12 @@ fn as_integer(byte: u8) -> i32
 
 // Whether n integers from a place on lie between two numbers.
 fn between_from(leads: &[u8; 256], file: &[u8], n: usize, at: usize, low: i32, high: i32) -> bool
-    ensures { λ r. ⌜ (now (leads .entry) ≡ leadTable → (ds : Documents) (e : ℕ) → AtAll (now (file .entry)) at ds e → count ds ≡ n → r ≡ allBetween low high (integersOf ds)) ⌝ }
+    ensures { λ r. ⌜ WalkedAll (now (leads .entry)) (now (file .entry)) n at (λ ds e. r ≡ allBetween low high (integersOf ds)) ⌝ }
 {
     let mut left = n;
     let mut p = at;
     while 0 < left {
-        let next = values::next_integer(leads, file, p);
+        let next = next_integer(leads, file, p);
         let value = next.value;
         if !survey::is_between(value, low, high) {
             return false;

@@ -12,8 +12,8 @@ use Rattle.heads.specs.Lead.{moreOf}
 use Rattle.heads.specs.Head.{HeadOf}
 use Rattle.heads.specs.declared.Kind.{Kind}
 
--- a document is one value: an integer, a float's 32 bits, the bytes of a string or of a binary, an array's values in order, or a map's keys
--- and values in order. What it must keep besides is `Keeps` of Rules.antt; that strings hold bytes and floats 32 bits follows from the heads and
+-- a document: an integer, a float by its bits, a string or a binary by its bytes, an array of documents, or a map of keys and documents.
+-- Arrays and maps keep their order. What it must keep besides is `Keeps` of Rules.antt; that strings hold bytes and floats 32 bits follows from the heads and
 -- the bytes of a file that is its writing
 mutual
   pub data Document : Type 0 where
@@ -65,7 +65,7 @@ pub record TextOf (k : Kind) (t : List ℕ) (w : List ℕ) : Type 0 where
   pub head : HeadOf k (length t) h
   pub is : w ≡ h ++ t
 
--- w is a writing of a document: its heads and bodies in order, each head in any form of its kind, with nothing after
+-- w is a writing of a document: heads and bodies one after another and nothing else, where a head may have any form of its kind
 unfoldable mutual
   pub Writes : Document → List ℕ → Type 0
   Writes (integer v) w = UnsignedOf v w ⊎ SignedOf v w

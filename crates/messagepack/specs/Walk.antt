@@ -1,4 +1,4 @@
--- Refusals 1 to 11 in the order of paper 01: a walk from the first byte, the first fault met counting.
+-- Refusals 1 to 11 in the order of paper 01: the bytes are walked from the first on, and the first fault decides.
 -- No lemma stands here; that it gives 0 exactly for a `Container` is `container-exactly` of Laws/Container.antt. Assumes nothing.
 use mathlib.Core.Bool.{Bool, false, cond, _||_}
 use mathlib.Core.List.{List, [], _∷_}

@@ -1,5 +1,7 @@
--- Parts of a document. `Places` and `Standing`, values at places of a file, are for the code inside.
+-- Parts of a document. `Places`, `Heads`, `Standing` and `Walked`, values at places of a file, are for the code inside.
 pub mod Parts
 pub mod Places
+pub mod Heads
 pub mod Standing
+pub mod Walked
 pub mod Laws

@@ -3,7 +3,8 @@
 use mathlib.Core.Path.{_≡_}
 use mathlib.Core.Bool.{cond}
 use mathlib.Core.List.{List}
-use Prim.Native.Nat.{ℕ, _+_, _-_}
+use mathlib.Core.Option.{Option, some, none as nothing}
+use Prim.Native.Nat.{ℕ, _+_, _-_, _<_}
 use lib.Dec.{eqb, leb, ltb}
 use lib.IntN.{ℤ, pos, negsuc}
 use lib.ListN.{take, drop}
@@ -35,6 +36,11 @@ pub record AtEntries (s : List ℕ) (p : ℕ) (es : Entries) (e : ℕ) : Type 0 
   pub span : Span s p e w
   pub keeps : KeepsEntries es
   pub distinct : Distinct es
+
+-- a place says which document stands there; 0, where no value stands, says that there is none
+pub data PlaceSays (s : List ℕ) : ℕ → Option Document → Type 0 where
+  gone : PlaceSays s 0 nothing
+  there : {p e : ℕ} {x : Document} → 0 < p → At s p x e → PlaceSays s p (some x)
 
 -- the last number that a signed head of a size holds, and the first that stands for a negative integer
 abbrev pub lastOf : ℕ → ℕ

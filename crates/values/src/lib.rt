@@ -1,16 +1,18 @@
-// Values at places of a file: where one ends, and what it holds. Each function takes any bytes and any place, and says what it answers for
-// whatever document stands there by the rules of a container. The table of lead bytes is lent (`heads::leads`).
+// Values at places of a file: where one ends, and what it holds. Each function takes any bytes and any place, and promises a meaning for a
+// file that has been walked (specs/Walked.antt). The table of lead bytes is lent (`heads::leads`). The commonest lead bytes are looked at before
+// the table, since files are mostly made of them: `text_at` says so by a case of its definition. What `skip` answers by another table is left
+// free, since it goes by the lead bytes and by the table that is lent.
 ghost use mathlib.Core.Path.{_≡_};
 ghost use mathlib.Core.Logic.{_↔_};
 ghost use mathlib.Core.Bool.{true};
 ghost use Prim.Native.Nat.{ℕ, _+_, _-_, _≤_, _<_};
-ghost use lib.IntN.{pos};
 ghost use lib.ListN.{length};
 ghost use Rattle.heads.specs.Table.{leadTable};
-ghost use Rattle.messagepack.specs.Document.{Document};
 ghost use Rattle.values.specs.Parts.{integerOf};
-ghost use Rattle.values.specs.Places.{At, TextAt, ItemsAt, EntriesAt, lastOf, halfOf, unsignedBy, signedBy};
-ghost use Rattle.values.specs.Standing.{Standing, pastOver, pairsOver, LowRun, ItemsOver, Stepped};
+ghost use Rattle.values.specs.Places.{TextAt, ItemsAt, EntriesAt, lastOf, halfOf, unsignedBy, signedBy};
+ghost use Rattle.values.specs.Heads.{bodyPart, itemsPart, integerBy, textBy, textByTable, itemsBy, entriesBy};
+ghost use Rattle.values.specs.Standing.{pastOver, pairsOver, LowRun, ItemsOver, Stepped};
+ghost use Rattle.values.specs.Walked.{Walked, WalkedOver};
 use heads::Head;
 use heads::Kind;
 
@@ -18,12 +20,6 @@ use heads::Kind;
 pub struct Part {
     pub at: usize,
     pub count: usize,
-}
-
-// An integer, and where it ends.
-pub struct Integer {
-    pub value: i32,
-    pub end: usize,
 }
 
 // A step over a value: where it goes on, and how many values are inside; or no value stands there.
@@ -34,7 +30,7 @@ pub enum Over {
 
 // Where the value at a place ends. Each value inside takes a byte at least, so that a count that cannot be true ends the loop.
 pub fn skip(leads: &[u8; 256], file: &[u8], at: usize) -> usize
-    ensures { λ r. ⌜ (now (leads .entry) ≡ leadTable → (e : ℕ) → Standing (now (file .entry)) 1 at e → r ≡ e) ⌝ }
+    ensures { λ r. ⌜ WalkedOver (now (leads .entry)) (now (file .entry)) at (λ e. r ≡ e) ⌝ }
 {
     let mut left: usize = 1;
     let mut p = at;
@@ -173,7 +169,8 @@ fn pairs(file: &[u8], n: usize, p: usize) -> Over
 
 // The integer at a place; of another value 0.
 pub fn integer_at(leads: &[u8; 256], file: &[u8], at: usize) -> i32
-    ensures { λ r. ⌜ (now (leads .entry) ≡ leadTable → (x : Document) (e : ℕ) → At (now (file .entry)) at x e → r ≡ integerOf x) ⌝ }
+    ensures table { λ r. ⌜ r ≡ integerBy (now (leads .entry)) (now (file .entry)) at ⌝ }
+    ensures says { λ r. ⌜ Walked (now (leads .entry)) (now (file .entry)) at (λ x e. r ≡ integerOf x) ⌝ }
 {
     let Head::At(n, p) = heads::head_at(leads, file, at) else {
         return 0;
@@ -189,32 +186,6 @@ pub fn integer_at(leads: &[u8; 256], file: &[u8], at: usize) -> i32
         Kind::Outside => 0,
         Kind::Missing => 0,
     }
-}
-
-// The integer at a place, as `integer_at` has it, and where the value ends. The commonest, those in their lead byte, are found first.
-pub fn next_integer(leads: &[u8; 256], file: &[u8], at: usize) -> Integer
-    ensures { λ r. ⌜ (now (leads .entry) ≡ leadTable → (x : Document) (e : ℕ) → At (now (file .entry)) at x e → (r .value ≡ integerOf x) × (r .end ≡ e)) ⌝ }
-{
-    if at < file.len() {
-        let b = file[at];
-        if b < 0x80 {
-            return Integer {
-                value: low(b),
-                end: at + 1,
-            };
-        }
-    }
-    Integer {
-        value: integer_at(leads, file, at),
-        end: skip(leads, file, at),
-    }
-}
-
-// A byte as an integer.
-fn low(b: u8) -> i32
-    ensures { λ r. ⌜ r ≡ pos b ⌝ }
-{
-    b as i32
 }
 
 // The integer of an unsigned head.
@@ -280,7 +251,8 @@ fn less(a: usize, b: usize) -> usize
 // with no table.
 pub fn text_at(leads: &[u8; 256], file: &[u8], at: usize) -> Part
     ensures inside { λ r. ⌜ r .at + r .count ≤ length (now (file .entry)) ⌝ }
-    ensures says { λ r. ⌜ (now (leads .entry) ≡ leadTable → (x : Document) (e : ℕ) → At (now (file .entry)) at x e → TextAt (now (file .entry)) x e r) ⌝ }
+    ensures table { λ r. ⌜ r ≡ textBy (now (leads .entry)) (now (file .entry)) at ⌝ }
+    ensures says { λ r. ⌜ Walked (now (leads .entry)) (now (file .entry)) at (λ x e. TextAt (now (file .entry)) x e r) ⌝ }
 {
     if at < file.len() {
         let b = file[at];
@@ -294,10 +266,11 @@ pub fn text_at(leads: &[u8; 256], file: &[u8], at: usize) -> Part
     text_by_table(leads, file, at)
 }
 
-// The same, by the table of lead bytes.
+// The bytes of the string or the binary at a place, by the table of lead bytes.
 fn text_by_table(leads: &[u8; 256], file: &[u8], at: usize) -> Part
     ensures inside { λ r. ⌜ r .at + r .count ≤ length (now (file .entry)) ⌝ }
-    ensures says { λ r. ⌜ (now (leads .entry) ≡ leadTable → (x : Document) (e : ℕ) → At (now (file .entry)) at x e → TextAt (now (file .entry)) x e r) ⌝ }
+    ensures table { λ r. ⌜ r ≡ textByTable (now (leads .entry)) (now (file .entry)) at ⌝ }
+    ensures says { λ r. ⌜ Walked (now (leads .entry)) (now (file .entry)) at (λ x e. TextAt (now (file .entry)) x e r) ⌝ }
 {
     let Head::At(n, p) = heads::head_at(leads, file, at) else {
         return Part { at: 0, count: 0 };
@@ -317,8 +290,7 @@ fn text_by_table(leads: &[u8; 256], file: &[u8], at: usize) -> Part
 
 // The n bytes from p on, or none where they are not all inside.
 fn body(file: &[u8], n: usize, p: usize) -> Part
-    ensures inside { λ r. ⌜ r .at + r .count ≤ length (now (file .entry)) ⌝ }
-    ensures is { λ r. ⌜ (p + n ≤ length (now (file .entry)) → (r .at ≡ p) × (r .count ≡ n)) ⌝ }
+    ensures { λ r. ⌜ r ≡ bodyPart (length (now (file .entry))) n p ⌝ }
 {
     if file.len() < p {
         return Part { at: 0, count: 0 };
@@ -332,7 +304,8 @@ fn body(file: &[u8], n: usize, p: usize) -> Part
 // The values of the array at a place; of another value none.
 pub fn items_at(leads: &[u8; 256], file: &[u8], at: usize) -> Part
     ensures inside { λ r. ⌜ r .count ≤ length (now (file .entry)) ⌝ }
-    ensures says { λ r. ⌜ (now (leads .entry) ≡ leadTable → (x : Document) (e : ℕ) → At (now (file .entry)) at x e → ItemsAt (now (file .entry)) x r) ⌝ }
+    ensures table { λ r. ⌜ r ≡ itemsBy (now (leads .entry)) (now (file .entry)) at ⌝ }
+    ensures says { λ r. ⌜ Walked (now (leads .entry)) (now (file .entry)) at (λ x e. ItemsAt (now (file .entry)) x r) ⌝ }
 {
     let Head::At(n, p) = heads::head_at(leads, file, at) else {
         return Part { at: 0, count: 0 };
@@ -352,8 +325,7 @@ pub fn items_at(leads: &[u8; 256], file: &[u8], at: usize) -> Part
 
 // The n values from p on, or none where they cannot be inside.
 fn values_from(file: &[u8], n: usize, p: usize) -> Part
-    ensures inside { λ r. ⌜ r .count ≤ length (now (file .entry)) ⌝ }
-    ensures is { λ r. ⌜ (n ≤ length (now (file .entry)) → r ≡ record { at = p; count = n }) ⌝ }
+    ensures { λ r. ⌜ r ≡ itemsPart (length (now (file .entry))) n p ⌝ }
 {
     if file.len() < n {
         return Part { at: 0, count: 0 };
@@ -363,7 +335,8 @@ fn values_from(file: &[u8], n: usize, p: usize) -> Part
 
 // The entries of the map at a place; of another value none.
 pub fn entries_at(leads: &[u8; 256], file: &[u8], at: usize) -> Part
-    ensures { λ r. ⌜ (now (leads .entry) ≡ leadTable → (x : Document) (e : ℕ) → At (now (file .entry)) at x e → EntriesAt (now (file .entry)) x r) ⌝ }
+    ensures table { λ r. ⌜ r ≡ entriesBy (now (leads .entry)) (now (file .entry)) at ⌝ }
+    ensures says { λ r. ⌜ Walked (now (leads .entry)) (now (file .entry)) at (λ x e. EntriesAt (now (file .entry)) x r) ⌝ }
 {
     let Head::At(n, p) = heads::head_at(leads, file, at) else {
         return Part { at: 0, count: 0 };

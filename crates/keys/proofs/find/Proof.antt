@@ -7,7 +7,7 @@ use Rattle.keys.proofs.find.Tie as tie
 returns : tie.Need-returns
 returns c =
     λ t x e a.
-    let i = c .before .entries-at .ensures t x e a in
+    let i = c .before .entries-at .ensures .1 t x e a in
     c .find-from .ensures t (entriesOf x) (i .end) (i .all) (i .counts)
 
 pub find-spec : {M : Type 1} → statement M

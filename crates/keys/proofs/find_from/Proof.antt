@@ -1,19 +1,18 @@
 -- The name is that of the entry at hand, or it is sought among those that are left.
-use mathlib.Core.Path.{_≡_, sym, subst, _∙_}
+use mathlib.Core.Path.{sym, subst, _∙_}
 use Prim.Native.Nat.{ℕ, _-_}
 use native.Mathlib.Omega.{arith}
-use Rattle.heads.specs.Table.{leadTable}
-use Rattle.messagepack.specs.Document.{Entries, size}
 use Rattle.values.specs.Places.{AtEntries}
 use Rattle.values.specs.Laws.Places.{at-standing}
 use Rattle.keys.specs.Seeking.{Seeking}
 use Rattle.keys.specs.Laws.Seeking.{Left, turn, seeking-start, seeking-end, seeking-found, seeking-turn, part-equal}
+use Rattle.values.specs.Walked.{WalkedEntries}
 use borrow.Author.Needs.{needs}
 use Rattle.keys.proofs.find_from.Statement.{statement}
 use Rattle.keys.proofs.find_from.Tie as tie
 
 abbrev Inv-loop : tie.InvT-loop
-Inv-loop leads file n at name left₀ p₀ left p = leads ≡ leadTable → (es : Entries) (e : ℕ) → AtEntries file at es e → size es ≡ n → (l : Left file p left e) × Seeking file name es (l .rest) 0
+Inv-loop leads file n at name left₀ p₀ left p = WalkedEntries leads file n at (λ es e. (l : Left file p left e) × Seeking file name es (l .rest) 0)
 
 abbrev μ-loop : tie.MeasureT-loop
 μ-loop leads file n at name left₀ p₀ left p = left
@@ -31,7 +30,7 @@ returns : tie.Need-returns Inv-loop μ-loop
 returns c =
     λ t es e a k.
     let i = c .before .before .before .before .before .before .loop .inv t es e a k in
-    let u = turn (i .0) (c .before .before .before .before .before .loop-test .taken) (c .before .before .before .before .text-at .result) (λ x f d. c .before .before .before .before .text-at .ensures .1 t x f d) in
+    let u = turn (i .0) (c .before .before .before .before .before .loop-test .taken) (c .before .before .before .before .text-at .result) (λ x f d. c .before .before .before .before .text-at .ensures .1 .1 t x f d) in
     let same = part-equal _ _ (c .before .before .before .before .text-at .result .at) (c .before .before .before .before .text-at .result .count) (sym (c .before .same-bytes .ensures) ∙ c .if1 .taken) in
     let r = seeking-turn (i .1) u in
     seeking-found (rw same at r) (u .positive)
@@ -40,7 +39,7 @@ loop-again : tie.Need-loop-again Inv-loop μ-loop
 loop-again c =
     λ t es e a k.
     let i = c .before .before .before .before .before .before .before .loop .inv t es e a k in
-    let u = turn (i .0) (c .before .before .before .before .before .before .loop-test .taken) (c .before .before .before .before .before .text-at .result) (λ x f d. c .before .before .before .before .before .text-at .ensures .1 t x f d) in
+    let u = turn (i .0) (c .before .before .before .before .before .before .loop-test .taken) (c .before .before .before .before .before .text-at .result) (λ x f d. c .before .before .before .before .before .text-at .ensures .1 .1 t x f d) in
     let same = part-equal _ _ (c .before .before .before .before .before .text-at .result .at) (c .before .before .before .before .before .text-at .result .count) (sym (c .before .before .same-bytes .ensures) ∙ c .before .if1 .left) in
     let r = seeking-turn (i .1) u in
     let end = c .skip .ensures t (u .q) (at-standing (u .value)) in

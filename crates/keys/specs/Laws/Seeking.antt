@@ -11,11 +11,10 @@ use Rattle.messagepack.specs.Document.{Document, Entries, string, empty, entry,
 use Rattle.messagepack.specs.Rules.{NoKey}
 use Rattle.messagepack.specs.Equal.{equal}
 use Rattle.messagepack.specs.Laws.Keys.{equal-true}
-use Rattle.values.specs.Places.{At, AtEntries, TextAt}
+use Rattle.values.specs.Places.{At, AtEntries, TextAt, PlaceSays, gone, there}
 use Rattle.values.specs.Laws.Places.{open-entry, at-inside}
 use Rattle.values.specs.declared.Part.{Part}
 use Rattle.fields.specs.Types.{look}
-use Rattle.fields.specs.Noted.{PlaceSays, gone, there}
 use Rattle.keys.specs.Seeking.{Seeking, seek, found}
 
 -- the entries that are left

@@ -18,7 +18,7 @@ low-between-requires c κs = c .before .all-low .ensures .0 (c .if1 .taken) .wit
 returns : tie.Need-returns
 returns c =
     λ t x e a.
-    let i = c .before .before .before .before .items-at .ensures .1 t x e a in
+    let i = c .before .before .before .before .items-at .ensures .1 .1 t x e a in
     let b = c .before .before .before .before .before .before in
     low-pass (between (toZ w32 (ofZ w32 (b .args .low))) (toZ w32 (ofZ w32 (b .args .high)))) (i .all) (i .counts) (c .before .before .before .all-low .ensures .0 (c .before .before .if1 .taken)) (c .before .low-between .ensures (c .if2 .taken))
     ∙ ap₂ (λ (l h : ℤ). allBetween l h (integersOf (itemsOf x))) (toZ-ofZ {w = w32} (b .fits .low)) (toZ-ofZ {w = w32} (b .fits .high))
@@ -26,7 +26,7 @@ returns c =
 returns-2 : tie.Need-returns-2
 returns-2 c =
     λ t x e a.
-    let i = c .before .before .before .items-at .ensures .1 t x e a in
+    let i = c .before .before .before .items-at .ensures .1 .1 t x e a in
     let b = c .before .before .before .before .before in
     c .between-from .ensures t (itemsOf x) (i .end) (i .all) (i .counts) ∙ ap₂ (λ (l h : ℤ). allBetween l h (integersOf (itemsOf x))) (toZ-ofZ {w = w32} (b .fits .low)) (toZ-ofZ {w = w32} (b .fits .high))
 

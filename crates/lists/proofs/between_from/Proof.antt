@@ -1,21 +1,19 @@
 -- What is left of the values decides, since those before lie between the two numbers.
-use mathlib.Core.Path.{_≡_, sym, _∙_}
-use Prim.Native.Nat.{ℕ, _-_}
+use mathlib.Core.Path.{sym, _∙_}
+use Prim.Native.Nat.{_-_}
 use mir.Syntax.{w32}
 use mir.Val.{toZ, ofZ}
 use mir.Facts.{toZ-ofZ}
-use Rattle.heads.specs.Table.{leadTable}
-use Rattle.messagepack.specs.Document.{Documents, count}
-use Rattle.values.specs.Places.{AtAll}
 use Rattle.survey.specs.Cells.{between}
 use borrow.Author.Tests.{not-true, not-false}
 use Rattle.lists.specs.Laws.Integers.{Judging, judging-start, judging-more, judging-out, judging-end}
+use Rattle.values.specs.Walked.{WalkedAll}
 use borrow.Author.Needs.{needs}
 use Rattle.lists.proofs.between_from.Statement.{statement}
 use Rattle.lists.proofs.between_from.Tie as tie
 
 abbrev Inv-loop : tie.InvT-loop
-Inv-loop leads file n at low high left₀ p₀ left p = leads ≡ leadTable → (ds : Documents) (e : ℕ) → AtAll file at ds e → count ds ≡ n → Judging file ds (between (toZ w32 low) (toZ w32 high)) p left e
+Inv-loop leads file n at low high left₀ p₀ left p = WalkedAll leads file n at (λ ds e. Judging file ds (between (toZ w32 low) (toZ w32 high)) p left e)
 
 abbrev μ-loop : tie.MeasureT-loop
 μ-loop leads file n at low high left₀ p₀ left p = left

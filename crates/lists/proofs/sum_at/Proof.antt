@@ -6,9 +6,9 @@ use Rattle.lists.proofs.sum_at.Tie as tie
 
 returns : tie.Need-returns
 returns c =
-    λ t l x e a.
-    let i = c .before .items-at .ensures .1 t x e a in
-    c .sum-from .ensures t l (itemsOf x) (i .end) (i .all) (i .counts)
+    λ l t x e a.
+    let i = c .before .items-at .ensures .1 .1 t x e a in
+    c .sum-from .ensures l t (itemsOf x) (i .end) (i .all) (i .counts)
 
 pub sum-at-spec : {M : Type 1} → statement M
 sum-at-spec =

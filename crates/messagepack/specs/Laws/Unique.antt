@@ -94,7 +94,7 @@ pub same-document : (x y : Document) (u v p q : List ℕ) → Writes x u → Wri
 same-document x y u v p q a b e =
     read-inj (sym (reads x u (max (depth x) (depth y)) p a (omega arith)) ∙ ap (readValue (suc (max (depth x) (depth y)))) e ∙ reads y v (max (depth x) (depth y)) q b (omega arith))
 
--- demand 3: no bytes, accepted or not, are writings of two different documents
+-- demand 3: bytes are a writing of at most one document
 pub no-two-documents : (x y : Document) (bytes : List ℕ) → Writes x bytes → Writes y bytes → x ≡ y
 no-two-documents x y bytes a b = same-document x y bytes bytes [] [] a b refl .0
 

@@ -1,7 +1,8 @@
 -- A float is its head; another head holds no bits of a float.
 use mathlib.Core.Path.{_≡_, refl, sym, _∙_}
 use Rattle.transforms.specs.Laws.Matrix.{read-bits, no-bits}
-use Rattle.values.specs.Laws.Places.{isFloat, at-head}
+use Rattle.values.specs.Heads.{isFloat}
+use Rattle.values.specs.Laws.Places.{at-head}
 use mathlib.Core.Bool.{false}
 use mathlib.Core.List.{[], _∷_}
 use types.Run.{OneOf, miss}

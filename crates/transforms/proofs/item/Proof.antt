@@ -14,13 +14,13 @@ use Rattle.transforms.proofs.item.Tie as tie
 returns : tie.Need-returns
 returns c =
     λ t x e a.
-    let i = c .before .before .items-at .ensures .1 t x e a in
+    let i = c .before .before .items-at .ensures .1 .1 t x e a in
     subst (FoundSays (c .before .before .before .before .args .file .now) Found.Absent) (sym (nth-past (c .before .before .before .before .args .number) (itemsOf x) (omega (arith, i .counts, c .if1 .taken)))) absent
 
 returns-2 : tie.Need-returns-2
 returns-2 c =
     λ t x e a.
-    let i = c .before .before .before .items-at .ensures .1 t x e a in
+    let i = c .before .before .before .items-at .ensures .1 .1 t x e a in
     let l : c .before .before .before .before .before .args .number < count (itemsOf x) = omega (arith, i .counts, c .before .if1 .left) in
     c .past .ensures t (itemsOf x) (i .end) (i .all) l
 

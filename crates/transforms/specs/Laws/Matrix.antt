@@ -20,8 +20,9 @@ use Rattle.heads.specs.declared.Head.{Head}
 use Rattle.heads.specs.Laws.Table.{moreOf-bound}
 use Rattle.messagepack.specs.Document.{Document, Documents, integer, float, string, binary, array, map, none, item, count, Writes}
 use Rattle.values.specs.Parts.{bitsOf, itemsOf, entriesOf}
-use Rattle.values.specs.Places.{At, AtAll}
-use Rattle.values.specs.Laws.Places.{heads, isFloat, read-heads, open-float, open-item}
+use Rattle.values.specs.Places.{At, AtAll, PlaceSays, there as stands}
+use Rattle.values.specs.Heads.{isFloat}
+use Rattle.values.specs.Laws.Places.{heads, read-heads, open-float, open-item, Stands}
 use Rattle.messagepack.specs.Rules.{Container}
 use Rattle.messagepack.specs.Walk.{containerNumber}
 use Rattle.messagepack.specs.Laws.Unique.{documentOf-is}
@@ -30,7 +31,6 @@ use Rattle.utf8.specs.Ascii.{ascii}
 use Rattle.fields.specs.Table.{transformRows, assemblyRows, named}
 use Rattle.fields.specs.Tests.{isThere, typed}
 use Rattle.fields.specs.Fields.{typeIn, fieldTypeOf}
-use Rattle.fields.specs.Noted.{PlaceSays, gone, there as stands}
 use Rattle.fields.specs.Laws.Types.{clash, typed-exactly}
 use Rattle.transforms.specs.Matrix.{nth, assembliesType, assembliesOf, transformIn, assembliesNumber, matrixNumber, floatOf, floatsOf, matrixIn, handed, matrixFloats}
 use Rattle.transforms.specs.Steps.{FoundSays, absent, there, refusedBy, answer}
@@ -199,12 +199,6 @@ four (a ∷ fs) (suc i) l = rw (suc-add i 1, suc-add i 2, suc-add i 3) (four fs 
 
 -- a value that was found stands at its place; one that is absent is not there
 
-pub record Stands (s : List ℕ) (p : ℕ) (o : Option Document) : Type 0 where
-  pub x : Document
-  pub end : ℕ
-  pub is : o ≡ some x
-  pub at : At s p x end
-
 pub found-there : {s : List ℕ} {p : ℕ} {r : Found} {o : Option Document} → FoundSays s r o → r ≡ Found.At p → Stands s p o
 found-there {s} {p} {r} {o} f q = go (subst (λ (y : Found). FoundSays s y o) q f)
   where
@@ -216,14 +210,6 @@ found-absent {s} {r} {o} f q = go (subst (λ (y : Found). FoundSays s y o) q f)
   where
     go : {u : Option Document} → FoundSays s Found.Absent u → u ≡ nothing
     go absent = refl
-
-pub place-none : {s : List ℕ} {p : ℕ} {o : Option Document} → PlaceSays s p o → p ≡ 0 → o ≡ nothing
-place-none gone q = refl
-place-none (stands l a) q = absurd (omega arith)
-
-pub place-some : {s : List ℕ} {p : ℕ} {o : Option Document} → PlaceSays s p o → (p ≡ 0 → ⊥) → Stands s p o
-place-some gone n = absurd (n refl)
-place-some (stands {e = e} {x = x} l a) n = record { x = x; end = e; is = refl; at = a }
 
 pub place-there : {s : List ℕ} {p : ℕ} {o : Option Document} {x : Document} → PlaceSays s p o → o ≡ some x → record { end : ℕ; at : At s p x end }
 place-there {s} {p} {o} {x} f q = go (subst (PlaceSays s p) q f)

@@ -3,6 +3,8 @@ use mathlib.Core.Path.{refl, sym, subst, _∙_}
 use native.Mathlib.Omega.{arith}
 use Rattle.heads.specs.Laws.Head.{head-inside}
 use Rattle.values.specs.Parts.{itemsOf}
+use Rattle.values.specs.Heads.{noPart, headItems}
+use Rattle.values.specs.Laws.Heads.{by-cut, by-head, items-part, items-inside}
 use Rattle.values.specs.Places.{ItemsAt}
 use Rattle.values.specs.Laws.Places.{at-head, no-items, read-items, all-inside}
 use borrow.Author.Needs.{needs}
@@ -10,42 +12,45 @@ use Rattle.values.proofs.items_at.Statement.{statement}
 use Rattle.values.proofs.items_at.Tie as tie
 
 returns : tie.Need-returns
-returns c = (omega arith, λ t x e a. absurd (at-head a (sym (c .before .before .head-at .ensures .1 t) ∙ c .enum-told .given .1)))
+returns c = (omega arith, (by-cut _ _ _ noPart (headItems _) (c .before .before .head-at .ensures .0) (c .enum-told .given .1), λ t x e a. absurd (at-head a (sym (c .before .before .head-at .ensures .1 t) ∙ c .enum-told .given .1))))
 
 returns-2 : tie.Need-returns-2
 returns-2 c =
     let v = c .values-from in (
-      v .ensures .0,
-      λ t x e a.
-          let h = sym (c .before .before .before .before .before .before .before .head-at .ensures .1 t) ∙ c .before .before .before .before .before .n .given .1 in
-          let i = read-items x a h (sym (c .before .before .before .kind-at .ensures .1 t) ∙ c .before .enum-told2 .given .1) in
-          let l = all-inside (itemsOf x) (head-inside _ _ h .1) (i .all) in
-          subst (ItemsAt _ x) (sym (v .ensures .1 (omega (arith, i .counts)))) i,
+      rw (v .ensures) (items-inside _ _ _),
+      (
+        v .ensures ∙ by-head _ _ _ noPart (headItems _) (c .before .before .before .before .before .before .before .head-at .ensures .0) (c .before .before .before .before .before .n .given .1) (c .before .before .before .kind-at .ensures .0) (c .before .enum-told2 .given .1),
+        λ t x e a.
+            let h = sym (c .before .before .before .before .before .before .before .head-at .ensures .1 t) ∙ c .before .before .before .before .before .n .given .1 in
+            let i = read-items x a h (sym (c .before .before .before .kind-at .ensures .1 t) ∙ c .before .enum-told2 .given .1) in
+            let l = all-inside (itemsOf x) (head-inside _ _ h .1) (i .all) in
+            subst (ItemsAt _ x) (sym (v .ensures ∙ items-part _ _ _ (omega (arith, i .counts)))) i,
+      ),
     )
 
 returns-3 : tie.Need-returns-3
-returns-3 c = (omega arith, λ t x e a. no-items x a (sym (c .before .before .kind-at .ensures .1 t) ∙ c .enum-told3 .given .1) refl)
+returns-3 c = (omega arith, (by-head _ _ _ noPart (headItems _) (c .before .before .before .before .before .before .head-at .ensures .0) (c .before .before .before .before .n .given .1) (c .before .before .kind-at .ensures .0) (c .enum-told3 .given .1), λ t x e a. no-items x a (sym (c .before .before .kind-at .ensures .1 t) ∙ c .enum-told3 .given .1) refl))
 
 returns-4 : tie.Need-returns-4
-returns-4 c = (omega arith, λ t x e a. no-items x a (sym (c .before .before .kind-at .ensures .1 t) ∙ c .enum-told4 .given .1) refl)
+returns-4 c = (omega arith, (by-head _ _ _ noPart (headItems _) (c .before .before .before .before .before .before .head-at .ensures .0) (c .before .before .before .before .n .given .1) (c .before .before .kind-at .ensures .0) (c .enum-told4 .given .1), λ t x e a. no-items x a (sym (c .before .before .kind-at .ensures .1 t) ∙ c .enum-told4 .given .1) refl))
 
 returns-5 : tie.Need-returns-5
-returns-5 c = (omega arith, λ t x e a. no-items x a (sym (c .before .before .kind-at .ensures .1 t) ∙ c .enum-told5 .given .1) refl)
+returns-5 c = (omega arith, (by-head _ _ _ noPart (headItems _) (c .before .before .before .before .before .before .head-at .ensures .0) (c .before .before .before .before .n .given .1) (c .before .before .kind-at .ensures .0) (c .enum-told5 .given .1), λ t x e a. no-items x a (sym (c .before .before .kind-at .ensures .1 t) ∙ c .enum-told5 .given .1) refl))
 
 returns-6 : tie.Need-returns-6
-returns-6 c = (omega arith, λ t x e a. no-items x a (sym (c .before .before .kind-at .ensures .1 t) ∙ c .enum-told6 .given .1) refl)
+returns-6 c = (omega arith, (by-head _ _ _ noPart (headItems _) (c .before .before .before .before .before .before .head-at .ensures .0) (c .before .before .before .before .n .given .1) (c .before .before .kind-at .ensures .0) (c .enum-told6 .given .1), λ t x e a. no-items x a (sym (c .before .before .kind-at .ensures .1 t) ∙ c .enum-told6 .given .1) refl))
 
 returns-7 : tie.Need-returns-7
-returns-7 c = (omega arith, λ t x e a. no-items x a (sym (c .before .before .kind-at .ensures .1 t) ∙ c .enum-told7 .given .1) refl)
+returns-7 c = (omega arith, (by-head _ _ _ noPart (headItems _) (c .before .before .before .before .before .before .head-at .ensures .0) (c .before .before .before .before .n .given .1) (c .before .before .kind-at .ensures .0) (c .enum-told7 .given .1), λ t x e a. no-items x a (sym (c .before .before .kind-at .ensures .1 t) ∙ c .enum-told7 .given .1) refl))
 
 returns-8 : tie.Need-returns-8
-returns-8 c = (omega arith, λ t x e a. no-items x a (sym (c .before .before .kind-at .ensures .1 t) ∙ c .enum-told8 .given .1) refl)
+returns-8 c = (omega arith, (by-head _ _ _ noPart (headItems _) (c .before .before .before .before .before .before .head-at .ensures .0) (c .before .before .before .before .n .given .1) (c .before .before .kind-at .ensures .0) (c .enum-told8 .given .1), λ t x e a. no-items x a (sym (c .before .before .kind-at .ensures .1 t) ∙ c .enum-told8 .given .1) refl))
 
 returns-9 : tie.Need-returns-9
-returns-9 c = (omega arith, λ t x e a. no-items x a (sym (c .before .before .kind-at .ensures .1 t) ∙ c .enum-told9 .given .1) refl)
+returns-9 c = (omega arith, (by-head _ _ _ noPart (headItems _) (c .before .before .before .before .before .before .head-at .ensures .0) (c .before .before .before .before .n .given .1) (c .before .before .kind-at .ensures .0) (c .enum-told9 .given .1), λ t x e a. no-items x a (sym (c .before .before .kind-at .ensures .1 t) ∙ c .enum-told9 .given .1) refl))
 
 returns-10 : tie.Need-returns-10
-returns-10 c = (omega arith, λ t x e a. no-items x a (sym (c .before .before .kind-at .ensures .1 t) ∙ c .enum-told10 .given .1) refl)
+returns-10 c = (omega arith, (by-head _ _ _ noPart (headItems _) (c .before .before .before .before .before .before .head-at .ensures .0) (c .before .before .before .before .n .given .1) (c .before .before .kind-at .ensures .0) (c .enum-told10 .given .1), λ t x e a. no-items x a (sym (c .before .before .kind-at .ensures .1 t) ∙ c .enum-told10 .given .1) refl))
 
 pub items-at-spec : {M : Type 1} → statement M
 items-at-spec =

@@ -4,6 +4,7 @@ use mathlib.Core.Path.{_≡_, refl, sym, ap, subst, _∙_}
 use mathlib.Core.Bool.{Bool, true, false, cond}
 use mathlib.Core.List.{List, [], _++_, append-nil}
 use mathlib.Core.Logic.{_⊎_, inl, inr}
+use mathlib.Core.Option.{Option, some, none as nothing}
 use Prim.Native.Nat.{ℕ, zero, suc, _+_, _-_, _<_, _≤_}
 use native.Mathlib.Omega.{arith}
 use borrow.Author.Tests.{le-leb, le-ltb}
@@ -16,7 +17,6 @@ use Rattle.heads.specs.Lead.{moreOf}
 use Rattle.heads.specs.Head.{HeadOf, kindAt, headAt}
 use Rattle.heads.specs.declared.Kind.{Kind}
 use Rattle.heads.specs.declared.Head.{Head}
-use Rattle.heads.specs.Table.{kindNumber}
 use Rattle.heads.specs.Span.{Span}
 use Rattle.heads.specs.Laws.Span.{span-none, holds, fits}
 use Rattle.heads.specs.Laws.Head.{Told, head-told, kind-in, head-held}
@@ -25,7 +25,8 @@ use Rattle.numbers.specs.Laws.BigEndian.{length-bytesOf}
 use Rattle.messagepack.specs.Document.{Document, Documents, Entries, integer, float, string, binary, array, map, none, item, empty, entry, count, size, signedValue, UnsignedOf, SignedOf, TextOf, Writes, WritesAll, WritesEntries}
 use Rattle.messagepack.specs.Rules.{Keeps, KeepsAll, KeepsEntries, Distinct, NoKey, InRange, Container}
 use Rattle.values.specs.Parts.{integerOf}
-use Rattle.values.specs.Places.{At, AtAll, AtEntries, TextAt, ItemsAt, EntriesAt, lastOf, halfOf, unsignedBy, signedBy}
+use Rattle.values.specs.Places.{At, AtAll, AtEntries, PlaceSays, gone, there, TextAt, ItemsAt, EntriesAt, lastOf, halfOf, unsignedBy, signedBy}
+use Rattle.values.specs.Heads.{isInteger, isSigned, isFloat, isString, isBinary, isArray, isMap, noPart}
 use Rattle.values.specs.declared.Part.{Part}
 use Rattle.values.specs.Standing.{Standing}
 use Rattle.values.specs.Laws.Standing.{span-split, writes-long, standing-one, stands-head}
@@ -40,6 +41,21 @@ at-inside {s} {p} {e} {x} a =
     let l = writes-long x (a .w) (a .writes) in
     let f : p + length (a .w) ≤ length s = fits s p (a .w) (drop e s) l (a .span .is) in
     (omega (arith, a .span .ends), omega (arith, a .span .ends))
+
+-- a place that is 0 has no document, another has one
+pub place-none : {s : List ℕ} {p : ℕ} {o : Option Document} → PlaceSays s p o → p ≡ 0 → o ≡ nothing
+place-none gone e = refl
+place-none (there l a) e = absurd (omega arith)
+
+pub record Stands (s : List ℕ) (p : ℕ) (o : Option Document) : Type 0 where
+  pub x : Document
+  pub end : ℕ
+  pub is : o ≡ some x
+  pub at : At s p x end
+
+pub place-some : {s : List ℕ} {p : ℕ} {o : Option Document} → PlaceSays s p o → (p ≡ 0 → ⊥) → Stands s p o
+place-some gone n = absurd (n refl)
+place-some (there {e = e} {x = x} l a) n = record { x = x; end = e; is = refl; at = a }
 
 -- a head at a place, and what follows it up to the end
 head-split : {s : List ℕ} {p e : ℕ} {k : Kind} {n : ℕ} (w h v : List ℕ) → HeadOf k n h → w ≡ h ++ v → Span s p e w → Told s p k n (p + length h) × Span s (p + length h) e v
@@ -181,29 +197,6 @@ outer-at {s} c = record {
   keeps = c .keeps;
 }
 
--- kinds told apart
-
-abbrev pub isInteger : Kind → Bool
-isInteger k = cond (eqb (kindNumber k) 1) true (eqb (kindNumber k) 2)
-
-abbrev pub isFloat : Kind → Bool
-isFloat k = eqb (kindNumber k) 3
-
-abbrev pub isString : Kind → Bool
-isString k = eqb (kindNumber k) 4
-
-abbrev pub isBinary : Kind → Bool
-isBinary k = eqb (kindNumber k) 5
-
-abbrev pub isArray : Kind → Bool
-isArray k = eqb (kindNumber k) 6
-
-abbrev pub isMap : Kind → Bool
-isMap k = eqb (kindNumber k) 7
-
-abbrev pub isSigned : Kind → Bool
-isSigned k = eqb (kindNumber k) 2
-
 -- whether a kind is that of a document's heads
 abbrev pub heads : Document → Kind → Bool
 heads (integer v) k = isInteger k
@@ -249,10 +242,10 @@ module _ {s : List ℕ} {p e : ℕ} (x : Document) (a : At s p x e) {k : Kind} (
       go (array ds) h = refl
       go (map es) h = refl
 
-  pub no-text : isString k ≡ false → isBinary k ≡ false → TextAt s x e (record { at = 0; count = 0 })
+  pub no-text : isString k ≡ false → isBinary k ≡ false → TextAt s x e noPart
   no-text f g = go x read-heads
     where
-      go : (y : Document) → heads y k ≡ true → TextAt s y e (record { at = 0; count = 0 })
+      go : (y : Document) → heads y k ≡ true → TextAt s y e noPart
       go (string t) h = clash (sym f ∙ h)
       go (binary t) h = clash (sym g ∙ h)
       go (integer v) h = record { is = refl; ends = tt }
@@ -260,14 +253,14 @@ module _ {s : List ℕ} {p e : ℕ} (x : Document) (a : At s p x e) {k : Kind} (
       go (array ds) h = record { is = refl; ends = tt }
       go (map es) h = record { is = refl; ends = tt }
 
-  pub no-items : isArray k ≡ false → ItemsAt s x (record { at = 0; count = 0 })
+  pub no-items : isArray k ≡ false → ItemsAt s x noPart
   unfolding count WritesAll KeepsAll
   no-items f = go x read-heads
     where
       nothing : AtAll s 0 none 0
       nothing = record { w = []; writes = refl; span = span-none s 0; keeps = tt }
 
-      go : (y : Document) → heads y k ≡ true → ItemsAt s y (record { at = 0; count = 0 })
+      go : (y : Document) → heads y k ≡ true → ItemsAt s y noPart
       go (array ds) h = clash (sym f ∙ h)
       go (string t) h = record { counts = refl; end = 0; all = nothing }
       go (binary t) h = record { counts = refl; end = 0; all = nothing }
@@ -275,14 +268,14 @@ module _ {s : List ℕ} {p e : ℕ} (x : Document) (a : At s p x e) {k : Kind} (
       go (float bits) h = record { counts = refl; end = 0; all = nothing }
       go (map es) h = record { counts = refl; end = 0; all = nothing }
 
-  pub no-entries : isMap k ≡ false → EntriesAt s x (record { at = 0; count = 0 })
+  pub no-entries : isMap k ≡ false → EntriesAt s x noPart
   unfolding size WritesEntries KeepsEntries Distinct
   no-entries f = go x read-heads
     where
       nothing : AtEntries s 0 empty 0
       nothing = record { w = []; writes = refl; span = span-none s 0; keeps = tt; distinct = tt }
 
-      go : (y : Document) → heads y k ≡ true → EntriesAt s y (record { at = 0; count = 0 })
+      go : (y : Document) → heads y k ≡ true → EntriesAt s y noPart
       go (map es) h = clash (sym f ∙ h)
       go (string t) h = record { counts = refl; end = 0; all = nothing }
       go (binary t) h = record { counts = refl; end = 0; all = nothing }

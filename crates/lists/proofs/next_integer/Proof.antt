@@ -2,21 +2,21 @@
 use mathlib.Core.Path.{_∙_}
 use mir.Syntax.{w32}
 use mir.Facts.{toZ-ofZ}
 use Rattle.values.specs.Laws.Places.{read-low, at-standing}
 use borrow.Author.Needs.{needs}
-use Rattle.values.proofs.next_integer.Statement.{statement}
-use Rattle.values.proofs.next_integer.Tie as tie
+use Rattle.lists.proofs.next_integer.Statement.{statement}
+use Rattle.lists.proofs.next_integer.Tie as tie
 
 returns : tie.Need-returns
 returns c =
     λ t x e a.
     let l = read-low x a (c .before .before .before .if1 .taken) (c .before .if2 .taken) in
-    (toZ-ofZ {w = w32} (record { sfits = c .low .ok }) ∙ c .low .ensures ∙ l .0, l .1)
+    (toZ-ofZ {w = w32} (record { sfits = c .as-integer .ok }) ∙ c .as-integer .ensures ∙ l .0, l .1)
 
 returns-2 : tie.Need-returns-2
 returns-2 c =
     λ t x e a.
-    (toZ-ofZ {w = w32} (record { sfits = c .before .integer-at .ok }) ∙ c .before .integer-at .ensures t x e a, c .skip .ensures t e (at-standing a))
+    (toZ-ofZ {w = w32} (record { sfits = c .before .integer-at .ok }) ∙ c .before .integer-at .ensures .1 t x e a, c .skip .ensures t e (at-standing a))
 
 pub next-integer-spec : {M : Type 1} → statement M
 next-integer-spec =
