@@ -1,4 +1,4 @@
--- Delta (paper 01: sums): each result is the one before plus the delta, modulo 2 ^ 32 into the signed range. No lemma stands here:
+-- Delta (paper 01: sums): a result is the result before it, 0 before the first, plus a delta; sums wrap at 32 bits. No lemma stands here:
 -- the laws are in Laws/Delta.antt. Assumes nothing.
 use mathlib.Core.Bool.{Bool, true, false}
 use mathlib.Core.List.{List, [], _∷_}
@@ -24,11 +24,12 @@ unfoldable pub deltasFrom : ℤ → List ℤ → List ℤ
 deltasFrom a [] = []
 deltasFrom a (x ∷ xs) = minusDelta x a ∷ deltasFrom x xs
 
--- the same where a codec has the step, and nothing where it has not
+-- the sums where a codec has delta; where it has none, the values themselves
 abbrev pub sumsIf : Bool → List ℤ → List ℤ
 sumsIf true ds = sumsFrom (pos 0) ds
 sumsIf false ds = ds
 
+-- the deltas where a codec has delta; where it has none, the cells themselves
 abbrev pub deltasIf : Bool → List ℤ → List ℤ
 deltasIf true xs = deltasFrom (pos 0) xs
 deltasIf false xs = xs

@@ -2,6 +2,9 @@
 pub mod Numbers
 pub mod Packing
 pub mod Payload
+pub mod Lists
+pub mod Allowed
+pub mod Names
 pub mod Fits
 pub mod NumbersBack
 pub mod RunLength

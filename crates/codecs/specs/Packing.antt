@@ -20,7 +20,7 @@ isLimit p q (negsuc n) = eqb (suc n) q
 abbrev pub in32 : ℤ → Bool
 in32 z = ltb (mag z) (2 ^ 31)
 
--- The results of packed numbers: a result is the sum of the numbers up to and including the first that is no limit. `sum` is the sum
+-- The results of packed numbers: limits are added, and the first number that is no limit is added and ends the result. `sum` is the sum
 -- so far, and `begun` says that a result has begun. An unfinished last result is none, and so is a sum outside 32 bits.
 unfoldable pub unpackFrom : ℕ → ℕ → ℤ → Bool → List ℤ → Option (List ℤ)
 unpackFrom p q sum begun [] = cond begun none (some [])

@@ -69,7 +69,7 @@ rangeOf (Packed z) = Int32
 rangeOf (Runs r) = r
 rangeOf Names = Ascii
 
--- Names of m bytes each, one after the other: after a 0 byte a name has only 0 bytes. i is the place of the next byte, a the byte before.
+-- Names of m bytes each, one after the other: in a name no byte but 0 follows a 0. i is the place of the next byte, a the byte before.
 unfoldable pub paddedFrom : ℕ → ℕ → ℤ → List ℤ → Bool
 paddedFrom m i a [] = true
 paddedFrom m i a (b ∷ bs) = (eqb (i % m) 0 || not (eqb (ofZ w32 a) 0) || eqb (ofZ w32 b) 0) && paddedFrom m (suc i) b bs

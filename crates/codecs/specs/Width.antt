@@ -10,7 +10,7 @@ widthOf One = w8
 widthOf Two = w16
 widthOf Four = w32
 
--- its bytes
+-- how many bytes a number of a size has
 abbrev pub sizeOf : Size → ℕ
 sizeOf One = 1
 sizeOf Two = 2

@@ -1,5 +1,4 @@
--- The writer's form of a payload's numbers (paper 01: longest runs; packing takes the limit of the value's own sign while the rest
--- reaches it), by rules of its own that name no encoder. No lemma stands here. Assumes nothing.
+-- The writer's form of a payload's numbers (paper 01), by rules of its own that name no encoder. No lemma stands here. Assumes nothing.
 use mathlib.Core.Path.{_≡_}
 use mathlib.Core.List.{List, [], _∷_}
 use Prim.Native.Nat.{ℕ}

@@ -1,14 +1,19 @@
 // The steps that the codecs are made of: signed big-endian numbers of 1, 2 and 4 bytes, run-length, delta and recursive index
-// (packing), each defined once on lists in specs/. The calls here are the steps on single numbers, and every call is total.
+// (packing), each defined once on lists in specs/. The calls here are the steps on single numbers and the check of names, and every call
+// is total.
 ghost use mathlib.Core.Path.{_≡_};
+ghost use mathlib.Core.Bool.{not, _||_};
+ghost use mathlib.Core.List.{map};
 ghost use Prim.Native.Nat.{_+_};
+ghost use lib.IntN.{pos};
+ghost use lib.Dec.{eqb};
 ghost use mir.Syntax.{w8};
 ghost use mir.Val.{toZ};
 ghost use Rattle.numbers.specs.BigEndian.{signedAt};
 ghost use Rattle.codecs.specs.Width.{widthOf, sizeOf, upper, lower};
 ghost use Rattle.codecs.specs.Delta.{plusDelta, minusDelta};
 ghost use Rattle.codecs.specs.Packing.{isLimit};
-ghost use Rattle.codecs.specs.Payload.{leastIn, mostIn, inRange};
+ghost use Rattle.codecs.specs.Payload.{leastIn, mostIn, inRange, allowed};
 ghost use Rattle.codecs.specs.Steps.{turnOf};
 
 // The size of a number, in bytes.
@@ -128,6 +133,34 @@ pub fn is_limit(number: i32, size: Size) -> bool
             number == -2147483648
         }
     }
+}
+
+// Whether names of `size` bytes each are ASCII and padded. `place` is the next byte's place in its name, `before` the byte before it.
+pub fn are_names(names: &[u8], size: usize) -> bool
+    ensures { λ r. ⌜ r ≡ allowed Form.Names size (map pos (now (names .entry))) ⌝ }
+{
+    let mut ok = true;
+    let mut before: u8 = 0;
+    let mut place: usize = 0;
+    let mut i: usize = 0;
+    while i < names.len() {
+        let b = names[i];
+        ok = ok & (b <= 127) & may_follow(place, before, b);
+        before = b;
+        i += 1;
+        place += 1;
+        if place == size {
+            place = 0;
+        }
+    }
+    ok
+}
+
+// Whether a byte may stand at a place in its name: the first, after a byte that is not 0, or as padding.
+fn may_follow(place: usize, before: u8, b: u8) -> bool
+    ensures { λ r. ⌜ r ≡ (eqb place 0 || not (eqb before 0) || eqb b 0) ⌝ }
+{
+    (place == 0) | (before != 0) | (b == 0)
 }
 
 fn least(range: Range) -> i32

@@ -13,11 +13,9 @@ use Rattle.codecs.specs.Numbers.{bytesFor}
 use Rattle.codecs.specs.Delta.{deltasIf}
 use Rattle.codecs.specs.Payload.{numberSize, numbersFor, allowed}
 use Rattle.columns.specs.declared.Wanted.{Wanted}
-use Rattle.columns.specs.declared.Parameter.{Parameter}
-use Rattle.columns.specs.declared.Parameter.the-variants.{Unused, Divisor, NameSize}
 use Rattle.columns.specs.declared.Codec.{Codec}
 use Rattle.columns.specs.declared.Codec.the-variants.{Known, Unknown}
-use Rattle.columns.specs.Table.{codecOf, suits, lengthLimit, parameterOk}
+use Rattle.columns.specs.Table.{codecOf, suits, lengthLimit, parameterOk, used}
 use Rattle.columns.specs.Header.{headerBytes}
 
 -- what a column encodes to: a refusal, or its bytes
@@ -39,12 +37,6 @@ wholeResults (Packed z) m e = true
 wholeResults (Runs r) m e = true
 wholeResults Names m e = eqb (e % m) 0
 
--- the parameter as it is written: 0 where it is unused
-abbrev pub written : Parameter → ℕ → ℕ
-written Unused m = 0
-written Divisor m = m
-written NameSize m = m
-
 -- the payload of cells
 unfoldable pub payloadOf : Form → Bool → List ℤ → List ℕ
 payloadOf f d xs = bytesFor (numberSize f) (numbersFor f (deltasIf d xs))
@@ -55,7 +47,7 @@ encodedBy w c Unknown m xs = refused codecUnknown
 encodedBy w c (Known k f d p) m xs =
     cond (suits w k)
     (cond (parameterOk p m && (wholeResults f m (length xs) && leb (results f m (length xs)) lengthLimit))
-    (cond (allowed f m xs) (bytes (headerBytes c (results f m (length xs)) (written p m) ++ payloadOf f d xs)) (refused numberNotAllowed))
+    (cond (allowed f m xs) (bytes (headerBytes c (results f m (length xs)) (used p m) ++ payloadOf f d xs)) (refused numberNotAllowed))
     (refused headerRange))
     (refused codecUnknown)
 

@@ -12,7 +12,7 @@ use Rattle.columns.specs.declared.Codec.{Codec}
 use Rattle.columns.specs.declared.Codec.the-variants.{Known, Unknown}
 use Rattle.columns.specs.declared.Header.{Header}
 use Rattle.columns.specs.declared.Header.the-variants.{Good, Refused}
-use Rattle.columns.specs.Table.{codecOf, suits, lengthLimit, parameterOk, sizeRight}
+use Rattle.columns.specs.Table.{codecOf, suits, lengthLimit, parameterOk, used, sizeRight}
 
 -- The rules of a header with length n, parameter m and b bytes of payload. The three fields are read as the 32 bits they are: a
 -- negative number is then above every limit.
@@ -20,7 +20,7 @@ abbrev pub judged : Wanted → Codec → ℕ → ℕ → ℕ → Header
 judged w Unknown n m b = Refused codecUnknown
 judged w (Known k f d p) n m b =
     cond (suits w k)
-    (cond (leb n lengthLimit && parameterOk p m) (cond (sizeRight f n m b) (Good n m k f d) (Refused payloadSize)) (Refused headerRange))
+    (cond (leb n lengthLimit && parameterOk p m) (cond (sizeRight f n m b) (Good n (used p m) k f d) (Refused payloadSize)) (Refused headerRange))
     (Refused codecUnknown)
 
 unfoldable pub headerOf : Wanted → List ℕ → Header

@@ -6,3 +6,4 @@ pub mod Encode
 pub mod Decode
 pub mod Form
 pub mod RoundTrip
+pub mod CanHold

@@ -1,7 +1,8 @@
--- The sixteen codecs. To read: `Table`, `Header`, `Decode`, `Encode`, `WriterForm`.
+-- The sixteen codecs. To read: `Table`, `Header`, `Decode`, `Encode`, `CanHold`, `WriterForm`.
 pub mod Table
 pub mod Header
 pub mod Decode
 pub mod Encode
+pub mod CanHold
 pub mod WriterForm
 pub mod Laws

@@ -55,10 +55,20 @@ kindNumber kind.Int32 = 4
 kindNumber kind.Strings = 5
 kindNumber kind.Chars = 6
 
--- Whether a kind is the one asked for. Paper 01's real columns are float32 and fixed point: both may be asked for as floats.
+-- paper 01's real columns: float32 and fixed point
+abbrev pub isReal : Kind → Bool
+isReal kind.Float32 = true
+isReal kind.FixedPoint = true
+isReal kind.Int8 = false
+isReal kind.Int16 = false
+isReal kind.Int32 = false
+isReal kind.Strings = false
+isReal kind.Chars = false
+
+-- whether a kind is the one asked for
 abbrev pub suits : Wanted → Kind → Bool
 suits (Only k) j = eqb (kindNumber k) (kindNumber j)
-suits Real j = leb (kindNumber j) 1
+suits Real j = isReal j
 suits Any j = true
 
 -- the most results of a column
@@ -70,6 +80,12 @@ abbrev pub parameterOk : Parameter → ℕ → Bool
 parameterOk Unused m = true
 parameterOk Divisor m = leb 1 m && leb m 2147483647
 parameterOk NameSize m = leb 1 m && leb m 255
+
+-- the parameter as a codec uses it: 0 where the codec uses none, whatever stands there
+abbrev pub used : Parameter → ℕ → ℕ
+used Unused m = 0
+used Divisor m = m
+used NameSize m = m
 
 -- the elements of a column of n results with the parameter m: a name has m
 abbrev pub elements : Form → ℕ → ℕ → ℕ

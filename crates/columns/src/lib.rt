@@ -2,7 +2,7 @@
 // and what its cells encode to, once for all codecs.
 ghost use mathlib.Core.Path.{_≡_};
 ghost use Prim.Native.Nat.{_≤_};
-ghost use Rattle.columns.specs.Table.{codecOf, kindNumber, suits, parameterOk, sizeRight};
+ghost use Rattle.columns.specs.Table.{codecOf, kindNumber, isReal, suits, parameterOk, used, sizeRight};
 ghost use Rattle.columns.specs.Header.{judged, headerOf};
 use codecs::Form;
 use codecs::Range;
@@ -101,10 +101,9 @@ pub fn codec_of(number: u32) -> Codec
 pub fn is_wanted(wanted: Wanted, kind: Kind) -> bool
     ensures { λ r. ⌜ r ≡ suits wanted kind ⌝ }
 {
-    let number = kind_number(kind);
     match wanted {
-        Wanted::Only(k) => kind_number(k) == number,
-        Wanted::Real => number <= 1,
+        Wanted::Only(k) => kind_number(k) == kind_number(kind),
+        Wanted::Real => is_real(kind),
         Wanted::Any => true,
     }
 }
@@ -130,6 +129,17 @@ pub fn parameter_ok(parameter: Parameter, value: u32) -> bool
     }
 }
 
+// The parameter as a codec uses it: 0 where the codec uses none.
+pub fn used_parameter(parameter: Parameter, value: u32) -> u32
+    ensures { λ r. ⌜ r ≡ used parameter value ⌝ }
+{
+    match parameter {
+        Parameter::Unused => 0,
+        Parameter::Divisor => value,
+        Parameter::NameSize => value,
+    }
+}
+
 // The rules 15 to 17 of a header.
 fn judge(codec: Codec, length: u32, parameter: u32, bytes: usize, wanted: Wanted) -> Header
     ensures { λ r. ⌜ r ≡ judged wanted codec length parameter bytes ⌝ }
@@ -149,7 +159,13 @@ fn judge(codec: Codec, length: u32, parameter: u32, bytes: usize, wanted: Wanted
             if !size_ok(form, length as usize, parameter as usize, bytes) {
                 return Header::Refused(refusal::PAYLOAD_SIZE);
             }
-            Header::Good(length as usize, parameter, kind, form, delta)
+            Header::Good(
+                length as usize,
+                used_parameter(p, parameter),
+                kind,
+                form,
+                delta,
+            )
         }
     }
 }
@@ -167,7 +183,22 @@ fn size_ok(form: Form, length: usize, parameter: usize, bytes: usize) -> bool
     }
 }
 
-// Kinds by number.
+// Whether a column of a kind may be asked for as floats.
+fn is_real(kind: Kind) -> bool
+    ensures { λ r. ⌜ r ≡ isReal kind ⌝ }
+{
+    match kind {
+        Kind::Float32 => true,
+        Kind::FixedPoint => true,
+        Kind::Int8 => false,
+        Kind::Int16 => false,
+        Kind::Int32 => false,
+        Kind::Strings => false,
+        Kind::Chars => false,
+    }
+}
+
+// Kinds by number, to tell them apart.
 fn kind_number(kind: Kind) -> u8
     ensures { λ r. ⌜ r ≡ kindNumber kind ⌝ }
 {

@@ -1,6 +1,4 @@
 -- What is proved of the definitions of `writers`.
-pub mod Lists
 pub mod Placed
 pub mod Numbers
 pub mod Steps
-pub mod Cells

@@ -1,14 +1,12 @@
 // What the writers of payloads share: what they say, whether a form may hold a column's cells (18), room (25), and delta.
 // Every call is total.
 ghost use mathlib.Core.Path.{_≡_};
-ghost use mathlib.Core.Bool.{not, _||_};
 ghost use mathlib.Core.List.{map};
 ghost use Prim.Native.Nat.{_+_};
 ghost use lib.IntN.{pos};
-ghost use lib.Dec.{eqb, leb};
-ghost use Rattle.codecs.specs.Payload.{allIn, allowed};
+ghost use lib.Dec.{leb};
+ghost use Rattle.codecs.specs.Payload.{allIn};
 ghost use Rattle.writers.specs.Steps.{stepOf};
-use codecs::Form;
 use codecs::Range;
 
 // What a writer says: how many bytes it put, that a cell is not allowed, or that there is no room.
@@ -40,7 +38,7 @@ pub fn all_in(values: &[i32], range: Range) -> bool
     }
 }
 
-// The same: the call above gives each range a loop of its own, and that of all numbers is none.
+// Whether all numbers are of a range; `all_in` calls it with each range as a constant, so that each has a loop of its own.
 fn each_in(values: &[i32], range: Range) -> bool
     ensures { λ r. ⌜ r ≡ allIn range (now (values .entry)) ⌝ }
 {
@@ -65,34 +63,6 @@ pub fn all_ascii(values: &[u8]) -> bool
         i += 1;
     }
     ok
-}
-
-// Whether names of `size` bytes each are ASCII and padded. `place` is the next byte's place in its name, `before` the byte before it.
-pub fn are_names(names: &[u8], size: usize) -> bool
-    ensures { λ r. ⌜ r ≡ allowed Form.Names size (map pos (now (names .entry))) ⌝ }
-{
-    let mut ok = true;
-    let mut before: u8 = 0;
-    let mut place: usize = 0;
-    let mut i: usize = 0;
-    while i < names.len() {
-        let b = names[i];
-        ok = ok & (b <= 127) & may_follow(place, before, b);
-        before = b;
-        i += 1;
-        place += 1;
-        if place == size {
-            place = 0;
-        }
-    }
-    ok
-}
-
-// Whether a byte may stand at a place in its name: the first, after a byte that is not 0, or as padding.
-fn may_follow(place: usize, before: u8, b: u8) -> bool
-    ensures { λ r. ⌜ r ≡ (eqb place 0 || not (eqb before 0) || eqb b 0) ⌝ }
-{
-    (place == 0) | (before != 0) | (b == 0)
 }
 
 // What a payload holds for a cell, by the cell before it.

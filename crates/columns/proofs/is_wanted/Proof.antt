@@ -1,7 +1,6 @@
 -- Each arm is the definition's clause.
 use mathlib.Core.Path.{sym, ap, ap₂, _∙_}
-use Prim.Native.Nat.{ℕ}
-use lib.Dec.{eqb, leb}
+use lib.Dec.{eqb}
 use borrow.Author.Needs.{needs}
 use Rattle.columns.specs.declared.Wanted.{Wanted}
 use Rattle.columns.specs.Table.{suits}
@@ -11,22 +10,18 @@ use Rattle.columns.proofs.is_wanted.Tie as tie
 returns : tie.Need-returns
 returns c =
     let a = c .before .before .before .before .before .args in
-    ap₂ eqb (c .kind-number2 .ensures) (c .before .before .before .before .kind-number .ensures) ∙ ap (λ (w : Wanted). suits w (a .kind)) (sym (c .before .before .wanted .given .1))
-
-returns-2 : tie.Need-returns-2
-returns-2 c =
-    let a = c .before .before .before .args in
-    ap (λ (n : ℕ). leb n 1) (c .before .before .kind-number .ensures) ∙ ap (λ (w : Wanted). suits w (a .kind)) (sym (c .enum-told .given .1))
+    ap₂ eqb (c .before .kind-number .ensures) (c .kind-number2 .ensures) ∙ ap (λ (w : Wanted). suits w (a .kind)) (sym (c .before .before .before .wanted .given .1))
 
 pub is-wanted-spec : {M : Type 1} → statement M
 is-wanted-spec =
     tie.close
     (tie.spec
+    (λ c. search needs)
+    (λ c κs. search needs)
     (λ c κs. search needs)
     (λ c. search needs)
     (λ c κs. search needs)
-    (λ c. search needs)
     (λ c. search needs)
     returns
-    returns-2
+    (λ c. search needs)
     (λ c. search needs))

@@ -5,6 +5,7 @@ use Prim.Native.Nat.{ℕ}
 use native.Mathlib.Omega.{arith}
 use borrow.Author.Needs.{needs}
 use Rattle.columns.specs.declared.Codec.{Codec}
+use Rattle.columns.specs.declared.Header.the-variants.{Good}
 use Rattle.columns.specs.Header.{judged}
 use Rattle.columns.specs.Laws.Table.{judged-unwanted, judged-long, judged-parameter, judged-size, judged-good}
 use Rattle.columns.proofs.judge.Statement.{statement}
@@ -54,12 +55,13 @@ returns-4 c =
 
 returns-6 : tie.Need-returns-6
 returns-6 c =
-    let a = c .before .before .before .before .before .before .before .before .before .before .args in
-    let k = c .before .before .before .before .before .before .before .before .codec .given in
-    sym (ap (λ (x : Codec). judged (a .wanted) x (a .length) (a .parameter) (a .bytes)) (k .1)
+    let a = c .before .before .before .before .before .before .before .before .before .before .before .args in
+    let k = c .before .before .before .before .before .before .before .before .before .codec .given in
+    ap (λ (m : ℕ). Good (a .length) m (k .0 .0) (k .0 .1 .0) (k .0 .1 .1 .0)) (c .used-parameter .ensures)
+    ∙ sym (ap (λ (x : Codec). judged (a .wanted) x (a .length) (a .parameter) (a .bytes)) (k .1)
     ∙ judged-good (a .wanted) (k .0 .0) (k .0 .1 .0) (k .0 .1 .1 .0) (k .0 .1 .1 .1 .0) (a .length) (a .parameter) (a .bytes)
-    (sym (c .before .before .before .before .before .before .is-wanted .ensures) ∙ not-false _ (c .before .before .before .before .before .if1 .left)) (c .before .before .before .before .if2 .left)
-    (sym (c .before .before .before .parameter-ok .ensures) ∙ not-false _ (c .before .before .if3 .left)) (sym (c .before .size-ok .ensures) ∙ not-false _ (c .if4 .left)))
+    (sym (c .before .before .before .before .before .before .before .is-wanted .ensures) ∙ not-false _ (c .before .before .before .before .before .before .if1 .left)) (c .before .before .before .before .before .if2 .left)
+    (sym (c .before .before .before .before .parameter-ok .ensures) ∙ not-false _ (c .before .before .before .if3 .left)) (sym (c .before .before .size-ok .ensures) ∙ not-false _ (c .before .if4 .left)))
 
 returns-5 : tie.Need-returns-5
 returns-5 c =
@@ -79,5 +81,6 @@ judge-spec =
     returns-3
     (λ c κs. search needs)
     returns-4
+    (λ c κs. search needs)
     returns-5
     returns-6)

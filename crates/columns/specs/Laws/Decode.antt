@@ -1,5 +1,5 @@
 -- What a decoding that gives a column kept, rule by rule. Assumes nothing.
-use mathlib.Core.Path.{_≡_, refl}
+use mathlib.Core.Path.{_≡_, refl, sym, _∙_}
 use mathlib.Core.Bool.{Bool, true, false, cond, _&&_, and-eq-true-iff}
 use mathlib.Core.Option.{Option, none, some}
 use mathlib.Core.List.{List}
@@ -16,14 +16,17 @@ use Rattle.codecs.specs.Delta.{sumsIf}
 use Rattle.codecs.specs.Payload.{valuesIn, allowed}
 use Rattle.columns.specs.declared.Kind.{Kind}
 use Rattle.columns.specs.declared.Wanted.{Wanted}
+use Rattle.columns.specs.declared.Wanted.the-variants.{Only}
 use Rattle.columns.specs.declared.Parameter.{Parameter}
 use Rattle.columns.specs.declared.Codec.{Codec}
 use Rattle.columns.specs.declared.Codec.the-variants.{Known, Unknown}
 use Rattle.columns.specs.declared.Header.{Header}
 use Rattle.columns.specs.declared.Header.the-variants.{Good, Refused}
-use Rattle.columns.specs.Table.{codecOf, suits, lengthLimit, parameterOk, elements, sizeRight}
+use Rattle.columns.specs.Table.{codecOf, suits, lengthLimit, parameterOk, used, elements, sizeRight}
 use Rattle.columns.specs.Header.{judged, headerOf}
 use Rattle.columns.specs.Decode.{Decoding, refused, column, judgedValues, judgedPayload, decode}
+use Rattle.columns.specs.Laws.Rows.{same-kind, row-sized}
+use Rattle.columns.specs.Laws.Form.{used-right, right-used, used-size}
 
 -- the rules, and what the kind k, the parameter m and the cells xs then are
 pub record Decoded (w : Wanted) (s : List ℕ) (k : Kind) (m : ℕ) (xs : List ℤ) : Type 0 where
@@ -35,7 +38,7 @@ pub record Decoded (w : Wanted) (s : List ℕ) (k : Kind) (m : ℕ) (xs : List �
   pub known : codecOf (unsignedAt 4 s 0) ≡ Known k form delta parameter
   pub suited : suits w k ≡ true
   pub few : unsignedAt 4 s 4 ≤ lengthLimit
-  pub parameter-read : unsignedAt 4 s 8 ≡ m
+  pub parameter-read : used parameter (unsignedAt 4 s 8) ≡ m
   pub parameter-right : parameterOk parameter m ≡ true
   pub size-right : sizeRight form (unsignedAt 4 s 4) m (length s - 12) ≡ true
   pub values-read : valuesIn form (drop 12 s) ≡ some values
@@ -64,25 +67,26 @@ module _ (w : Wanted) (s : List ℕ) (k : Kind) (m : ℕ) (xs : List ℤ) where
           let n = unsignedAt 4 s 4 in
           let u = unsignedAt 4 s 8 in
           let size = sizeRight f n u (length s - 12) in
-          let sized = cond size (Good n u j f d) (Refused payloadSize) in
+          let sized = cond size (Good n (used p u) j f d) (Refused payloadSize) in
           let range = leb n lengthLimit && parameterOk p u in
           let e1 = header-kept (suits w j) (cond range sized (Refused headerRange)) codecUnknown e in
           let e2 = header-kept range sized headerRange (e1 .1) in
-          let e3 = header-kept size (Good n u j f d) payloadSize (e2 .1) in
+          let e3 = header-kept size (Good n (used p u) j f d) payloadSize (e2 .1) in
           by-values (and-eq-true-iff (leb n lengthLimit) (parameterOk p u) .0 (e2 .0)) (e1 .0) (e3 .0) (valuesIn f (drop 12 s)) refl (e3 .1)
         where
           by-values : (leb (unsignedAt 4 s 4) lengthLimit ≡ true) × (parameterOk p (unsignedAt 4 s 8) ≡ true) → suits w j ≡ true
               → sizeRight f (unsignedAt 4 s 4) (unsignedAt 4 s 8) (length s - 12) ≡ true → (o : Option (List ℤ)) → valuesIn f (drop 12 s) ≡ o
-              → judgedValues (unsignedAt 4 s 4) (unsignedAt 4 s 8) j f d o ≡ column k m xs → Decoded w s k m xs
+              → judgedValues (unsignedAt 4 s 4) (used p (unsignedAt 4 s 8)) j f d o ≡ column k m xs → Decoded w s k m xs
           by-values r i z none v e = let y : _≡_ {A = ℕ} 0 1 = cc in absurd (omega arith)
           by-values r i z (some l) v e =
               let n = unsignedAt 4 s 4 in
-              let u = unsignedAt 4 s 8 in
+              let u = used p (unsignedAt 4 s 8) in
               let count = elements f n u in
               let e1 = values-kept (allowed f u l) (cond (eqb (length l) count) (column j u (sumsIf d l)) (refused lengthDiffers)) numberNotAllowed e in
               let e2 = values-kept (eqb (length l) count) (column j u (sumsIf d l)) lengthDiffers (e1 .1) in
               let a : j ≡ k = cc (e2 .1) in
-              let b : unsignedAt 4 s 8 ≡ m = cc (e2 .1) in
+              let b : used p (unsignedAt 4 s 8) ≡ m = cc (e2 .1) in
+              let size : sizeRight f n (used p (unsignedAt 4 s 8)) (length s - 12) ≡ true = used-size f p n (unsignedAt 4 s 8) (length s - 12) (row-sized (unsignedAt 4 s 0) q) ∙ z in
               record {
                 form = f;
                 delta = d;
@@ -93,8 +97,8 @@ module _ (w : Wanted) (s : List ℕ) (k : Kind) (m : ℕ) (xs : List ℤ) where
                 suited = rw a at i;
                 few = leb-true n lengthLimit (r .0);
                 parameter-read = b;
-                parameter-right = rw b at (r .1);
-                size-right = rw b at z;
+                parameter-right = rw b at (used-right p (unsignedAt 4 s 8) (r .1));
+                size-right = rw b at size;
                 values-read = v;
                 held = rw b at (e1 .0);
                 counted = rw b at (eqb-true (length l) count (e2 .0));
@@ -112,5 +116,37 @@ module _ (w : Wanted) (s : List ℕ) (k : Kind) (m : ℕ) (xs : List ℤ) where
   decode-kept r =
       let long = le-ltb (length s) 12 (r .long) in
       let few = le-leb (unsignedAt 4 s 4) lengthLimit (r .few) in
+      let right : parameterOk (r .parameter) (unsignedAt 4 s 8) ≡ true = right-used (r .parameter) (unsignedAt 4 s 8) (rw (r .parameter-read) (r .parameter-right)) in
+      let size : sizeRight (r .form) (unsignedAt 4 s 4) (unsignedAt 4 s 8) (length s - 12) ≡ true =
+      sym (used-size (r .form) (r .parameter) (unsignedAt 4 s 4) (unsignedAt 4 s 8) (length s - 12) (row-sized (unsignedAt 4 s 0) (r .known))) ∙ rw (r .parameter-read) (r .size-right) in
       let counted = eq-eqb (length (r .values)) (elements (r .form) (unsignedAt 4 s 4) m) (r .counted) in
-      rw (long, r .known, r .suited, few, r .parameter-read, r .parameter-right, r .size-right, r .values-read, r .held, counted, r .summed)
+      rw (long, r .known, r .suited, few, right, size, r .parameter-read, r .values-read, r .held, counted, r .summed)
+
+-- What is wanted
+
+-- where one kind is wanted, the column is of it
+pub decode-kind : (k j : Kind) (s : List ℕ) (m : ℕ) (xs : List ℤ) → decode (Only k) s ≡ column j m xs → j ≡ k
+decode-kind k j s m xs e = sym (same-kind k j (decode-rules (Only k) s j m xs e .suited))
+
+-- a column decodes alike wherever its kind is wanted
+pub decode-wanted : (v w : Wanted) (s : List ℕ) (k : Kind) (m : ℕ) (xs : List ℤ) → suits w k ≡ true → decode v s ≡ column k m xs → decode w s ≡ column k m xs
+decode-wanted v w s k m xs h e =
+    let r = decode-rules v s k m xs e in
+    decode-kept w s k m xs
+    record {
+      form = r .form;
+      delta = r .delta;
+      parameter = r .parameter;
+      values = r .values;
+      long = r .long;
+      known = r .known;
+      suited = h;
+      few = r .few;
+      parameter-read = r .parameter-read;
+      parameter-right = r .parameter-right;
+      size-right = r .size-right;
+      values-read = r .values-read;
+      held = r .held;
+      counted = r .counted;
+      summed = r .summed;
+    }

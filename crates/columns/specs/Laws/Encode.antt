@@ -16,9 +16,9 @@ use Rattle.columns.specs.declared.Wanted.{Wanted}
 use Rattle.columns.specs.declared.Parameter.{Parameter}
 use Rattle.columns.specs.declared.Codec.{Codec}
 use Rattle.columns.specs.declared.Codec.the-variants.{Known, Unknown}
-use Rattle.columns.specs.Table.{codecOf, suits, lengthLimit, parameterOk}
+use Rattle.columns.specs.Table.{codecOf, suits, lengthLimit, parameterOk, used}
 use Rattle.columns.specs.Header.{headerBytes}
-use Rattle.columns.specs.Encode.{Encoding, refused, bytes, results, wholeResults, written, payloadOf, encodedBy, encode}
+use Rattle.columns.specs.Encode.{Encoding, refused, bytes, results, wholeResults, payloadOf, encodedBy, encode}
 
 -- the rules, and what the bytes b then are
 pub record Encoded (w : Wanted) (c m : ℕ) (xs : List ℤ) (b : List ℕ) : Type 0 where
@@ -32,7 +32,7 @@ pub record Encoded (w : Wanted) (c m : ℕ) (xs : List ℤ) (b : List ℕ) : Typ
   pub whole : wholeResults form m (length xs) ≡ true
   pub few : results form m (length xs) ≤ lengthLimit
   pub held : allowed form m xs ≡ true
-  pub built : headerBytes c (results form m (length xs)) (written parameter m) ++ payloadOf form delta xs ≡ b
+  pub built : headerBytes c (results form m (length xs)) (used parameter m) ++ payloadOf form delta xs ≡ b
 
 module _ (w : Wanted) (c m : ℕ) (xs : List ℤ) (b : List ℕ) where
   -- a rule that is not kept gives no bytes
@@ -48,7 +48,7 @@ module _ (w : Wanted) (c m : ℕ) (xs : List ℤ) (b : List ℕ) where
       by-codec Unknown q e = let y : _≡_ {A = ℕ} 0 1 = cc in absurd (omega arith)
       by-codec (Known k f d p) q e =
           let n = results f m (length xs) in
-          let whole = bytes (headerBytes c n (written p m) ++ payloadOf f d xs) in
+          let whole = bytes (headerBytes c n (used p m) ++ payloadOf f d xs) in
           let values = cond (allowed f m xs) whole (refused numberNotAllowed) in
           let header = parameterOk p m && (wholeResults f m (length xs) && leb n lengthLimit) in
           let h = kept (suits w k) (cond header values (refused headerRange)) codecUnknown e in

@@ -27,37 +27,54 @@ use Rattle.codecs.specs.Laws.Delta.{sumsFrom-fit, deltasFrom-fit}
 use Rattle.codecs.specs.Laws.PayloadBack.{allIn-32, allIn-Int32, Countable, unitOf}
 use Rattle.columns.specs.declared.Parameter.{Parameter}
 use Rattle.columns.specs.declared.Parameter.the-variants.{Unused, Divisor, NameSize}
-use Rattle.columns.specs.Table.{lengthLimit, parameterOk, elements, sizeRight}
-use Rattle.columns.specs.Encode.{results, wholeResults, written}
+use Rattle.columns.specs.Table.{lengthLimit, parameterOk, elements, sizeRight, used}
+use Rattle.columns.specs.Encode.{results, wholeResults}
 use Rattle.columns.specs.WriterForm.{ParameterForm}
 use Rattle.columns.specs.Laws.Rows.{isWide, deltaWide, namesSized, wide-Int32, sized-NameSize}
 
 -- Parameters
 
-pub written-small : (p : Parameter) (m : ℕ) → parameterOk p m ≡ true → written p m < 4294967296
-written-small Unused m e = omega arith
-written-small Divisor m e = omega (arith, leb-true m 2147483647 (and-eq-true-iff (leb 1 m) (leb m 2147483647) .0 e .1))
-written-small NameSize m e = omega (arith, leb-true m 255 (and-eq-true-iff (leb 1 m) (leb m 255) .0 e .1))
+pub used-small : (p : Parameter) (m : ℕ) → parameterOk p m ≡ true → used p m < 4294967296
+used-small Unused m e = omega arith
+used-small Divisor m e = omega (arith, leb-true m 2147483647 (and-eq-true-iff (leb 1 m) (leb m 2147483647) .0 e .1))
+used-small NameSize m e = omega (arith, leb-true m 255 (and-eq-true-iff (leb 1 m) (leb m 255) .0 e .1))
 
-pub written-right : (p : Parameter) (m : ℕ) → parameterOk p m ≡ true → parameterOk p (written p m) ≡ true
-written-right Unused m e = refl
-written-right Divisor m e = e
-written-right NameSize m e = e
+pub used-right : (p : Parameter) (m : ℕ) → parameterOk p m ≡ true → parameterOk p (used p m) ≡ true
+used-right Unused m e = refl
+used-right Divisor m e = e
+used-right NameSize m e = e
 
-pub written-form : (p : Parameter) (m : ℕ) → ParameterForm p (written p m)
-written-form Unused m = refl
-written-form Divisor m = tt
-written-form NameSize m = tt
+pub used-twice : (p : Parameter) (m : ℕ) → used p (used p m) ≡ used p m
+used-twice Unused m = refl
+used-twice Divisor m = refl
+used-twice NameSize m = refl
 
-pub form-written : (p : Parameter) (m : ℕ) → ParameterForm p m → written p m ≡ m
-form-written Unused m e = sym e
-form-written Divisor m e = refl
-form-written NameSize m e = refl
+pub right-used : (p : Parameter) (m : ℕ) → parameterOk p (used p m) ≡ true → parameterOk p m ≡ true
+right-used Unused m e = refl
+right-used Divisor m e = e
+right-used NameSize m e = e
+
+-- a payload's size depends on no unused parameter
+pub used-size : (f : Form) (p : Parameter) (n m b : ℕ) → namesSized f p ≡ true → sizeRight f n (used p m) b ≡ sizeRight f n m b
+used-size (Plain z) p n m b s = refl
+used-size (Packed z) p n m b s = refl
+used-size (Runs r) p n m b s = refl
+used-size Names p n m b s = rw (sized-NameSize p s)
+
+pub used-form : (p : Parameter) (m : ℕ) → ParameterForm p (used p m)
+used-form Unused m = refl
+used-form Divisor m = tt
+used-form NameSize m = tt
+
+pub form-used : (p : Parameter) (m : ℕ) → ParameterForm p m → used p m ≡ m
+form-used Unused m e = sym e
+form-used Divisor m e = refl
+form-used NameSize m e = refl
 
 -- Lengths
 
 -- whole results have all the elements
-pub elements-results : (f : Form) (p : Parameter) (m e : ℕ) → namesSized f p ≡ true → wholeResults f m e ≡ true → e ≡ elements f (results f m e) (written p m)
+pub elements-results : (f : Form) (p : Parameter) (m e : ℕ) → namesSized f p ≡ true → wholeResults f m e ≡ true → e ≡ elements f (results f m e) (used p m)
 elements-results (Plain z) p m e s h = refl
 elements-results (Packed z) p m e s h = refl
 elements-results (Runs r) p m e s h = refl
@@ -110,7 +127,7 @@ size-unit Names n m b e = omega arith
 pub held-32 : (f : Form) (m : ℕ) (xs : List ℤ) → allowed f m xs ≡ true → AllFit w32 xs
 held-32 f m xs h = allIn-32 (rangeOf f) xs (and-eq-true-iff (allIn (rangeOf f) xs) (padded f m xs) .0 h .0)
 
-pub held-written : (f : Form) (p : Parameter) (m : ℕ) (xs : List ℤ) → namesSized f p ≡ true → allowed f m xs ≡ true → allowed f (written p m) xs ≡ true
+pub held-written : (f : Form) (p : Parameter) (m : ℕ) (xs : List ℤ) → namesSized f p ≡ true → allowed f m xs ≡ true → allowed f (used p m) xs ≡ true
 held-written (Plain z) p m xs s h = h
 held-written (Packed z) p m xs s h = h
 held-written (Runs r) p m xs s h = h

@@ -2,7 +2,7 @@
 use mathlib.Core.Logic.{_↔_}
 use mathlib.Core.Path.{_≡_, sym, ap, _∙_}
 use mathlib.Core.Bool.{Bool, true, and-eq-true-iff}
-use mathlib.Core.List.{List}
+use mathlib.Core.List.{List, _++_}
 use Prim.Native.Nat.{ℕ, _+_, _-_, _%_, _<_}
 use native.Mathlib.Omega.{arith}
 use lib.ListN.{length, drop, length-drop}
@@ -20,12 +20,13 @@ use Rattle.columns.specs.declared.Kind.{Kind}
 use Rattle.columns.specs.declared.Wanted.{Wanted}
 use Rattle.columns.specs.declared.Parameter.{Parameter}
 use Rattle.columns.specs.declared.Codec.the-variants.{Known}
-use Rattle.columns.specs.Table.{codecOf, elements, sizeRight}
+use Rattle.columns.specs.Table.{codecOf, elements, sizeRight, used}
+use Rattle.columns.specs.Header.{headerBytes}
 use Rattle.columns.specs.Decode.{column, decode}
-use Rattle.columns.specs.Encode.{bytes, results, written, payloadOf, encode}
+use Rattle.columns.specs.Encode.{bytes, results, payloadOf, encode}
 use Rattle.columns.specs.WriterForm.{CodecForm, WriterForm}
 use Rattle.columns.specs.Laws.Rows.{row-wide, row-sized, row-small}
-use Rattle.columns.specs.Laws.Form.{written-small, written-right, written-form, form-written, elements-results, whole-elements, results-elements, countable, size-written, size-unit, held-32, held-written, held-deltas, held-sums}
+use Rattle.columns.specs.Laws.Form.{used-small, used-right, used-form, form-used, used-twice, elements-results, whole-elements, results-elements, countable, size-written, size-unit, held-32, held-written, held-deltas, held-sums}
 use Rattle.columns.specs.Laws.Header.{header-codec, header-length, header-parameter, drop-header, length-column, header-read}
 use Rattle.columns.specs.Laws.Encode.{Encoded, encode-rules, encode-kept}
 use Rattle.columns.specs.Laws.Decode.{Decoded, decode-rules, decode-kept}
@@ -37,7 +38,7 @@ module _ (w : Wanted) (c m : ℕ) (xs : List ℤ) (b : List ℕ) (r : Encoded w 
   count = results (r .form) m (length xs)
 
   abbrev field : ℕ
-  field = written (r .parameter) m
+  field = used (r .parameter) m
 
   abbrev values : List ℤ
   values = deltasIf (r .delta) xs
@@ -46,7 +47,7 @@ module _ (w : Wanted) (c m : ℕ) (xs : List ℤ) (b : List ℕ) (r : Encoded w 
   payload = payloadOf (r .form) (r .delta) xs
 
   -- the parts of b
-  codec-at : unsignedAt 4 b 0 ≡ c
+  pub codec-at : unsignedAt 4 b 0 ≡ c
   codec-at =
       let h : c < 4294967296 = omega (arith, row-small c (r .known)) in
       rw (r .built) at (header-codec c count field payload h)
@@ -56,14 +57,14 @@ module _ (w : Wanted) (c m : ℕ) (xs : List ℤ) (b : List ℕ) (r : Encoded w 
       let h : count < 4294967296 = omega (arith, r .few) in
       rw (r .built) at (header-length c count field payload h)
 
-  field-at : unsignedAt 4 b 8 ≡ field
-  field-at = rw (r .built) at (header-parameter c count field payload (written-small (r .parameter) m (r .parameter-right)))
+  pub field-at : unsignedAt 4 b 8 ≡ used (r .parameter) m
+  field-at = rw (r .built) at (header-parameter c count field payload (used-small (r .parameter) m (r .parameter-right)))
 
-  payload-at : drop 12 b ≡ bytesFor (numberSize (r .form)) (numbersFor (r .form) values)
+  pub payload-at : drop 12 b ≡ bytesFor (numberSize (r .form)) (numbersFor (r .form) values)
   unfolding payloadOf
   payload-at = rw (r .built) at (drop-header c count field payload)
 
-  length-at : length b ≡ 12 + length (bytesFor (numberSize (r .form)) (numbersFor (r .form) values))
+  pub length-at : length b ≡ 12 + length (bytesFor (numberSize (r .form)) (numbersFor (r .form) values))
   unfolding payloadOf
   length-at = rw (r .built) at (length-column c count field payload)
 
@@ -100,8 +101,8 @@ module _ (w : Wanted) (c m : ℕ) (xs : List ℤ) (b : List ℕ) (r : Encoded w 
         known = rw codec-at (r .known);
         suited = r .suited;
         few = rw count-at (r .few);
-        parameter-read = field-at;
-        parameter-right = written-right (r .parameter) m (r .parameter-right);
+        parameter-read = ap (used (r .parameter)) field-at ∙ used-twice (r .parameter) m;
+        parameter-right = used-right (r .parameter) m (r .parameter-right);
         size-right = payload-size;
         values-read = rw payload-at (valuesIn-bytesFor (r .form) values values-in values-countable);
         held = values-held;
@@ -115,14 +116,14 @@ module _ (w : Wanted) (c m : ℕ) (xs : List ℤ) (b : List ℕ) (r : Encoded w 
       let fit = numbersFor-fit (r .form) values values-in values-countable in
       let form : NumbersForm (r .form) (numbersIn (numberSize (r .form)) (drop 12 b)) =
       rw (payload-at, numbersIn-bytesFor (numberSize (r .form)) (numbersFor (r .form) values) fit) (numbersFor-form (r .form) values) in
-      rw (codec-at, r .known) (rw field-at (written-form (r .parameter) m), form)
+      rw (codec-at, r .known) (rw field-at (used-form (r .parameter) m), form)
 
 -- a column encoded and decoded is itself
 pub decode-encode : (w : Wanted) (c m : ℕ) (xs : List ℤ) (b : List ℕ) → encode w c m xs ≡ bytes b
-    → (k : Kind) × (f : Form) × (d : Bool) × (p : Parameter) × (codecOf c ≡ Known k f d p) × (decode w b ≡ column k (written p m) xs)
+    → (k : Kind) × (f : Form) × (d : Bool) × (p : Parameter) × (codecOf c ≡ Known k f d p) × (decode w b ≡ column k (used p m) xs)
 decode-encode w c m xs b e =
     let r = encode-rules w c m xs b e in
-    (r .kind, r .form, r .delta, r .parameter, r .known, decode-kept w b (r .kind) (written (r .parameter) m) xs (encoded-decoded w c m xs b r))
+    (r .kind, r .form, r .delta, r .parameter, r .known, decode-kept w b (r .kind) (used (r .parameter) m) xs (encoded-decoded w c m xs b r))
 
 -- and its bytes have the writer's form
 pub encode-form : (w : Wanted) (c m : ℕ) (xs : List ℤ) (b : List ℕ) → encode w c m xs ≡ bytes b → WriterForm b
@@ -130,29 +131,20 @@ encode-form w c m xs b e = encoded-form w c m xs b (encode-rules w c m xs b e)
 
 -- Decoded, then encoded
 
-module _ (w : Wanted) (s : List ℕ) (k : Kind) (m : ℕ) (xs : List ℤ) (r : Decoded w s k m xs) (h : Bytes s) (g : WriterForm s) where
-  codec-form : CodecForm (Known k (r .form) (r .delta) (r .parameter)) (unsignedAt 4 s 8) (drop 12 s)
-  unfolding WriterForm
-  codec-form = rw (r .known) at g
-
+module _ (w : Wanted) (s : List ℕ) (k : Kind) (m : ℕ) (xs : List ℤ) (r : Decoded w s k m xs) where
   length-elements : length xs ≡ elements (r .form) (unsignedAt 4 s 4) m
   length-elements = ap length (sym (r .summed)) ∙ length-sumsIf (r .delta) (r .values) ∙ r .counted
 
   same-count : results (r .form) m (length xs) ≡ unsignedAt 4 s 4
   same-count = rw length-elements (results-elements (r .form) (r .parameter) m (unsignedAt 4 s 4) (row-sized (unsignedAt 4 s 0) (r .known)) (r .parameter-right))
 
-  same-field : written (r .parameter) m ≡ unsignedAt 4 s 8
-  same-field = ap (written (r .parameter)) (sym (r .parameter-read)) ∙ form-written (r .parameter) (unsignedAt 4 s 8) (codec-form .0)
+  pub same-values : deltasIf (r .delta) xs ≡ r .values
+  same-values = rw (← r .summed) (deltasIf-sumsIf (r .delta) (r .values) (held-32 (r .form) m (r .values) (r .held)))
 
-  same-payload : payloadOf (r .form) (r .delta) xs ≡ drop 12 s
-  unfolding payloadOf
-  same-payload =
-      let v : deltasIf (r .delta) xs ≡ r .values = rw (← r .summed) (deltasIf-sumsIf (r .delta) (r .values) (held-32 (r .form) m (r .values) (r .held))) in
-      let u : length (drop 12 s) % unitOf (r .form) ≡ 0 = rw (length-drop 12 s) (size-unit (r .form) (unsignedAt 4 s 4) m (length s - 12) (r .size-right)) in
-      rw v (bytesFor-valuesIn (r .form) (drop 12 s) (r .values) (drop-bytes 12 s h) u (codec-form .1) (r .values-read))
-
-  decoded-encoded : Encoded w (unsignedAt 4 s 0) m xs s
-  decoded-encoded =
+  -- a column that is decoded has an encoding by its codec
+  pub decoded-encoded : (b : List ℕ) → headerBytes (unsignedAt 4 s 0) (results (r .form) m (length xs)) (used (r .parameter) m) ++ payloadOf (r .form) (r .delta) xs ≡ b
+      → Encoded w (unsignedAt 4 s 0) m xs b
+  decoded-encoded b e =
       record {
         kind = k;
         form = r .form;
@@ -164,13 +156,30 @@ module _ (w : Wanted) (s : List ℕ) (k : Kind) (m : ℕ) (xs : List ℤ) (r : D
         whole = rw length-elements (whole-elements (r .form) m (unsignedAt 4 s 4));
         few = rw same-count (r .few);
         held = rw (← r .summed) (held-sums (r .form) (r .delta) m (r .values) (row-wide (unsignedAt 4 s 0) (r .known)) (r .held));
-        built = rw (same-count, same-field, same-payload) (header-read s h (r .long));
+        built = e;
       }
+
+  module _ (h : Bytes s) (g : WriterForm s) where
+    codec-form : CodecForm (Known k (r .form) (r .delta) (r .parameter)) (unsignedAt 4 s 8) (drop 12 s)
+    unfolding WriterForm
+    codec-form = rw (r .known) at g
+
+    same-field : used (r .parameter) m ≡ unsignedAt 4 s 8
+    same-field = ap (used (r .parameter)) (sym (r .parameter-read)) ∙ used-twice (r .parameter) (unsignedAt 4 s 8) ∙ form-used (r .parameter) (unsignedAt 4 s 8) (codec-form .0)
+
+    same-payload : payloadOf (r .form) (r .delta) xs ≡ drop 12 s
+    unfolding payloadOf
+    same-payload =
+        let u : length (drop 12 s) % unitOf (r .form) ≡ 0 = rw (length-drop 12 s) (size-unit (r .form) (unsignedAt 4 s 4) m (length s - 12) (r .size-right)) in
+        rw same-values (bytesFor-valuesIn (r .form) (drop 12 s) (r .values) (drop-bytes 12 s h) u (codec-form .1) (r .values-read))
+
+    same-column : Encoded w (unsignedAt 4 s 0) m xs s
+    same-column = decoded-encoded s (rw (same-count, same-field, same-payload) (header-read s h (r .long)))
 
 -- a column in the writer's form decoded and encoded is itself
 pub encode-decode : (w : Wanted) (s : List ℕ) (k : Kind) (m : ℕ) (xs : List ℤ) → Bytes s → decode w s ≡ column k m xs → WriterForm s
     → encode w (unsignedAt 4 s 0) m xs ≡ bytes s
-encode-decode w s k m xs h e g = encode-kept w (unsignedAt 4 s 0) m xs s (decoded-encoded w s k m xs (decode-rules w s k m xs e) h g)
+encode-decode w s k m xs h e g = encode-kept w (unsignedAt 4 s 0) m xs s (same-column w s k m xs (decode-rules w s k m xs e) h g)
 
 -- Both: the columns that come back unchanged are those in the writer's form
 pub writer-form-exactly : (w : Wanted) (s : List ℕ) (k : Kind) (m : ℕ) (xs : List ℤ) → Bytes s → decode w s ≡ column k m xs

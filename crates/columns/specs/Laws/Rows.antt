@@ -5,19 +5,38 @@ use mathlib.Core.List.{List, [], _∷_}
 use Prim.Native.Nat.{ℕ, zero, suc, _<_, _≤_}
 use native.Mathlib.Omega.{arith}
 use lib.ListN.{length, getD, List·getD-eq-default}
-use lib.Dec.{ltb}
-use borrow.Author.Tests.{ltb-true, ltb-false}
+use lib.Dec.{eqb, ltb}
+use borrow.Author.Tests.{eqb-true, ltb-true, ltb-false}
 use Rattle.codecs.specs.declared.Range.{Range}
 use Rattle.codecs.specs.declared.Range.the-variants as range
 use Rattle.codecs.specs.declared.Form.{Form}
 use Rattle.codecs.specs.declared.Form.the-variants.{Plain, Packed, Runs, Names}
 use Rattle.codecs.specs.Payload.{rangeOf}
 use Rattle.columns.specs.declared.Kind.{Kind}
+use Rattle.columns.specs.declared.Kind.the-variants as kind
 use Rattle.columns.specs.declared.Parameter.{Parameter}
 use Rattle.columns.specs.declared.Parameter.the-variants.{Unused, Divisor, NameSize}
 use Rattle.columns.specs.declared.Codec.{Codec}
 use Rattle.columns.specs.declared.Codec.the-variants.{Known, Unknown}
-use Rattle.columns.specs.Table.{table, codecOf}
+use Rattle.columns.specs.Table.{table, codecOf, kindNumber}
+
+-- Kinds
+
+-- a kind is known by its number
+abbrev kinds : List Kind
+kinds = kind.Float32 ∷ kind.FixedPoint ∷ kind.Int8 ∷ kind.Int16 ∷ kind.Int32 ∷ kind.Strings ∷ kind.Chars ∷ []
+
+kind-at : (k : Kind) → getD kinds (kindNumber k) kind.Float32 ≡ k
+kind-at kind.Float32 = refl
+kind-at kind.FixedPoint = refl
+kind-at kind.Int8 = refl
+kind-at kind.Int16 = refl
+kind-at kind.Int32 = refl
+kind-at kind.Strings = refl
+kind-at kind.Chars = refl
+
+pub same-kind : (k j : Kind) → eqb (kindNumber k) (kindNumber j) ≡ true → k ≡ j
+same-kind k j e = sym (kind-at k) ∙ ap (λ (n : ℕ). getD kinds n kind.Float32) (eqb-true (kindNumber k) (kindNumber j) e) ∙ kind-at j
 
 -- What a row keeps
 

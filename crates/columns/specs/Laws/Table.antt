@@ -17,8 +17,10 @@ use Rattle.columns.specs.declared.Parameter.{Parameter}
 use Rattle.columns.specs.declared.Codec.{Codec}
 use Rattle.columns.specs.declared.Codec.the-variants.{Known, Unknown}
 use Rattle.columns.specs.declared.Header.the-variants.{Good, Refused}
-use Rattle.columns.specs.Table.{table, codecOf, suits, lengthLimit, parameterOk, sizeRight}
+use Rattle.columns.specs.Table.{table, codecOf, suits, lengthLimit, parameterOk, used, sizeRight}
 use Rattle.columns.specs.Header.{judged, headerOf}
+use Rattle.columns.specs.Laws.Rows.{row-sized}
+use Rattle.columns.specs.Laws.Form.{used-right, used-size}
 
 -- The table
 
@@ -53,15 +55,15 @@ module _ (w : Wanted) (k : Kind) (f : Form) (d : Bool) (p : Parameter) (n m b : 
   pub judged-size : suits w k ≡ true → n ≤ lengthLimit → parameterOk p m ≡ true → sizeRight f n m b ≡ false → judged w (Known k f d p) n m b ≡ Refused payloadSize
   judged-size a l q s = rw (a, le-leb n lengthLimit l, q, s)
 
-  pub judged-good : suits w k ≡ true → n ≤ lengthLimit → parameterOk p m ≡ true → sizeRight f n m b ≡ true → judged w (Known k f d p) n m b ≡ Good n m k f d
+  pub judged-good : suits w k ≡ true → n ≤ lengthLimit → parameterOk p m ≡ true → sizeRight f n m b ≡ true → judged w (Known k f d p) n m b ≡ Good n (used p m) k f d
   judged-good a l q s = rw (a, le-leb n lengthLimit l, q, s)
 
 -- a header that passes
 abbrev pub Passes : Wanted → List ℕ → ℕ → ℕ → Kind → Form → Bool → Type 0
 Passes w s n m k f d =
     (12 ≤ length s) × (n ≤ lengthLimit) × (suits w k ≡ true)
-    × ((p : Parameter) × (codecOf (unsignedAt 4 s 0) ≡ Known k f d p) × (parameterOk p m ≡ true)) × (sizeRight f n m (length s - 12) ≡ true)
-    × (n ≡ unsignedAt 4 s 4) × (m ≡ unsignedAt 4 s 8)
+    × (row : (p : Parameter) × (codecOf (unsignedAt 4 s 0) ≡ Known k f d p) × (parameterOk p m ≡ true)) × (sizeRight f n m (length s - 12) ≡ true)
+    × (n ≡ unsignedAt 4 s 4) × (m ≡ used (row .0) (unsignedAt 4 s 8))
 
 and-both : (a b : Bool) → (a && b) ≡ true → (a ≡ true) × (b ≡ true)
 and-both true b e = (refl, e)
@@ -85,26 +87,26 @@ header-passes w s n m k f d e = by-length (ltb (length s) 12) refl e
 
     by-size : (k′ : Kind) (f′ : Form) (d′ : Bool) (p : Parameter) → 12 ≤ length s → codecOf (unsignedAt 4 s 0) ≡ Known k′ f′ d′ p → suits w k′ ≡ true
         → N ≤ lengthLimit → parameterOk p M ≡ true → (t : Bool) → sizeRight f′ N M (length s - 12) ≡ t
-        → cond t (Good N M k′ f′ d′) (Refused payloadSize) ≡ Good n m k f d → Passes w s n m k f d
+        → cond t (Good N (used p M) k′ f′ d′) (Refused payloadSize) ≡ Good n m k f d → Passes w s n m k f d
     by-size k′ f′ d′ p l c u h g false z q = clash payloadSize q
     by-size k′ f′ d′ p l c u h g true z q =
         let a : N ≡ n = cc in
-        let b : M ≡ m = cc in
+        let b : used p M ≡ m = cc in
         let x : k′ ≡ k = cc in
         let y : f′ ≡ f = cc in
         let v : d′ ≡ d = cc in (
           l,
           subst (λ (i : ℕ). i ≤ lengthLimit) a h,
           subst (λ (i : Kind). suits w i ≡ true) x u,
-          (p, c ∙ (ap (λ (i : Kind). Known i f′ d′ p) x ∙ ap₂ (λ (i : Form) (j : Bool). Known k i j p) y v), subst (λ (i : ℕ). parameterOk p i ≡ true) b g),
-          sized y a b z,
+          (p, c ∙ (ap (λ (i : Kind). Known i f′ d′ p) x ∙ ap₂ (λ (i : Form) (j : Bool). Known k i j p) y v), subst (λ (i : ℕ). parameterOk p i ≡ true) b (used-right p M g)),
+          sized y a b (used-size f′ p N M (length s - 12) (row-sized (unsignedAt 4 s 0) c) ∙ z),
           sym a,
           sym b,
         )
 
     by-range : (k′ : Kind) (f′ : Form) (d′ : Bool) (p : Parameter) → 12 ≤ length s → codecOf (unsignedAt 4 s 0) ≡ Known k′ f′ d′ p → suits w k′ ≡ true
         → (t : Bool) → (leb N lengthLimit && parameterOk p M) ≡ t
-        → cond t (cond (sizeRight f′ N M (length s - 12)) (Good N M k′ f′ d′) (Refused payloadSize)) (Refused headerRange) ≡ Good n m k f d → Passes w s n m k f d
+        → cond t (cond (sizeRight f′ N M (length s - 12)) (Good N (used p M) k′ f′ d′) (Refused payloadSize)) (Refused headerRange) ≡ Good n m k f d → Passes w s n m k f d
     by-range k′ f′ d′ p l c u false z q = clash headerRange q
     by-range k′ f′ d′ p l c u true z q =
         let g = and-both (leb N lengthLimit) (parameterOk p M) z in
@@ -112,7 +114,7 @@ header-passes w s n m k f d e = by-length (ltb (length s) 12) refl e
 
     by-kind : (k′ : Kind) (f′ : Form) (d′ : Bool) (p : Parameter) → 12 ≤ length s → codecOf (unsignedAt 4 s 0) ≡ Known k′ f′ d′ p
         → (t : Bool) → suits w k′ ≡ t
-        → cond t (cond (leb N lengthLimit && parameterOk p M) (cond (sizeRight f′ N M (length s - 12)) (Good N M k′ f′ d′) (Refused payloadSize)) (Refused headerRange)) (Refused codecUnknown) ≡ Good n m k f d
+        → cond t (cond (leb N lengthLimit && parameterOk p M) (cond (sizeRight f′ N M (length s - 12)) (Good N (used p M) k′ f′ d′) (Refused payloadSize)) (Refused headerRange)) (Refused codecUnknown) ≡ Good n m k f d
         → Passes w s n m k f d
     by-kind k′ f′ d′ p l c false u q = clash codecUnknown q
     by-kind k′ f′ d′ p l c true u q = by-range k′ f′ d′ p l c u (leb N lengthLimit && parameterOk p M) refl q

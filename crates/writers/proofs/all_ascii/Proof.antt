@@ -10,8 +10,8 @@ use lib.Dec.{leb}
 use borrow.Author.Needs.{needs}
 use Rattle.codecs.specs.declared.Range.the-variants.{Ascii}
 use Rattle.codecs.specs.Payload.{allIn}
-use Rattle.writers.specs.Laws.Lists.{map-at, map-end}
-use Rattle.writers.specs.Laws.Cells.{all-at, all-none, and-true, and-more, ascii}
+use Rattle.codecs.specs.Laws.Lists.{map-at, map-end}
+use Rattle.codecs.specs.Laws.Allowed.{all-at, all-none, and-true, and-more, ascii}
 use Rattle.writers.proofs.all_ascii.Statement.{statement}
 use Rattle.writers.proofs.all_ascii.Tie as tie
 

@@ -9,8 +9,8 @@ use mir.Syntax.{w32}
 use mir.Facts.{toZ-ofZ}
 use borrow.Author.Needs.{needs}
 use Rattle.codecs.specs.Payload.{inRange, allIn}
-use Rattle.writers.specs.Laws.Lists.{drop-at, drop-end}
-use Rattle.writers.specs.Laws.Cells.{all-at, all-none, and-true, and-more}
+use Rattle.codecs.specs.Laws.Lists.{drop-at, drop-end}
+use Rattle.codecs.specs.Laws.Allowed.{all-at, all-none, and-true, and-more}
 use Rattle.writers.proofs.each_in.Statement.{statement}
 use Rattle.writers.proofs.each_in.Tie as tie
 

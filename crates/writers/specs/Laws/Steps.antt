@@ -10,7 +10,7 @@ use mir.Val.{SFits, toZ, ofZ}
 use mir.Facts.{toZ-ofZ, ofZ-toZ}
 use Rattle.codecs.specs.Delta.{deltasFrom, deltasIf}
 use Rattle.writers.specs.Steps.{stepOf, stepsFrom}
-use Rattle.writers.specs.Laws.Lists.{drop-at, drop-end}
+use Rattle.codecs.specs.Laws.Lists.{drop-at, drop-end}
 
 pub steps-all : (d : Bool) (xs : List ℤ) → stepsFrom d (pos 0) xs ≡ deltasIf d xs
 unfolding stepsFrom

@@ -1,4 +1,4 @@
--- Laws of the cells that a form may hold, from a place on. Assumes nothing.
+-- Laws of the values that a form may hold, from a place on. Assumes nothing.
 use mathlib.Core.Path.{_≡_, refl, sym, ap, _∙_}
 use mathlib.Core.Bool.{Bool, true, false, not, _&&_, _||_}
 use mathlib.Core.List.{List, [], _∷_}

@@ -9,10 +9,10 @@ use lib.ListN.{length, drop, getD}
 use lib.IntN.{pos}
 use lib.Dec.{eqb, leb}
 use borrow.Author.Needs.{needs}
-use Rattle.writers.specs.Laws.Lists.{map-at, map-end}
-use Rattle.writers.specs.Laws.Cells.{and-true, and-more, place-first, place-later, namesFrom, names-at, names-none}
-use Rattle.writers.proofs.are_names.Statement.{statement}
-use Rattle.writers.proofs.are_names.Tie as tie
+use Rattle.codecs.specs.Laws.Lists.{map-at, map-end}
+use Rattle.codecs.specs.Laws.Allowed.{and-true, and-more, place-first, place-later, namesFrom, names-at, names-none}
+use Rattle.codecs.proofs.are_names.Statement.{statement}
+use Rattle.codecs.proofs.are_names.Tie as tie
 
 abbrev Inv-loop : tie.InvT-loop
 Inv-loop names size ok₀ before₀ place₀ i₀ ok before place i =
