@@ -8,17 +8,14 @@ ghost use lib.ListN.{length, getD};
 ghost use lib.IntN.{ℤ, pos};
 ghost use Rattle.codecs.specs.Delta.{sumsIf};
 ghost use Rattle.columns.specs.Decode.{decode, judgedPayload};
-ghost use Rattle.payloads.specs.Items.{isNames, readIn};
-ghost use Rattle.cells.specs.Calls.{hasCells, quotientCell, valueOf, cellOf, Says};
-ghost use Rattle.payloads.specs.Held.{heldIn};
-ghost use Rattle.payloads.specs.Scan.{scanOf};
+ghost use Rattle.payloads.specs.Items.{readIn};
+ghost use Rattle.cells.specs.Calls.{hasCells, isDirect, Reaches, quotientCell, valueOf, cellOf};
 use codecs::Form;
 use codecs::Range;
 use codecs::Size;
 use columns::Header;
 use columns::Kind;
 use columns::Wanted;
-use payloads::Outcome;
 
 // A whole number, a letter, a float, or the refusal.
 pub enum Cell {
@@ -45,7 +42,7 @@ pub fn cell_at(column: &[u8], index: usize) -> Cell
 fn strings_refusal(payload: &[u8], n: usize, size: u32) -> Cell
     ensures { λ r. ⌜ ((i : ℕ) → r ≡ cellOf (judgedPayload (Header.Good n size Kind.Strings Form.Names false) (now (payload .entry))) i) ⌝ }
 {
-    let number = decoding::names_refusal(payload, n, size as usize);
+    let number = payloads::refusal_of(payload, Form::Names, size as usize, n);
     if number != refusal::ACCEPTED {
         return Cell::Refused(number);
     }
@@ -62,76 +59,62 @@ fn cell_in(
     delta: bool,
     index: usize,
 ) -> Cell
-    requires { ⌜ (hasCells kind ≡ true) × (isNames form ≡ false) ⌝ }
+    requires { ⌜ (hasCells kind ≡ true) × (isDirect form delta ≡ true) ⌝ }
     ensures { λ r. ⌜ r ≡ cellOf (judgedPayload (Header.Good n m kind form delta) (now (payload .entry))) index ⌝ }
 {
-    match number_in(payload, form, delta, n, index) {
-        Outcome::Refused(r) => Cell::Refused(r),
-        Outcome::Fine(_, x) => {
-            if n <= index {
-                return Cell::Refused(refusal::NO_SUCH_ENTRY);
-            }
-            value_of(kind, m, x)
-        }
+    let refused = payloads::refusal_of(payload, form, m as usize, n);
+    if refused != refusal::ACCEPTED {
+        return Cell::Refused(refused);
     }
+    if n <= index {
+        return Cell::Refused(refusal::NO_SUCH_ENTRY);
+    }
+    value_of(kind, m, number_in(payload, form, delta, index))
 }
 
-// What a scan says, but for whether the results are exact. Packed numbers of two bytes and runs are checked first, by loops that do
-// nothing else, and then read up to the index.
-fn number_in(payload: &[u8], form: Form, delta: bool, n: usize, index: usize) -> Outcome
-    ensures { λ r. ⌜ Says r (scanOf form delta n index (heldIn form (now (payload .entry)))) ⌝ }
+// The result at an index of a payload that has one there.
+fn number_in(payload: &[u8], form: Form, delta: bool, index: usize) -> i32
+    requires { ⌜ Reaches form (now payload) index × (isDirect form delta ≡ true) ⌝ }
+    ensures { λ r. ⌜ ((l : List ℤ) → readIn form (now (payload .entry)) ≡ some l → index < length l → r ≡ getD (sumsIf delta l) index (pos 0)) ⌝ }
 {
     match form {
+        Form::Plain(size) => codecs::number_at(payload, index * codecs::bytes(size), size),
         Form::Packed(size) => match size {
-            Size::Two => packed_in(payload, delta, n, index),
-            _ => taken_apart(payloads::scan(payload, form, delta, n, index)),
+            Size::One => packed_at(payload, Size::One, delta, index),
+            Size::Two => two_at(payload, delta, index),
+            Size::Four => packed_at(payload, Size::Four, delta, index),
         },
-        Form::Runs(range) => runs_in(payload, range, delta, n, index),
-        _ => taken_apart(payloads::scan(payload, form, delta, n, index)),
+        Form::Runs(_) => run_at(payload, delta, index),
+        Form::Names => 0,
     }
 }
 
-// The same outcome, by its parts: those of the other arms are then not put into memory.
-fn taken_apart(outcome: Outcome) -> Outcome
-    ensures { λ r. ⌜ Says r outcome ⌝ }
+// The result at an index of packed numbers that have one there. `left` is how many results come before it, and `total` the sum of the
+// result that has begun, with delta of those before it too.
+fn packed_at(payload: &[u8], size: Size, delta: bool, index: usize) -> i32
+    ensures { λ r. ⌜ ((l : List ℤ) → readIn (Form.Packed size) (now (payload .entry)) ≡ some l → index < length l → r ≡ getD (sumsIf delta l) index (pos 0)) ⌝ }
 {
-    match outcome {
-        Outcome::Refused(r) => Outcome::Refused(r),
-        Outcome::Fine(_, x) => Outcome::Fine(false, x),
+    let k = codecs::bytes(size);
+    let mut at: usize = 0;
+    let mut left = index;
+    let mut total: i32 = 0;
+    while k <= payload.len() - at {
+        let number = codecs::number_at(payload, at, size);
+        at += k;
+        total = codecs::add_delta(total, number);
+        if !codecs::is_limit(number, size) {
+            if left == 0 {
+                return total;
+            }
+            left -= 1;
+            total = payloads::total_after(total, delta);
+        }
     }
+    0
 }
 
-// The same for packed numbers of two bytes.
-fn packed_in(payload: &[u8], delta: bool, n: usize, index: usize) -> Outcome
-    ensures { λ r. ⌜ Says r (scanOf (Form.Packed Size.Two) delta n index (heldIn (Form.Packed Size.Two) (now (payload .entry)))) ⌝ }
-{
-    let number = payloads::refusal_of(payload, Form::Packed(Size::Two), n);
-    if number != refusal::ACCEPTED {
-        return Outcome::Refused(number);
-    }
-    if n <= index {
-        return Outcome::Fine(false, 0);
-    }
-    Outcome::Fine(false, packed_at(payload, delta, index))
-}
-
-// The same for runs.
-fn runs_in(payload: &[u8], range: Range, delta: bool, n: usize, index: usize) -> Outcome
-    ensures { λ r. ⌜ Says r (scanOf (Form.Runs range) delta n index (heldIn (Form.Runs range) (now (payload .entry)))) ⌝ }
-{
-    let number = payloads::refusal_of(payload, Form::Runs(range), n);
-    if number != refusal::ACCEPTED {
-        return Outcome::Refused(number);
-    }
-    if n <= index {
-        return Outcome::Fine(false, 0);
-    }
-    Outcome::Fine(false, run_at(payload, delta, index))
-}
-
-// The result at an index of packed numbers of two bytes that have one there. `left` is how many results come before it, and `total` the
-// sum of the result that has begun, with delta of those before it too.
-fn packed_at(payload: &[u8], delta: bool, index: usize) -> i32
+// The result at an index of packed numbers of two bytes that have one there: a loop of its own, since most packed columns are of these.
+fn two_at(payload: &[u8], delta: bool, index: usize) -> i32
     ensures { λ r. ⌜ ((l : List ℤ) → readIn (Form.Packed Size.Two) (now (payload .entry)) ≡ some l → index < length l → r ≡ getD (sumsIf delta l) index (pos 0)) ⌝ }
 {
     let mut at: usize = 0;

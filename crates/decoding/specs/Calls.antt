@@ -10,7 +10,7 @@ use lib.IntN.{ℤ}
 use lib.Dec.{leb}
 use mir.Syntax.{w32}
 use mir.Val.{toZ, ofZ}
-use Rattle.refusal.specs.Table.{accepted, bufferTooSmall}
+use Rattle.refusal.specs.Table.{bufferTooSmall}
 use Rattle.codecs.specs.declared.Form.{Form}
 use Rattle.codecs.specs.Delta.{sumsIf}
 use Rattle.payloads.specs.Items.{readIn}
@@ -25,7 +25,7 @@ abbrev pub told : Decoding → ℕ → Decoded
 told (refused r) room = decoded.Refused r
 told (column k m l) room = cond (leb (length l) room) (decoded.Count (length l)) (decoded.Refused bufferTooSmall)
 
--- the same with the parameter, which is the divisor
+-- the answer of the decoder of fixed point, which tells the divisor too
 abbrev pub toldFixed : Decoding → ℕ → Fixed
 toldFixed (refused r) room = fixed.Refused r
 toldFixed (column k m l) room = cond (leb (length l) room) (fixed.Column (length l) (toZ w32 m)) (fixed.Refused bufferTooSmall)
@@ -50,8 +50,3 @@ countOf (fixed.Refused r) = decoded.Refused r
 -- what a writer leaves: the results of a payload at the buffer's start
 abbrev pub Wrote : {B : Type 0} → (ℤ → B) → Form → Bool → List ℕ → List B → List B → Type 0
 Wrote element f d s old new = (l : List ℤ) → readIn f s ≡ some l → new ≡ map element (sumsIf d l) ++ drop (length l) old
-
--- the refusal of a column, or 0
-abbrev pub refusalIn : Decoding → ℕ
-refusalIn (refused r) = r
-refusalIn (column k m l) = accepted

@@ -3,14 +3,13 @@
 ghost use mathlib.Core.Path.{_≡_};
 ghost use mathlib.Core.Bool.{false};
 ghost use mathlib.Core.List.{_++_};
-ghost use Prim.Native.Nat.{_+_, _*_, _<_, _≤_};
+ghost use Prim.Native.Nat.{_+_, _≤_};
 ghost use lib.ListN.{length, drop};
-ghost use lib.Dec.{eqb};
 ghost use Rattle.columns.specs.Table.{suits};
 ghost use Rattle.columns.specs.Decode.{decode, judgedPayload};
 ghost use Rattle.payloads.specs.Items.{isNames};
 ghost use Rattle.payloads.specs.Results.{Filled, HasRoom, HasResults, Covered};
-ghost use Rattle.decoding.specs.Calls.{told, toldFixed, left, asNumber, asByte, countOf, Wrote, refusalIn};
+ghost use Rattle.decoding.specs.Calls.{told, toldFixed, left, asNumber, asByte, countOf, Wrote};
 use codecs::Form;
 use codecs::Range;
 use codecs::Size;
@@ -19,7 +18,6 @@ use columns::Header;
 use columns::Kind;
 use columns::Wanted;
 use payloads::Item;
-use payloads::Outcome;
 
 // How many elements were written, or the refusal.
 pub enum Decoded {
@@ -139,7 +137,7 @@ fn integers_in(
     ensures answer { λ r. ⌜ r ≡ toldFixed (judgedPayload (Header.Good n m kind form delta) (now (payload .entry))) (length (now (buffer .entry))) ⌝ }
     ensures buffer { λ r. ⌜ now (buffer .exit) ≡ left asNumber (judgedPayload (Header.Good n m kind form delta) (now (payload .entry))) (now (buffer .entry)) ⌝ }
 {
-    let refused = payloads::refusal_of(payload, form, n);
+    let refused = payloads::refusal_of(payload, form, m as usize, n);
     if refused != refusal::ACCEPTED {
         return Fixed::Refused(refused);
     }
@@ -324,16 +322,15 @@ fn chars_in(
     ensures answer { λ r. ⌜ r ≡ toldFixed (judgedPayload (Header.Good n m kind form delta) (now (payload .entry))) (length (now (buffer .entry))) ⌝ }
     ensures buffer { λ r. ⌜ now (buffer .exit) ≡ left asByte (judgedPayload (Header.Good n m kind form delta) (now (payload .entry))) (now (buffer .entry)) ⌝ }
 {
-    match payloads::scan(payload, form, delta, n, n) {
-        Outcome::Refused(r) => Fixed::Refused(r),
-        Outcome::Fine(_, _) => {
-            if buffer.len() < n {
-                return Fixed::Refused(refusal::BUFFER_TOO_SMALL);
-            }
-            write_bytes(payload, form, delta, buffer);
-            Fixed::Column(n, numbers::to_i32(m))
-        }
+    let refused = payloads::refusal_of(payload, form, m as usize, n);
+    if refused != refusal::ACCEPTED {
+        return Fixed::Refused(refused);
     }
+    if buffer.len() < n {
+        return Fixed::Refused(refusal::BUFFER_TOO_SMALL);
+    }
+    write_bytes(payload, form, delta, buffer);
+    Fixed::Column(n, numbers::to_i32(m))
 }
 
 // Writes the results of a payload as bytes, item by item.
@@ -395,41 +392,15 @@ fn strings_in(payload: &[u8], n: usize, size: u32, kind: Kind, buffer: &mut [u8]
     ensures answer { λ r. ⌜ r ≡ toldFixed (judgedPayload (Header.Good n size kind Form.Names false) (now (payload .entry))) (length (now (buffer .entry))) ⌝ }
     ensures buffer { λ r. ⌜ now (buffer .exit) ≡ left asByte (judgedPayload (Header.Good n size kind Form.Names false) (now (payload .entry))) (now (buffer .entry)) ⌝ }
 {
-    let number = names_refusal(payload, n, size as usize);
-    if number != refusal::ACCEPTED {
-        return Fixed::Refused(number);
+    let refused = payloads::refusal_of(payload, Form::Names, size as usize, n);
+    if refused != refusal::ACCEPTED {
+        return Fixed::Refused(refused);
     }
     if buffer.len() < payload.len() {
         return Fixed::Refused(refusal::BUFFER_TOO_SMALL);
     }
     copy(payload, buffer);
     Fixed::Column(payload.len(), numbers::to_i32(size))
-}
-
-// The refusal of a payload of n names of a size each, or 0, in one pass.
-pub fn names_refusal(payload: &[u8], n: usize, size: usize) -> u8
-    ensures { λ r. ⌜ ((kind : Kind) → r ≡ refusalIn (judgedPayload (Header.Good n size kind Form.Names false) (now (payload .entry)))) ⌝ }
-{
-    if !writers::are_names(payload, size) {
-        return refusal::NUMBER_NOT_ALLOWED;
-    }
-    if !is_product(payload.len(), n, size) {
-        return refusal::LENGTH_DIFFERS;
-    }
-    refusal::ACCEPTED
-}
-
-// Whether a length is n times a size; the product itself may be too large.
-fn is_product(length: usize, n: usize, size: usize) -> bool
-    ensures { λ r. ⌜ r ≡ eqb length (n * size) ⌝ }
-{
-    if size == 0 {
-        return length == 0;
-    }
-    if length % size != 0 {
-        return false;
-    }
-    length / size == n
 }
 
 // Copies bytes to the buffer's start.

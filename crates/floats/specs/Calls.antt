@@ -39,7 +39,7 @@ kept x = ofZ w32 x
 abbrev pub bitsOf : Kind → ℕ → ℤ → ℕ
 bitsOf k m x = cond (divides k) (toBits binary32 (quotient x (pos m))) (kept x)
 
--- 27 where a division is not exact: any cell or the divisor is too large
+-- 27 where a cell or the divisor of a fixed point column is above 16,777,216 in size
 abbrev pub exactly : Decoding → Decoding
 exactly (refused r) = refused r
 exactly (column k m l) = cond (divides k && not (allExact l && exact (pos m))) (refused notExact) (column k m l)

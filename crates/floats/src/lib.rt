@@ -69,16 +69,15 @@ fn kept_in(payload: &[u8], n: usize, m: u32, buffer: &mut [u32]) -> Floats
     ensures answer { λ r. ⌜ r ≡ told (exactly (judgedPayload (Header.Good n m Kind.Float32 (Form.Plain Size.Four) false) (now (payload .entry)))) (length (now (buffer .entry))) ⌝ }
     ensures buffer { λ r. ⌜ now (buffer .exit) ≡ left (exactly (judgedPayload (Header.Good n m Kind.Float32 (Form.Plain Size.Four) false) (now (payload .entry)))) (now (buffer .entry)) ⌝ }
 {
-    match payloads::scan(payload, Form::Plain(Size::Four), false, n, 0) {
-        Outcome::Refused(r) => Floats::Refused(r),
-        Outcome::Fine(_, _) => {
-            if n <= buffer.len() {
-                write_kept(payload, buffer);
-                return Floats::Count(n);
-            }
-            Floats::Refused(refusal::BUFFER_TOO_SMALL)
-        }
+    let refused = payloads::refusal_of(payload, Form::Plain(Size::Four), m as usize, n);
+    if refused != refusal::ACCEPTED {
+        return Floats::Refused(refused);
     }
+    if buffer.len() < n {
+        return Floats::Refused(refusal::BUFFER_TOO_SMALL);
+    }
+    write_kept(payload, buffer);
+    Floats::Count(n)
 }
 
 // Writes the 32 bits of each number of a payload.
@@ -108,9 +107,9 @@ fn quotients_in(
     ensures answer { λ r. ⌜ r ≡ told (exactly (judgedPayload (Header.Good n m Kind.FixedPoint form delta) (now (payload .entry)))) (length (now (buffer .entry))) ⌝ }
     ensures buffer { λ r. ⌜ now (buffer .exit) ≡ left (exactly (judgedPayload (Header.Good n m Kind.FixedPoint form delta) (now (payload .entry)))) (now (buffer .entry)) ⌝ }
 {
-    match payloads::scan(payload, form, delta, n, n) {
+    match payloads::scan(payload, form, m as usize, delta, n) {
         Outcome::Refused(r) => Floats::Refused(r),
-        Outcome::Fine(exact, _) => {
+        Outcome::Fine(exact) => {
             let fine = are_exact(exact, m);
             if !fine {
                 return Floats::Refused(refusal::NOT_EXACT);

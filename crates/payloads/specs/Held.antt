@@ -7,23 +7,22 @@ use Prim.Native.Nat.{ℕ}
 use lib.IntN.{ℤ, natAbs}
 use lib.Dec.{leb}
 use Rattle.codecs.specs.declared.Form.{Form}
-use Rattle.codecs.specs.declared.Range.{Range}
-use Rattle.codecs.specs.Payload.{valuesIn, allIn, rangeOf}
+use Rattle.codecs.specs.Payload.{valuesIn, allowed}
 
--- values that are all of a range, else none
-abbrev pub within : Range → Option (List ℤ) → Option (List ℤ)
-within r none = none
-within r (some l) = cond (allIn r l) (some l) none
+-- values that a form may hold, where names have m bytes each; else none
+abbrev pub only : Form → ℕ → Option (List ℤ) → Option (List ℤ)
+only f m none = none
+only f m (some l) = cond (allowed f m l) (some l) none
 
--- the values of a payload, before delta; none where one of its numbers is not allowed
-unfoldable pub heldIn : Form → List ℕ → Option (List ℤ)
-heldIn f s = within (rangeOf f) (valuesIn f s)
+-- the values of a payload, before delta, where names have m bytes each; none where one of its numbers is not allowed
+unfoldable pub heldIn : Form → ℕ → List ℕ → Option (List ℤ)
+heldIn f m s = only f m (valuesIn f s)
 
 -- the largest whole number up to which all are exact in single precision
 abbrev pub exactLimit : ℕ
 exactLimit = 16777216
 
--- whether a number is at most that in size
+-- whether a number is at most 16,777,216 in size
 abbrev pub exact : ℤ → Bool
 exact z = leb (natAbs z) exactLimit
 

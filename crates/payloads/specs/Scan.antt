@@ -1,11 +1,11 @@
--- What one pass over a payload answers: its refusal (18, then 19), or whether its results are exact, and one of them. No lemma stands
--- here: the laws are in Laws/Scan.antt. Assumes nothing.
+-- What one pass over a payload answers: its refusal (18, then 19), or whether its results are exact. No lemma stands here: the laws are
+-- in Laws/Scan.antt. Assumes nothing.
 use mathlib.Core.Bool.{Bool, true, false, cond, not, _&&_}
 use mathlib.Core.Option.{Option, none, some}
 use mathlib.Core.List.{List}
 use Prim.Native.Nat.{ℕ}
-use lib.ListN.{length, getD}
-use lib.IntN.{ℤ, pos}
+use lib.ListN.{length}
+use lib.IntN.{ℤ}
 use lib.Dec.{eqb}
 use Rattle.refusal.specs.Table.{numberNotAllowed, lengthDiffers}
 use Rattle.codecs.specs.declared.Size.the-variants.{One, Two, Four}
@@ -25,11 +25,10 @@ judgesExact (Packed z) delta = true
 judgesExact (Runs r) delta = not delta
 judgesExact Names delta = false
 
--- the answer for n results, of which the one at i is asked for
-abbrev pub scanOf : Form → Bool → ℕ → ℕ → Option (List ℤ) → Outcome
-scanOf f d n i none = Refused numberNotAllowed
-scanOf f d n i (some l) =
-    cond (eqb (length l) n) (Fine (judgesExact f d && allExact (sumsIf d l)) (getD (sumsIf d l) i (pos 0))) (Refused lengthDiffers)
+-- the answer for n results
+abbrev pub scanOf : Form → Bool → ℕ → Option (List ℤ) → Outcome
+scanOf f d n none = Refused numberNotAllowed
+scanOf f d n (some l) = cond (eqb (length l) n) (Fine (judgesExact f d && allExact (sumsIf d l))) (Refused lengthDiffers)
 
 -- the refusal of n results, or 0
 abbrev pub refusalOf : ℕ → Option (List ℤ) → ℕ

@@ -1,5 +1,5 @@
-// A column's payload, read in one pass: whether its numbers are allowed (18) and as many as the header says (19), whether its results
-// are exact in single precision, and one result of it. A run of any length costs one turn, so that time is linear in the bytes.
+// A column's payload, read in one pass: whether its numbers are allowed (18) and as many as the header says (19), and whether its results
+// are exact in single precision. A run of any length costs one turn, so that time is linear in the bytes.
 ghost use mathlib.Core.Path.{_≡_};
 ghost use mathlib.Core.Bool.{true, false, cond, not, _&&_, _||_};
 ghost use Prim.Native.Nat.{_+_, _-_, _*_, _≤_, _<_};
@@ -7,19 +7,20 @@ ghost use lib.ListN.{length};
 ghost use lib.IntN.{pos};
 ghost use lib.Dec.{eqb, leb};
 ghost use Rattle.refusal.specs.Table.{lengthDiffers};
+ghost use Rattle.columns.specs.Table.{elements};
 ghost use Rattle.payloads.specs.Held.{heldIn, exact};
 ghost use Rattle.payloads.specs.Scan.{scanOf, judgesExact, refusalOf};
 ghost use Rattle.payloads.specs.Results.{advance};
 ghost use Rattle.payloads.specs.Limits.{limitAt, limitsIn, endsAtLimit};
-ghost use Rattle.payloads.specs.Items.{readIn, Gives, told, plusTimes, afterRun, cellAfter, passRun, finished};
+ghost use Rattle.payloads.specs.Items.{readIn, itemAt, told, plusTimes, afterRun};
 use codecs::Form;
 use codecs::Range;
 use codecs::Size;
 use codecs::Turn;
 
-// What a scan answers: whether the results are exact, and the one that was asked for; or the refusal.
+// What a scan answers: whether the results are of a form that is judged, and exact; or the refusal.
 pub enum Outcome {
-    Fine(bool, i32),
+    Fine(bool),
     Refused(u8),
 }
 
@@ -30,51 +31,35 @@ pub enum Item {
     End,
 }
 
-// A scan between two items: the results still to come, whether there were too many; those still to come before the one asked for,
-// whether it was met; the last result, whether all were exact, and the one asked for.
-pub struct Tally {
-    pub left: usize,
-    pub over: bool,
-    pub wait: usize,
-    pub found: bool,
-    pub sum: i32,
-    pub exact: bool,
-    pub cell: i32,
-}
-
-// Scans a payload that should have `length` results, for the result at `index`.
-pub fn scan(payload: &[u8], form: Form, delta: bool, length: usize, index: usize) -> Outcome
-    ensures { λ r. ⌜ r ≡ scanOf form delta length index (heldIn form (now (payload .entry))) ⌝ }
+// Scans a payload that should have `length` results. Names have `size` bytes each; other forms have no use for it.
+pub fn scan(payload: &[u8], form: Form, size: usize, delta: bool, length: usize) -> Outcome
+    ensures { λ r. ⌜ r ≡ scanOf form delta (elements form length size) (heldIn form size (now (payload .entry))) ⌝ }
 {
     match form {
-        Form::Plain(size) => {
-            if delta {
-                return scan_items(payload, form, delta, length, index);
-            }
-            scan_plain(payload, size, length, index)
-        }
-        Form::Packed(size) => match size {
-            Size::One => scan_packed(payload, Size::One, delta, length, index),
-            Size::Two => scan_two(payload, delta, length, index),
-            Size::Four => scan_packed(payload, Size::Four, delta, length, index),
+        Form::Plain(width) => scan_plain(payload, width, delta, length),
+        Form::Packed(width) => match width {
+            Size::One => scan_packed(payload, Size::One, delta, length),
+            Size::Two => scan_two(payload, delta, length),
+            Size::Four => scan_packed(payload, Size::Four, delta, length),
         },
-        Form::Runs(range) => scan_runs(payload, range, delta, length, index),
-        Form::Names => scan_items(payload, Form::Names, delta, length, index),
+        Form::Runs(range) => scan_runs(payload, range, delta, length),
+        Form::Names => scan_names(payload, size, length),
     }
 }
 
-// The refusal of a payload that should have `length` results, or 0: what a scan says to one who asks for nothing else.
-pub fn refusal_of(payload: &[u8], form: Form, length: usize) -> u8
-    ensures { λ r. ⌜ r ≡ refusalOf length (heldIn form (now (payload .entry))) ⌝ }
+// The refusal of a payload that should have `length` results, or 0. Names have `size` bytes each; other forms have no use for it.
+pub fn refusal_of(payload: &[u8], form: Form, size: usize, length: usize) -> u8
+    ensures { λ r. ⌜ r ≡ refusalOf (elements form length size) (heldIn form size (now (payload .entry))) ⌝ }
 {
     match form {
-        Form::Packed(size) => match size {
-            Size::One => refusal_in(scan_packed(payload, Size::One, false, length, length)),
+        Form::Packed(width) => match width {
+            Size::One => refusal_in(scan_packed(payload, Size::One, false, length)),
             Size::Two => count_two(payload, length),
-            Size::Four => refusal_in(scan_packed(payload, Size::Four, false, length, length)),
+            Size::Four => refusal_in(scan_packed(payload, Size::Four, false, length)),
         },
         Form::Runs(range) => count_runs(payload, range, length),
-        _ => refusal_in(scan(payload, form, false, length, length)),
+        Form::Plain(width) => refusal_in(scan_plain(payload, width, false, length)),
+        Form::Names => names_refusal(payload, size, length),
     }
 }
 
@@ -120,7 +105,7 @@ fn add_times(sum: i32, value: i32, count: usize) -> i32
 
 // The item at a place of a payload.
 pub fn item_at(payload: &[u8], at: usize, form: Form) -> Item
-    ensures { λ r. ⌜ Gives form (now (payload .entry)) at r ⌝ }
+    ensures { λ r. ⌜ r ≡ itemAt form (now (payload .entry)) at ⌝ }
 {
     if payload.len() <= at {
         return Item::End;
@@ -133,54 +118,31 @@ pub fn item_at(payload: &[u8], at: usize, form: Form) -> Item
     }
 }
 
-// The same for plain numbers: their count is the payload's size.
-fn scan_plain(payload: &[u8], size: Size, length: usize, index: usize) -> Outcome
-    ensures { λ r. ⌜ r ≡ scanOf (Form.Plain size) false length index (readIn (Form.Plain size) (now (payload .entry))) ⌝ }
+// Scans plain numbers: their count is the payload's size.
+fn scan_plain(payload: &[u8], size: Size, delta: bool, length: usize) -> Outcome
+    ensures { λ r. ⌜ r ≡ scanOf (Form.Plain size) delta length (readIn (Form.Plain size) (now (payload .entry))) ⌝ }
 {
     let k = codecs::bytes(size);
     if payload.len() / k != length {
         return Outcome::Refused(refusal::LENGTH_DIFFERS);
     }
-    let exact = judges_exact(Form::Plain(size), false);
-    if index < length {
-        return Outcome::Fine(exact, codecs::number_at(payload, index * k, size));
-    }
-    Outcome::Fine(exact, 0)
+    Outcome::Fine(judges_exact(Form::Plain(size), delta))
 }
 
-// The same, item by item.
-fn scan_items(payload: &[u8], form: Form, delta: bool, length: usize, index: usize) -> Outcome
-    ensures { λ r. ⌜ r ≡ scanOf form delta length index (readIn form (now (payload .entry))) ⌝ }
+// Scans names, which are never judged to be exact.
+fn scan_names(payload: &[u8], size: usize, length: usize) -> Outcome
+    ensures { λ r. ⌜ r ≡ scanOf Form.Names false (elements Form.Names length size) (heldIn Form.Names size (now (payload .entry))) ⌝ }
 {
-    let mut at: usize = 0;
-    let mut tally = Tally {
-        left: length,
-        over: false,
-        wait: index,
-        found: false,
-        sum: 0,
-        exact: judges_exact(form, delta),
-        cell: 0,
-    };
-    loop {
-        match item_at(payload, at, form) {
-            Item::Run(value, count, next) => {
-                tally = pass_run(tally, value, count, delta);
-                at = next;
-            }
-            Item::Wrong => {
-                return Outcome::Refused(refusal::NUMBER_NOT_ALLOWED);
-            }
-            Item::End => {
-                return finish(tally);
-            }
-        }
+    let number = names_refusal(payload, size, length);
+    if number != refusal::ACCEPTED {
+        return Outcome::Refused(number);
     }
+    Outcome::Fine(false)
 }
 
-// The same for packed numbers, number by number.
-fn scan_packed(payload: &[u8], size: Size, delta: bool, length: usize, index: usize) -> Outcome
-    ensures { λ r. ⌜ r ≡ scanOf (Form.Packed size) delta length index (readIn (Form.Packed size) (now (payload .entry))) ⌝ }
+// Scans packed numbers, number by number.
+fn scan_packed(payload: &[u8], size: Size, delta: bool, length: usize) -> Outcome
+    ensures { λ r. ⌜ r ≡ scanOf (Form.Packed size) delta length (readIn (Form.Packed size) (now (payload .entry))) ⌝ }
 {
     let k = codecs::bytes(size);
     let mut i: usize = 0;
@@ -189,7 +151,6 @@ fn scan_packed(payload: &[u8], size: Size, delta: bool, length: usize, index: us
     let mut count: usize = 0;
     let mut sum: i32 = 0;
     let mut exact = true;
-    let mut cell: i32 = 0;
     while k <= payload.len() - i {
         let number = codecs::number_at(payload, i, size);
         i += k;
@@ -201,7 +162,6 @@ fn scan_packed(payload: &[u8], size: Size, delta: bool, length: usize, index: us
             Turn::Done(s) => {
                 sum = next_result(sum, s, delta);
                 exact = both(exact, is_exact(sum));
-                cell = choose(count == index, sum, cell);
                 count += 1;
                 part = 0;
                 begun = false;
@@ -217,34 +177,13 @@ fn scan_packed(payload: &[u8], size: Size, delta: bool, length: usize, index: us
     if count != length {
         return Outcome::Refused(refusal::LENGTH_DIFFERS);
     }
-    Outcome::Fine(exact, cell)
+    Outcome::Fine(exact)
 }
 
-// The same for packed numbers of two bytes, by a loop without the cell where there is none.
-fn scan_two(payload: &[u8], delta: bool, length: usize, index: usize) -> Outcome
-    ensures { λ r. ⌜ r ≡ scanOf (Form.Packed Size.Two) delta length index (readIn (Form.Packed Size.Two) (now (payload .entry))) ⌝ }
-{
-    if index < length {
-        return scan_packed(payload, Size::Two, delta, length, index);
-    }
-    judge_two(payload, delta, length, index)
-}
-
-// The same for runs.
-fn scan_runs(payload: &[u8], range: Range, delta: bool, length: usize, index: usize) -> Outcome
-    ensures { λ r. ⌜ r ≡ scanOf (Form.Runs range) delta length index (readIn (Form.Runs range) (now (payload .entry))) ⌝ }
-{
-    if index < length {
-        return scan_items(payload, Form::Runs(range), delta, length, index);
-    }
-    judge_runs(payload, range, delta, length, index)
-}
-
-// Packed numbers of two bytes, with no cell asked for. So few limits cannot lead a sum out of 32 bits, so that one running total does:
-// of the result that has begun, and with delta of those before it too.
-fn judge_two(payload: &[u8], delta: bool, length: usize, index: usize) -> Outcome
-    requires { ⌜ length ≤ index ⌝ }
-    ensures { λ r. ⌜ r ≡ scanOf (Form.Packed Size.Two) delta length index (readIn (Form.Packed Size.Two) (now (payload .entry))) ⌝ }
+// Scans packed numbers of two bytes. So few limits cannot lead a sum out of 32 bits, so that one running total does: of the result that
+// has begun, and with delta of those before it too.
+fn scan_two(payload: &[u8], delta: bool, length: usize) -> Outcome
+    ensures { λ r. ⌜ r ≡ scanOf (Form.Packed Size.Two) delta length (readIn (Form.Packed Size.Two) (now (payload .entry))) ⌝ }
 {
     let mut i: usize = 0;
     let mut limits: usize = 0;
@@ -264,7 +203,7 @@ fn judge_two(payload: &[u8], delta: bool, length: usize, index: usize) -> Outcom
         }
     }
     if 65534 < limits {
-        return scan_packed(payload, Size::Two, delta, length, index);
+        return scan_packed(payload, Size::Two, delta, length);
     }
     if last {
         return Outcome::Refused(refusal::NUMBER_NOT_ALLOWED);
@@ -272,7 +211,7 @@ fn judge_two(payload: &[u8], delta: bool, length: usize, index: usize) -> Outcom
     if i / 2 - limits != length {
         return Outcome::Refused(refusal::LENGTH_DIFFERS);
     }
-    Outcome::Fine(exact, 0)
+    Outcome::Fine(exact)
 }
 
 // The refusal that a scan answers, or 0.
@@ -281,8 +220,34 @@ fn refusal_in(outcome: Outcome) -> u8
 {
     match outcome {
         Outcome::Refused(r) => r,
-        Outcome::Fine(_, _) => refusal::ACCEPTED,
+        Outcome::Fine(_) => refusal::ACCEPTED,
     }
+}
+
+// The refusal of a payload of `length` names of a size each, or 0, in one pass.
+fn names_refusal(payload: &[u8], size: usize, length: usize) -> u8
+    ensures { λ r. ⌜ r ≡ refusalOf (elements Form.Names length size) (heldIn Form.Names size (now (payload .entry))) ⌝ }
+{
+    if !codecs::are_names(payload, size) {
+        return refusal::NUMBER_NOT_ALLOWED;
+    }
+    if !is_product(payload.len(), length, size) {
+        return refusal::LENGTH_DIFFERS;
+    }
+    refusal::ACCEPTED
+}
+
+// Whether a length is n times a size; the product itself may be too large.
+fn is_product(length: usize, n: usize, size: usize) -> bool
+    ensures { λ r. ⌜ r ≡ eqb length (n * size) ⌝ }
+{
+    if size == 0 {
+        return length == 0;
+    }
+    if length % size != 0 {
+        return false;
+    }
+    length / size == n
 }
 
 // The refusal of packed numbers of two bytes, or 0.
@@ -292,7 +257,7 @@ fn count_two(payload: &[u8], length: usize) -> u8
     let count = payload.len() / 2;
     let limits = count_limits(payload, count);
     if 65534 < limits {
-        return refusal_in(scan_packed(payload, Size::Two, false, length, length));
+        return refusal_in(scan_packed(payload, Size::Two, false, length));
     }
     if ends_at_limit(payload, count) {
         return refusal::NUMBER_NOT_ALLOWED;
@@ -382,10 +347,9 @@ pub fn is_short(count: usize, left: usize) -> bool
     false
 }
 
-// Runs, with no cell asked for.
-fn judge_runs(payload: &[u8], range: Range, delta: bool, length: usize, index: usize) -> Outcome
-    requires { ⌜ length ≤ index ⌝ }
-    ensures { λ r. ⌜ r ≡ scanOf (Form.Runs range) delta length index (readIn (Form.Runs range) (now (payload .entry))) ⌝ }
+// Scans runs.
+fn scan_runs(payload: &[u8], range: Range, delta: bool, length: usize) -> Outcome
+    ensures { λ r. ⌜ r ≡ scanOf (Form.Runs range) delta length (readIn (Form.Runs range) (now (payload .entry))) ⌝ }
 {
     let mut at: usize = 0;
     let mut left = length;
@@ -435,7 +399,7 @@ fn count_runs(payload: &[u8], range: Range, length: usize) -> u8
 
 // What is left of the results and whether there were too many, at the payload's end.
 fn judged(over: bool, left: usize, exact: bool) -> Outcome
-    ensures { λ r. ⌜ r ≡ cond (over || not (eqb left 0)) (Outcome.Refused lengthDiffers) (Outcome.Fine exact (pos 0)) ⌝ }
+    ensures { λ r. ⌜ r ≡ cond (over || not (eqb left 0)) (Outcome.Refused lengthDiffers) (Outcome.Fine exact) ⌝ }
 {
     if over {
         return Outcome::Refused(refusal::LENGTH_DIFFERS);
@@ -443,56 +407,7 @@ fn judged(over: bool, left: usize, exact: bool) -> Outcome
     if left != 0 {
         return Outcome::Refused(refusal::LENGTH_DIFFERS);
     }
-    Outcome::Fine(exact, 0)
-}
-
-fn choose(test: bool, a: i32, b: i32) -> i32
-    ensures { λ r. ⌜ r ≡ cond test a b ⌝ }
-{
-    if test { a } else { b }
-}
-
-// What a tally says at the payload's end.
-fn finish(tally: Tally) -> Outcome
-    ensures { λ r. ⌜ r ≡ finished tally ⌝ }
-{
-    if tally.over {
-        return Outcome::Refused(refusal::LENGTH_DIFFERS);
-    }
-    if tally.left != 0 {
-        return Outcome::Refused(refusal::LENGTH_DIFFERS);
-    }
-    Outcome::Fine(tally.exact, tally.cell)
-}
-
-// The tally with a run more.
-fn pass_run(tally: Tally, value: i32, count: usize, delta: bool) -> Tally
-    ensures { λ r. ⌜ r ≡ passRun delta tally value count ⌝ }
-{
-    let sum = after_run(tally.sum, value, count, delta);
-    let cell = cell_after(tally, value, count, delta);
-    Tally {
-        left: less(tally.left, count),
-        over: either(tally.over, tally.left < count),
-        wait: less(tally.wait, count),
-        found: either(tally.found, tally.wait < count),
-        sum,
-        exact: both(tally.exact, is_exact(sum)),
-        cell,
-    }
-}
-
-// The result that was asked for, where it is met by the end of a run.
-fn cell_after(tally: Tally, value: i32, count: usize, delta: bool) -> i32
-    ensures { λ r. ⌜ r ≡ cellAfter delta tally value count ⌝ }
-{
-    if tally.found {
-        return tally.cell;
-    }
-    if tally.wait < count {
-        return after_run(tally.sum, value, tally.wait + 1, delta);
-    }
-    tally.cell
+    Outcome::Fine(exact)
 }
 
 // The forms whose results are judged to be exact.
@@ -514,7 +429,7 @@ fn judges_exact(form: Form, delta: bool) -> bool
 // One plain number.
 fn plain_item(payload: &[u8], at: usize, size: Size) -> Item
     requires { ⌜ at ≤ length (now payload) ⌝ }
-    ensures { λ r. ⌜ Gives (Form.Plain size) (now (payload .entry)) at r ⌝ }
+    ensures { λ r. ⌜ r ≡ itemAt (Form.Plain size) (now (payload .entry)) at ⌝ }
 {
     let k = codecs::bytes(size);
     if payload.len() - at < k {
@@ -526,7 +441,7 @@ fn plain_item(payload: &[u8], at: usize, size: Size) -> Item
 // One byte of a name.
 fn name_item(payload: &[u8], at: usize) -> Item
     requires { ⌜ at < length (now payload) ⌝ }
-    ensures { λ r. ⌜ Gives Form.Names (now (payload .entry)) at r ⌝ }
+    ensures { λ r. ⌜ r ≡ itemAt Form.Names (now (payload .entry)) at ⌝ }
 {
     let value = codecs::number_at(payload, at, Size::One);
     if codecs::is_in(value, Range::Ascii) {
@@ -538,7 +453,7 @@ fn name_item(payload: &[u8], at: usize) -> Item
 // One packed result.
 fn packed_item(payload: &[u8], at: usize, size: Size) -> Item
     requires { ⌜ at ≤ length (now payload) ⌝ }
-    ensures { λ r. ⌜ Gives (Form.Packed size) (now (payload .entry)) at r ⌝ }
+    ensures { λ r. ⌜ r ≡ itemAt (Form.Packed size) (now (payload .entry)) at ⌝ }
 {
     let k = codecs::bytes(size);
     let mut i = at;
@@ -568,7 +483,7 @@ fn packed_item(payload: &[u8], at: usize, size: Size) -> Item
 // One run.
 fn run_item(payload: &[u8], at: usize, range: Range) -> Item
     requires { ⌜ at ≤ length (now payload) ⌝ }
-    ensures { λ r. ⌜ Gives (Form.Runs range) (now (payload .entry)) at r ⌝ }
+    ensures { λ r. ⌜ r ≡ itemAt (Form.Runs range) (now (payload .entry)) at ⌝ }
 {
     if payload.len() - at < 8 {
         return Item::End;

@@ -1,5 +1,5 @@
--- A column of a named field: its refusals in their order (14 to 19), its length and its parameter. Names have 4 bytes there (paper 01:
--- "Name size 1 to 255, in named fields 4"). No lemma stands here: the laws are in Laws/Field.antt. Assumes nothing.
+-- A column of a named field: its refusals in their order (14 to 19), its length and its parameter. Names have 4 bytes there. No
+-- lemma stands here: the laws are in Laws/Field.antt. Assumes nothing.
 use mathlib.Core.Bool.{Bool, true, false, cond, not, _&&_}
 use mathlib.Core.List.{List}
 use Prim.Native.Nat.{ℕ, _/_}

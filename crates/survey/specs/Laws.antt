@@ -1,5 +1,5 @@
 -- What is proved of the definitions of `survey`.
 pub mod Field
 pub mod Cells
-pub mod Rest
+pub mod Runs
 pub mod Steps

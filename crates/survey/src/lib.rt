@@ -2,16 +2,16 @@
 // numbers, and sums over tables by its cells.
 ghost use mathlib.Core.Path.{_≡_};
 ghost use mathlib.Core.Bool.{true, false, _&&_};
-ghost use mathlib.Core.List.{List};
-ghost use Prim.Native.Nat.{ℕ, _+_, _*_, _≤_};
-ghost use lib.ListN.{length, replicate};
-ghost use lib.IntN.{ℤ};
-ghost use Rattle.columns.specs.Decode.{judgedPayload};
-ghost use Rattle.payloads.specs.Items.{isNames};
+ghost use Prim.Native.Nat.{ℕ, _+_, _-_, _*_, _≤_};
+ghost use lib.ListN.{replicate};
+ghost use Rattle.columns.specs.Table.{elements};
+ghost use Rattle.columns.specs.Decode.{decode};
+ghost use Rattle.payloads.specs.Held.{heldIn};
+ghost use Rattle.payloads.specs.Items.{readIn};
 ghost use Rattle.payloads.specs.Results.{resultsFrom, lastFrom};
-ghost use Rattle.survey.specs.Field.{otherSize, otherNames, fieldColumn, isStrings, checkedOf};
-ghost use Rattle.survey.specs.Cells.{typeLimit, Decodes, between, allBetween, TotalsOf};
-ghost use Rattle.survey.specs.Steps.{OfResults, Reaches, cellLimit, noCells, sumsIn, Sound, Adds};
+ghost use Rattle.survey.specs.Field.{otherSize, otherNames, fieldColumn, checkedOf};
+ghost use Rattle.survey.specs.Cells.{typeLimit, cellsPass, between, noSums, sumsOf};
+ghost use Rattle.survey.specs.Steps.{heldPass, Reaches, heldSums, cellLimit, toCome, sumsIn, Sound, Adds};
 use codecs::Form;
 use codecs::Size;
 use columns::Codec;
@@ -43,9 +43,9 @@ enum Last {
     Outside,
 }
 
-// The cells that are counted, the sums over them, and the last.
+// The cells to come, the sums over those before them, and the last of these.
 struct Tally {
-    cells: usize,
+    left: usize,
     atoms: u64,
     bonds: u64,
     last: i32,
@@ -66,42 +66,51 @@ pub fn check(column: &[u8], wanted: Wanted) -> Checked
     }
     match columns::read_header(column, wanted) {
         Header::Refused(r) => Checked::Refused(r),
-        Header::Good(n, m, kind, form, delta) => match kind {
-            Kind::Strings => check_strings(&column[12..], n),
-            _ => check_payload(&column[12..], n, m, kind, form, delta),
-        },
-    }
-}
-
-// Whether all cells of a column that decodes lie between two numbers.
-pub fn all_between(column: &[u8], low: i32, high: i32) -> bool
-    ensures { λ r. ⌜ ((k : Kind) (m : ℕ) (xs : List ℤ) → Decodes (now (column .entry)) k m xs → r ≡ allBetween low high xs) ⌝ }
-{
-    match columns::read_header(column, Wanted::Any) {
-        Header::Refused(_) => false,
-        Header::Good(_, _, _, form, delta) => {
-            results_between(&column[12..], form, delta, low, high)
+        Header::Good(n, m, _, form, _) => {
+            let number = payloads::refusal_of(&column[12..], form, m as usize, n);
+            if number != refusal::ACCEPTED {
+                return Checked::Refused(number);
+            }
+            Checked::Good(n, m)
         }
     }
 }
 
-// Whether all cells of a column that decodes are indices of the first `types` entries of two tables, and the sums of the tables' entries
-// over the cells.
+// Whether a column of the kind that is wanted decodes, and all its cells lie between two numbers.
+pub fn all_between(column: &[u8], wanted: Wanted, low: i32, high: i32) -> bool
+    ensures { λ r. ⌜ r ≡ cellsPass (between low high) (decode wanted (now (column .entry))) ⌝ }
+{
+    match columns::read_header(column, wanted) {
+        Header::Refused(_) => false,
+        Header::Good(n, m, _, form, delta) => results_between(
+            &column[12..],
+            form,
+            m as usize,
+            delta,
+            n,
+            low,
+            high,
+        ),
+    }
+}
+
+// The sums of the entries of two tables over the cells of an int32 column, where it decodes and all its cells are indices of the first
+// `types` entries; else none.
 pub fn totals(
     column: &[u8],
     types: usize,
     atoms: &[u32; TYPE_LIMIT],
     bonds: &[u32; TYPE_LIMIT],
 ) -> Sums
-    ensures { λ r. ⌜ ((k : Kind) (m : ℕ) (xs : List ℤ) → Decodes (now (column .entry)) k m xs → types ≤ typeLimit → TotalsOf types (now (atoms .entry)) (now (bonds .entry)) xs r) ⌝ }
+    ensures { λ r. ⌜ r ≡ sumsOf types (now (atoms .entry)) (now (bonds .entry)) (decode (Wanted.Only Kind.Int32) (now (column .entry))) ⌝ }
 {
     if TYPE_LIMIT < types {
         return no_sums();
     }
-    match columns::read_header(column, Wanted::Any) {
+    match columns::read_header(column, Wanted::Only(Kind::Int32)) {
         Header::Refused(_) => no_sums(),
-        Header::Good(_, _, _, form, delta) => {
-            sums_of(&column[12..], form, delta, types, atoms, bonds)
+        Header::Good(n, _, _, form, delta) => {
+            sums_of(&column[12..], form, delta, n, types, atoms, bonds)
         }
     }
 }
@@ -136,61 +145,46 @@ fn is_other_size(codec: Codec, parameter: u32, wanted: Wanted) -> bool
     }
 }
 
-// The answer for a payload of names of 4 bytes whose header passed.
-fn check_strings(payload: &[u8], n: usize) -> Checked
-    ensures { λ r. ⌜ r ≡ checkedOf (judgedPayload (Header.Good n 4 Kind.Strings Form.Names false) (now (payload .entry))) ⌝ }
-{
-    let number = decoding::names_refusal(payload, n, 4);
-    if number != refusal::ACCEPTED {
-        return Checked::Refused(number);
-    }
-    Checked::Good(n, 4)
-}
-
-// The answer for a payload of another kind whose header passed.
-fn check_payload(payload: &[u8], n: usize, m: u32, kind: Kind, form: Form, delta: bool) -> Checked
-    requires { ⌜ (isStrings kind ≡ false) × (isNames form ≡ false) ⌝ }
-    ensures { λ r. ⌜ r ≡ checkedOf (judgedPayload (Header.Good n m kind form delta) (now (payload .entry))) ⌝ }
-{
-    let number = payloads::refusal_of(payload, form, n);
-    if number != refusal::ACCEPTED {
-        return Checked::Refused(number);
-    }
-    Checked::Good(n, m)
-}
-
-// Whether all results of a payload lie between two numbers, by a loop of its form's own.
-fn results_between(payload: &[u8], form: Form, delta: bool, low: i32, high: i32) -> bool
-    ensures { λ r. ⌜ OfResults form delta (now (payload .entry)) (λ xs. r ≡ allBetween low high xs) ⌝ }
+// Whether a payload holds n results that all lie between two numbers, by a loop of its form's own; names have `size` bytes each.
+fn results_between(
+    payload: &[u8],
+    form: Form,
+    size: usize,
+    delta: bool,
+    n: usize,
+    low: i32,
+    high: i32,
+) -> bool
+    ensures { λ r. ⌜ r ≡ heldPass (between low high) (elements form n size) delta (heldIn form size (now (payload .entry))) ⌝ }
 {
     match form {
-        Form::Plain(size) => {
+        Form::Plain(width) => {
             if delta {
-                return items_between(payload, Form::Plain(size), delta, low, high);
+                return items_between(payload, Form::Plain(width), delta, n, low, high);
             }
-            match size {
-                Size::One => plain_between(payload, Size::One, low, high),
-                Size::Two => plain_between(payload, Size::Two, low, high),
-                Size::Four => plain_between(payload, Size::Four, low, high),
+            match width {
+                Size::One => plain_between(payload, Size::One, n, low, high),
+                Size::Two => plain_between(payload, Size::Two, n, low, high),
+                Size::Four => plain_between(payload, Size::Four, n, low, high),
             }
         }
-        Form::Packed(size) => match size {
-            Size::One => items_between(payload, Form::Packed(Size::One), delta, low, high),
-            Size::Two => items_between(payload, Form::Packed(Size::Two), delta, low, high),
-            Size::Four => items_between(payload, Form::Packed(Size::Four), delta, low, high),
+        Form::Packed(width) => match width {
+            Size::One => items_between(payload, Form::Packed(Size::One), delta, n, low, high),
+            Size::Two => items_between(payload, Form::Packed(Size::Two), delta, n, low, high),
+            Size::Four => items_between(payload, Form::Packed(Size::Four), delta, n, low, high),
         },
-        Form::Runs(range) => items_between(payload, Form::Runs(range), delta, low, high),
-        Form::Names => items_between(payload, Form::Names, delta, low, high),
+        Form::Runs(range) => items_between(payload, Form::Runs(range), delta, n, low, high),
+        Form::Names => names_between(payload, size, delta, n, low, high),
     }
 }
 
-// The same for plain numbers.
-fn plain_between(payload: &[u8], size: Size, low: i32, high: i32) -> bool
-    ensures { λ r. ⌜ OfResults (Form.Plain size) false (now (payload .entry)) (λ xs. r ≡ allBetween low high xs) ⌝ }
+// Whether a payload holds n plain numbers that all lie between two numbers.
+fn plain_between(payload: &[u8], size: Size, n: usize, low: i32, high: i32) -> bool
+    ensures { λ r. ⌜ r ≡ heldPass (between low high) n false (readIn (Form.Plain size) (now (payload .entry))) ⌝ }
 {
     let k = codecs::bytes(size);
     let mut at: usize = 0;
-    let mut fine = true;
+    let mut fine = payload.len() / k == n;
     while k <= payload.len() - at {
         let number = codecs::number_at(payload, at, size);
         fine = both(fine, is_between(number, low, high));
@@ -199,26 +193,41 @@ fn plain_between(payload: &[u8], size: Size, low: i32, high: i32) -> bool
     fine
 }
 
-// The same, item by item.
-fn items_between(payload: &[u8], form: Form, delta: bool, low: i32, high: i32) -> bool
-    ensures { λ r. ⌜ OfResults form delta (now (payload .entry)) (λ xs. r ≡ allBetween low high xs) ⌝ }
+// Whether a payload holds n names of a size each whose bytes all lie between two numbers.
+fn names_between(payload: &[u8], size: usize, delta: bool, n: usize, low: i32, high: i32) -> bool
+    ensures { λ r. ⌜ r ≡ heldPass (between low high) (elements Form.Names n size) delta (heldIn Form.Names size (now (payload .entry))) ⌝ }
+{
+    if payloads::refusal_of(payload, Form::Names, size, n) != refusal::ACCEPTED {
+        return false;
+    }
+    items_between(payload, Form::Names, delta, payload.len(), low, high)
+}
+
+// Whether n results are read of a payload, item by item, that all lie between two numbers. `left` are still to come.
+fn items_between(payload: &[u8], form: Form, delta: bool, n: usize, low: i32, high: i32) -> bool
+    ensures { λ r. ⌜ r ≡ heldPass (between low high) n delta (readIn form (now (payload .entry))) ⌝ }
 {
     let mut at: usize = 0;
     let mut last: i32 = 0;
+    let mut left = n;
     loop {
         match payloads::item_at(payload, at, form) {
             Item::Run(value, count, next) => {
+                if left < count {
+                    return false;
+                }
                 let Last::Within(x) = run_between(last, value, count, delta, low, high) else {
                     return false;
                 };
                 last = x;
+                left -= count;
                 at = next;
             }
             Item::Wrong => {
                 return false;
             }
             Item::End => {
-                return true;
+                return left == 0;
             }
         }
     }
@@ -238,7 +247,7 @@ fn run_between(sum: i32, value: i32, count: usize, delta: bool, low: i32, high: 
     same_between(value, low, high)
 }
 
-// The same of a result that stands there over and over.
+// Whether a result that stands there over and over lies between two numbers.
 fn same_between(result: i32, low: i32, high: i32) -> Last
     ensures { λ r. ⌜ ((k : ℕ) → 1 ≤ k → Reaches (between low high) (replicate k result) result r) ⌝ }
 {
@@ -248,7 +257,7 @@ fn same_between(result: i32, low: i32, high: i32) -> Last
     Last::Outside
 }
 
-// The same where the results are sums, one after the other.
+// Whether the sums of a run lie between two numbers, one after the other.
 fn sums_between(sum: i32, value: i32, count: usize, low: i32, high: i32) -> Last
     ensures { λ r. ⌜ Reaches (between low high) (resultsFrom true sum (replicate count value)) (lastFrom true sum (replicate count value)) r ⌝ }
 {
@@ -280,22 +289,25 @@ fn both(a: bool, b: bool) -> bool
     if a { b } else { false }
 }
 
-// The tally of no cells.
-fn no_cells() -> Tally
-    ensures { λ r. ⌜ r ≡ noCells ⌝ }
+// The tally before the first of n cells.
+fn to_come(n: usize) -> Tally
+    ensures { λ r. ⌜ r ≡ toCome n ⌝ }
 {
     Tally {
-        cells: 0,
+        left: n,
         atoms: 0,
         bonds: 0,
         last: 0,
     }
 }
 
-// The sums of a tally of all cells.
+// The sums of a tally to which no cell is to come; none where one is.
 fn sums_in(tally: Tally) -> Sums
     ensures { λ r. ⌜ r ≡ sumsIn tally ⌝ }
 {
+    if tally.left != 0 {
+        return no_sums();
+    }
     Sums {
         inside: true,
         atoms: tally.atoms,
@@ -303,9 +315,9 @@ fn sums_in(tally: Tally) -> Sums
     }
 }
 
-// The sums where a cell is no index.
+// The answer where there are no sums.
 fn no_sums() -> Sums
-    ensures { λ r. ⌜ r .inside ≡ false ⌝ }
+    ensures { λ r. ⌜ r ≡ noSums ⌝ }
 {
     Sums {
         inside: false,
@@ -314,45 +326,47 @@ fn no_sums() -> Sums
     }
 }
 
-// The sums over all results of a payload; plain numbers have a loop of their own.
+// The sums over the n results of a payload; plain numbers have a loop of their own.
 fn sums_of(
     payload: &[u8],
     form: Form,
     delta: bool,
+    n: usize,
     types: usize,
     atoms: &[u32; TYPE_LIMIT],
     bonds: &[u32; TYPE_LIMIT],
 ) -> Sums
-    requires { ⌜ types ≤ typeLimit ⌝ }
-    ensures { λ r. ⌜ OfResults form delta (now (payload .entry)) (λ xs. length xs ≤ cellLimit → TotalsOf types (now (atoms .entry)) (now (bonds .entry)) xs r) ⌝ }
+    requires { ⌜ (types ≤ typeLimit) × (n ≤ cellLimit) ⌝ }
+    ensures { λ r. ⌜ r ≡ heldSums types (now (atoms .entry)) (now (bonds .entry)) n delta (readIn form (now (payload .entry))) ⌝ }
 {
     if delta {
-        return sum_items(payload, form, delta, types, atoms, bonds);
+        return sum_items(payload, form, delta, n, types, atoms, bonds);
     }
     match form {
         Form::Plain(size) => match size {
-            Size::One => sum_plain(payload, Size::One, types, atoms, bonds),
-            Size::Two => sum_plain(payload, Size::Two, types, atoms, bonds),
-            Size::Four => sum_plain(payload, Size::Four, types, atoms, bonds),
+            Size::One => sum_plain(payload, Size::One, n, types, atoms, bonds),
+            Size::Two => sum_plain(payload, Size::Two, n, types, atoms, bonds),
+            Size::Four => sum_plain(payload, Size::Four, n, types, atoms, bonds),
         },
-        _ => sum_items(payload, form, delta, types, atoms, bonds),
+        _ => sum_items(payload, form, delta, n, types, atoms, bonds),
     }
 }
 
-// The same for plain numbers.
+// The sums over n plain numbers.
 fn sum_plain(
     payload: &[u8],
     size: Size,
+    n: usize,
     types: usize,
     atoms: &[u32; TYPE_LIMIT],
     bonds: &[u32; TYPE_LIMIT],
 ) -> Sums
-    requires { ⌜ types ≤ typeLimit ⌝ }
-    ensures { λ r. ⌜ OfResults (Form.Plain size) false (now (payload .entry)) (λ xs. length xs ≤ cellLimit → TotalsOf types (now (atoms .entry)) (now (bonds .entry)) xs r) ⌝ }
+    requires { ⌜ (types ≤ typeLimit) × (n ≤ cellLimit) ⌝ }
+    ensures { λ r. ⌜ r ≡ heldSums types (now (atoms .entry)) (now (bonds .entry)) n false (readIn (Form.Plain size) (now (payload .entry))) ⌝ }
 {
     let k = codecs::bytes(size);
     let mut at: usize = 0;
-    let mut tally = no_cells();
+    let mut tally = to_come(n);
     while k <= payload.len() - at {
         let number = codecs::number_at(payload, at, size);
         let Step::On(t) = add_cells(tally, number, 1, types, atoms, bonds) else {
@@ -364,20 +378,21 @@ fn sum_plain(
     sums_in(tally)
 }
 
-// The same, item by item.
+// The sums over n results, item by item.
 fn sum_items(
     payload: &[u8],
     form: Form,
     delta: bool,
+    n: usize,
     types: usize,
     atoms: &[u32; TYPE_LIMIT],
     bonds: &[u32; TYPE_LIMIT],
 ) -> Sums
-    requires { ⌜ types ≤ typeLimit ⌝ }
-    ensures { λ r. ⌜ OfResults form delta (now (payload .entry)) (λ xs. length xs ≤ cellLimit → TotalsOf types (now (atoms .entry)) (now (bonds .entry)) xs r) ⌝ }
+    requires { ⌜ (types ≤ typeLimit) × (n ≤ cellLimit) ⌝ }
+    ensures { λ r. ⌜ r ≡ heldSums types (now (atoms .entry)) (now (bonds .entry)) n delta (readIn form (now (payload .entry))) ⌝ }
 {
     let mut at: usize = 0;
-    let mut tally = no_cells();
+    let mut tally = to_come(n);
     loop {
         match payloads::item_at(payload, at, form) {
             Item::Run(value, count, next) => {
@@ -419,7 +434,7 @@ fn add_run(
     add_cells(tally, value, count, types, atoms, bonds)
 }
 
-// The same where the results are sums, one after the other.
+// The tally with a run of sums more, one after the other.
 fn add_sums(
     tally: Tally,
     value: i32,
@@ -463,21 +478,21 @@ fn add_cells(
     if types <= i {
         return Step::Off;
     }
-    if 4294967295 - tally.cells < count {
+    if tally.left < count {
         return Step::Off;
     }
     Step::On(Tally {
-        cells: tally.cells + count,
-        atoms: add_entry(tally.atoms, atoms[i], count, tally.cells),
-        bonds: add_entry(tally.bonds, bonds[i], count, tally.cells),
+        left: tally.left - count,
+        atoms: add_entry(tally.atoms, atoms[i], count, tally.left),
+        bonds: add_entry(tally.bonds, bonds[i], count, tally.left),
         last: cell,
     })
 }
 
-// The sum over cells with an entry more, so many times.
-fn add_entry(sum: u64, entry: u32, count: usize, cells: usize) -> u64
-    requires { ⌜ (cells + count ≤ 4294967295) × (sum ≤ cells * 4294967295) ⌝ }
-    ensures { λ r. ⌜ (r ≡ sum + entry * count) × (r ≤ (cells + count) * 4294967295) ⌝ }
+// The sum over cells with an entry more, so many times, where so many cells are to come.
+fn add_entry(sum: u64, entry: u32, count: usize, left: usize) -> u64
+    requires { ⌜ (count ≤ left) × (sum + left * 4294967295 ≤ cellLimit * 4294967295) ⌝ }
+    ensures { λ r. ⌜ (r ≡ sum + entry * count) × (r + (left - count) * 4294967295 ≤ cellLimit * 4294967295) ⌝ }
 {
     sum + (entry as u64) * (count as u64)
 }

@@ -2,72 +2,90 @@
 use mathlib.Core.Path.{_≡_, sym, ap, _∙_}
 use mathlib.Core.Option.{some}
 use mathlib.Core.List.{List}
-use Prim.Native.Nat.{_-_, _≤_}
+use Prim.Native.Nat.{_+_, _-_, _≤_}
 use native.Mathlib.Omega.{arith}
 use lib.ListN.{length}
 use lib.IntN.{ℤ}
-use mir.Syntax.{w16, w32}
+use mir.Syntax.{w32}
 use mir.Val.{toZ, ofZ, SFits}
 use mir.Facts.{toZ-ofZ}
 use borrow.Author.Needs.{needs}
 use borrow.Author.Tests.{not-true, not-false}
 use Rattle.numbers.specs.BigEndian.{signedAt}
 use Rattle.numbers.specs.Laws.BigEndian.{bytes-of}
-use Rattle.codecs.specs.declared.Size.the-variants.{Two}
 use Rattle.codecs.specs.declared.Form.the-variants.{Packed}
+use Rattle.codecs.specs.Width.{widthOf, sizeOf, upper, lower}
 use Rattle.codecs.specs.Delta.{plusDelta}
 use Rattle.codecs.specs.Packing.{isLimit}
+use Rattle.codecs.specs.Laws.Numbers.{size-pos}
 use Rattle.payloads.specs.Items.{readIn}
-use Rattle.payloads.specs.Laws.Totals.{two-fits}
-use Rattle.cells.specs.Laws.Found.{Sought, sought-start, sought-end, sought-more, sought-done, sought-here}
+use Rattle.cells.specs.Laws.Found.{size-fits, Sought, sought-start, sought-end, sought-more, sought-done, sought-here}
 use Rattle.cells.proofs.packed_at.Statement.{statement}
 use Rattle.cells.proofs.packed_at.Tie as tie
 
 abbrev Inv-loop : tie.InvT-loop
-Inv-loop payload delta index at₀ left₀ total₀ at left total =
-    (at ≤ length payload) × ((l : List ℤ) (e : readIn (Packed Two) payload ≡ some l) → Sought delta index payload l e at left (toZ w32 total))
+Inv-loop payload size delta index k at₀ left₀ total₀ at left total =
+    (at ≤ length payload) × ((l : List ℤ) (e : readIn (Packed size) payload ≡ some l) → Sought size delta index payload l e at left (toZ w32 total))
 
 abbrev μ-loop : tie.MeasureT-loop
-μ-loop payload delta index at₀ left₀ total₀ at left total = length payload - at
+μ-loop payload size delta index k at₀ left₀ total₀ at left total = length payload - at
 
 loop-holds : tie.Need-loop-holds Inv-loop μ-loop
-loop-holds c = let a = c .before .args in (omega arith, (λ l e. sought-start (a .delta) (a .index) (a .payload .now) l e))
+loop-holds c = let a = c .before .before .args in (omega arith, (λ l e. sought-start (a .size) (a .delta) (a .index) (a .payload .now) l e))
+
+-- there are bytes for a number, which has 32 bits
+room : (c : tie.After-is-limit Inv-loop μ-loop) → c .before .before .before .before .loop .at + sizeOf (c .before .before .before .before .before .before .before .args .size) ≤ length (c .before .before .before .before .before .before .before .args .payload .now)
+room c = omega (arith, c .before .before .before .before .before .bytes .ensures)
+
+fits : (c : tie.After-is-limit Inv-loop μ-loop) → SFits w32 (signedAt (widthOf (c .before .before .before .before .before .before .before .args .size)) (c .before .before .before .before .before .before .before .args .payload .now) (c .before .before .before .before .loop .at))
+fits c = size-fits (c .before .before .before .before .before .before .before .args .size) (c .before .before .before .before .before .before .before .args .payload .now) (c .before .before .before .before .loop .at) (bytes-of (c .before .before .before .before .before .before .before .args .payload .now) (λ j. omega (arith, c .before .before .before .before .before .before .shared-slice-known .given j))) (room c)
 
 -- the number, whether it is a limit, and the total with it
-fits : (c : tie.After-is-limit Inv-loop μ-loop) → SFits w16 (signedAt w16 (c .before .before .before .before .before .before .args .payload .now) (c .before .before .before .before .loop .at))
-fits c = two-fits (c .before .before .before .before .before .before .args .payload .now) (c .before .before .before .before .loop .at) (bytes-of (c .before .before .before .before .before .before .args .payload .now) (λ j. omega (arith, c .before .before .before .before .before .shared-slice-known .given j))) (omega arith)
-
-number : (c : tie.After-is-limit Inv-loop μ-loop) → toZ w32 (ofZ w32 (c .before .before .number-at .result)) ≡ signedAt w16 (c .before .before .before .before .before .before .args .payload .now) (c .before .before .before .before .loop .at)
+number : (c : tie.After-is-limit Inv-loop μ-loop) → toZ w32 (ofZ w32 (c .before .before .number-at .result)) ≡ signedAt (widthOf (c .before .before .before .before .before .before .before .args .size)) (c .before .before .before .before .before .before .before .args .payload .now) (c .before .before .before .before .loop .at)
 number c = toZ-ofZ {w = w32} (record { sfits = c .before .before .number-at .ok }) ∙ c .before .before .number-at .ensures
 
-limit : (c : tie.After-is-limit Inv-loop μ-loop) → isLimit 32767 32768 (signedAt w16 (c .before .before .before .before .before .before .args .payload .now) (c .before .before .before .before .loop .at)) ≡ c .is-limit .result
-limit c = sym (c .is-limit .ensures ∙ ap (isLimit 32767 32768) (number c))
+limit : (c : tie.After-is-limit Inv-loop μ-loop) → isLimit (upper (c .before .before .before .before .before .before .before .args .size)) (lower (c .before .before .before .before .before .before .before .args .size)) (signedAt (widthOf (c .before .before .before .before .before .before .before .args .size)) (c .before .before .before .before .before .before .before .args .payload .now) (c .before .before .before .before .loop .at)) ≡ c .is-limit .result
+limit c = sym (c .is-limit .ensures ∙ ap (isLimit (upper (c .before .before .before .before .before .before .before .args .size)) (lower (c .before .before .before .before .before .before .before .args .size))) (number c))
 
-total : (c : tie.After-is-limit Inv-loop μ-loop) → toZ w32 (ofZ w32 (c .before .add-delta .result)) ≡ plusDelta (toZ w32 (c .before .before .before .before .loop .total)) (signedAt w16 (c .before .before .before .before .before .before .args .payload .now) (c .before .before .before .before .loop .at))
+total : (c : tie.After-is-limit Inv-loop μ-loop) → toZ w32 (ofZ w32 (c .before .add-delta .result)) ≡ plusDelta (toZ w32 (c .before .before .before .before .loop .total)) (signedAt (widthOf (c .before .before .before .before .before .before .before .args .size)) (c .before .before .before .before .before .before .before .args .payload .now) (c .before .before .before .before .loop .at))
 total c = toZ-ofZ {w = w32} (record { sfits = c .before .add-delta .ok }) ∙ c .before .add-delta .ensures ∙ ap (plusDelta (toZ w32 (c .before .before .before .before .loop .total))) (number c)
+
+sub-loop : tie.Need-sub-loop Inv-loop μ-loop
+sub-loop c = omega arith
+
+add-at : tie.Need-add-at Inv-loop μ-loop
+add-at c = omega arith
 
 returns : tie.Need-returns Inv-loop μ-loop
 returns c =
-    let a = c .before .before .before .before .before .before .before .before .args in
+    let a = c .before .before .before .before .before .before .before .before .before .args in
     let p = c .before .before .before .before .before .before .loop in
-    λ l e h. sought-here (a .delta) (a .index) (a .payload .now) l e (p .at) (p .left) (toZ w32 (p .total)) (p .inv .1 l e) (omega arith) (fits (c .before .before)) (toZ w32 (ofZ w32 (c .before .before .before .add-delta .result))) (total (c .before .before)) (limit (c .before .before) ∙ not-true _ (c .before .if1 .taken)) (c .if2 .taken)
+    λ l e h. sought-here (a .size) (a .delta) (a .index) (a .payload .now) l e (p .at) (p .left) (toZ w32 (p .total)) (p .inv .1 l e) (room (c .before .before)) (fits (c .before .before)) (toZ w32 (ofZ w32 (c .before .before .before .add-delta .result))) (total (c .before .before)) (limit (c .before .before) ∙ not-true _ (c .before .if1 .taken)) (c .if2 .taken)
+
+loop-less : tie.Need-loop-less Inv-loop μ-loop
+loop-less c = let o = size-pos (c .before .before .before .before .before .before .before .before .before .before .args .size) in omega (arith, c .before .before .before .before .before .before .before .before .bytes .ensures)
 
 loop-again : tie.Need-loop-again Inv-loop μ-loop
 loop-again c =
-    let a = c .before .before .before .before .before .before .before .before .before .args in
+    let a = c .before .before .before .before .before .before .before .before .before .before .args in
     let p = c .before .before .before .before .before .before .before .loop in
+    let b = c .before .before .before .before .before .before .before .before .bytes .ensures in
     let o = toZ-ofZ {w = w32} {z = c .before .before .before .before .add-delta .result} (record { sfits = c .before .before .before .before .add-delta .ok }) in
     let t = toZ-ofZ {w = w32} (record { sfits = c .total-after .ok }) ∙ c .total-after .ensures in
-    (omega arith, (λ l e. rw t (sought-done (a .delta) (a .index) (a .payload .now) l e (p .at) (p .left) (toZ w32 (p .total)) (p .inv .1 l e) (omega arith) (fits (c .before .before .before)) (toZ w32 (ofZ w32 (c .before .before .before .before .add-delta .result))) (total (c .before .before .before)) (limit (c .before .before .before) ∙ not-true _ (c .before .before .if1 .taken)) (rw o (record { sfits = c .before .before .before .before .add-delta .ok })) (omega arith))))
+    (omega arith, (λ l e. rw (b, t) (sought-done (a .size) (a .delta) (a .index) (a .payload .now) l e (p .at) (p .left) (toZ w32 (p .total)) (p .inv .1 l e) (room (c .before .before .before)) (fits (c .before .before .before)) (toZ w32 (ofZ w32 (c .before .before .before .before .add-delta .result))) (total (c .before .before .before)) (limit (c .before .before .before) ∙ not-true _ (c .before .before .if1 .taken)) (rw o (record { sfits = c .before .before .before .before .add-delta .ok })) (omega arith))))
+
+loop-less-2 : tie.Need-loop-less-2 Inv-loop μ-loop
+loop-less-2 c = let o = size-pos (c .before .before .before .before .before .before .before .before .args .size) in omega (arith, c .before .before .before .before .before .before .bytes .ensures)
 
 loop-again-2 : tie.Need-loop-again-2 Inv-loop μ-loop
 loop-again-2 c =
-    let a = c .before .before .before .before .before .before .before .args in
+    let a = c .before .before .before .before .before .before .before .before .args in
     let p = c .before .before .before .before .before .loop in
-    (omega arith, (λ l e. sought-more (a .delta) (a .index) (a .payload .now) l e (p .at) (p .left) (toZ w32 (p .total)) (p .inv .1 l e) (omega arith) (fits (c .before)) (toZ w32 (ofZ w32 (c .before .before .add-delta .result))) (total (c .before)) (limit (c .before) ∙ not-false _ (c .if1 .left))))
+    let b = c .before .before .before .before .before .before .bytes .ensures in
+    (omega arith, (λ l e. rw b (sought-more (a .size) (a .delta) (a .index) (a .payload .now) l e (p .at) (p .left) (toZ w32 (p .total)) (p .inv .1 l e) (room (c .before)) (fits (c .before)) (toZ w32 (ofZ w32 (c .before .before .add-delta .result))) (total (c .before)) (limit (c .before) ∙ not-false _ (c .if1 .left)))))
 
 returns-2 : tie.Need-returns-2 Inv-loop μ-loop
-returns-2 c = let a = c .before .before .before .args in let p = c .before .loop in λ l e h. sought-end (a .delta) (a .index) (a .payload .now) l e (p .at) (p .left) (toZ w32 (p .total)) (p .inv .1 l e) (omega arith) h
+returns-2 c = let a = c .before .before .before .before .args in let p = c .before .loop in λ l e h. sought-end (a .size) (a .delta) (a .index) (a .payload .now) l e (p .at) (p .left) (toZ w32 (p .total)) (p .inv .1 l e) (omega (arith, c .before .before .bytes .ensures)) h
 
 pub packed-at-spec : {M : Type 1} → statement M
 packed-at-spec =
@@ -75,17 +93,18 @@ packed-at-spec =
     (tie.spec
     Inv-loop
     μ-loop
-    loop-holds
-    (λ c. search needs)
     (λ c κs. search needs)
-    (λ c. search needs)
+    loop-holds
+    sub-loop
+    (λ c κs. search needs)
+    add-at
     (λ c κs. search needs)
     (λ c κs. search needs)
     returns
     (λ c. search needs)
     (λ c κs. search needs)
-    (λ c. search needs)
+    loop-less
     loop-again
-    (λ c. search needs)
+    loop-less-2
     loop-again-2
     returns-2)

@@ -52,7 +52,7 @@ loop-again c =
     (omega arith, (λ r l e. rw v (reaching-more r (a .delta) (a .index) (a .payload .now) l e (p .at) (p .left) (toZ w32 (p .sum)) (p .inv .1 r l e) (omega arith) (c .before .before .to-u32 .result) (count (c .before .before)) (c .before .if1 .left))))
 
 returns-2 : tie.Need-returns-2 Inv-loop μ-loop
-returns-2 c = let a = c .before .before .before .args in let p = c .before .loop in λ r l e h. reaching-end r (a .delta) (a .index) (a .payload .now) l e (p .at) (p .left) (toZ w32 (p .sum)) (p .inv .1 r l e) (p .inv .0) (omega arith) h
+returns-2 c = let a = c .before .before .before .args in let p = c .before .loop in λ r l e h. reaching-end r (a .delta) (a .index) (a .payload .now) l e (p .at) (p .left) (toZ w32 (p .sum)) (p .inv .1 r l e) (omega arith) h
 
 pub run-at-spec : {M : Type 1} → statement M
 run-at-spec =

@@ -1,10 +1,10 @@
 -- Laws of a cell's answer. Assumes nothing.
 use mathlib.Core.Path.{_≡_, ap}
-use mathlib.Core.Bool.{Bool, true, false}
+use mathlib.Core.Bool.{Bool, true}
 use mathlib.Core.List.{List}
 use Prim.Native.Nat.{ℕ, _<_, _≤_}
-use lib.ListN.{length}
-use lib.IntN.{ℤ}
+use lib.ListN.{length, getD}
+use lib.IntN.{ℤ, pos}
 use borrow.Author.Tests.{lt-ltb, le-ltb}
 use Rattle.refusal.specs.Table.{codecUnknown, noSuchEntry}
 use Rattle.codecs.specs.declared.Form.{Form}
@@ -13,8 +13,8 @@ use Rattle.codecs.specs.Payload.{valuesIn}
 use Rattle.columns.specs.declared.Kind.{Kind}
 use Rattle.columns.specs.declared.Kind.the-variants as kind
 use Rattle.columns.specs.Decode.{Decoding, refused, column, judgedValues}
-use Rattle.payloads.specs.Items.{isNames}
-use Rattle.floats.specs.Laws.Calls.{Holds, holds-length}
+use Rattle.payloads.specs.Laws.Judged.{Holds}
+use Rattle.floats.specs.Laws.Calls.{holds-length}
 use Rattle.cells.specs.declared.Cell.the-variants.{Refused}
 use Rattle.cells.specs.Calls.{hasCells, valueOf, cellOf}
 
@@ -25,9 +25,9 @@ pub cell-strings : (x : Decoding) (m i : ℕ) (l : List ℤ) → x ≡ column ki
 cell-strings x m i l e = rw e
 
 -- kinds that have cells
-module _ (n m : ℕ) (k : Kind) (f : Form) (d : Bool) (i : ℕ) (s : List ℕ) (names : isNames f ≡ false) (e : Bool) (x : ℤ) (h : Holds n m k f d i s names e x) (c : hasCells k ≡ true) where
+module _ (n m : ℕ) (k : Kind) (f : Form) (d : Bool) (s : List ℕ) (h : Holds n m k f d s) (i : ℕ) (c : hasCells k ≡ true) where
   pub cell-past : n ≤ i → Refused noSuchEntry ≡ cellOf (judgedValues n m k f d (valuesIn f s)) i
-  cell-past l = let z = holds-length n m k f d i s names e x h in rw (h .3, c, le-ltb i (length (sumsIf d (h .0))) (rw z l))
+  cell-past l = let z = holds-length n m k f d s h in rw (h .3, c, le-ltb i (length (sumsIf d (h .0))) (rw z l))
 
-  pub cell-inside : i < n → valueOf k m x ≡ cellOf (judgedValues n m k f d (valuesIn f s)) i
-  cell-inside l = let z = holds-length n m k f d i s names e x h in rw (h .3, c, lt-ltb i (length (sumsIf d (h .0))) (rw z l)) (ap (valueOf k m) (h .5))
+  pub cell-inside : (x : ℤ) → x ≡ getD (sumsIf d (h .0)) i (pos 0) → i < n → valueOf k m x ≡ cellOf (judgedValues n m k f d (valuesIn f s)) i
+  cell-inside x q l = let z = holds-length n m k f d s h in rw (h .3, c, lt-ltb i (length (sumsIf d (h .0))) (rw z l)) (ap (valueOf k m) q)

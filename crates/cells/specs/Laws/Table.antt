@@ -5,6 +5,7 @@ use Prim.Native.Nat.{ℕ, _≤_}
 use native.Mathlib.Omega.{arith}
 use lib.Dec.{leb}
 use borrow.Author.Tests.{leb-true}
+use Rattle.codecs.specs.declared.Size.{Size}
 use Rattle.codecs.specs.declared.Form.{Form}
 use Rattle.codecs.specs.declared.Form.the-variants.{Plain, Packed, Runs, Names}
 use Rattle.columns.specs.declared.Kind.{Kind}
@@ -16,7 +17,7 @@ use Rattle.columns.specs.Table.{codecOf, parameterOk}
 use Rattle.columns.specs.Laws.Table.{every-codec}
 use Rattle.payloads.specs.Items.{isNames}
 use Rattle.floats.specs.Laws.Tests.{and-both, not-true}
-use Rattle.cells.specs.Calls.{hasCells}
+use Rattle.cells.specs.Calls.{hasCells, isDirect}
 
 abbrev isNameSize : Parameter → Bool
 isNameSize Unused = false
@@ -25,7 +26,7 @@ isNameSize NameSize = true
 
 abbrev rowOk : Codec → Bool
 rowOk Unknown = true
-rowOk (Known k f d p) = cond (hasCells k) (not (isNames f)) (isNames f && (not d && isNameSize p))
+rowOk (Known k f d p) = cond (hasCells k) (isDirect f d) (isNames f && (not d && isNameSize p))
 
 every-row : (c : ℕ) → rowOk (codecOf c) ≡ true
 every-row = every-codec rowOk refl refl
@@ -41,13 +42,27 @@ name-size Unused m e g = let y : _≡_ {A = ℕ} 0 1 = cc in absurd (omega arith
 name-size Divisor m e g = let y : _≡_ {A = ℕ} 0 1 = cc in absurd (omega arith)
 name-size NameSize m e g = leb-true m 255 (and-both (leb 1 m) (leb m 255) g .1)
 
+-- plain numbers that are found at their place have no delta
+pub direct-plain : (z : Size) (d : Bool) → isDirect (Plain z) d ≡ true → d ≡ false
+direct-plain z d e = not-true d e
+
+pub direct-names : {A : Type 0} (f : Form) (d : Bool) → f ≡ Names → isDirect f d ≡ true → A
+direct-names f d q e = let y : false ≡ true = ap (λ (g : Form). isDirect g d) (sym q) ∙ e in let x : _≡_ {A = ℕ} 0 1 = cc in absurd (omega arith)
+
+-- names are not walked to
+pub direct-other : (f : Form) (d : Bool) → isDirect f d ≡ true → isNames f ≡ false
+direct-other (Plain z) d e = refl
+direct-other (Packed z) d e = refl
+direct-other (Runs r) d e = refl
+direct-other Names d e = let y : _≡_ {A = ℕ} 0 1 = cc in absurd (omega arith)
+
 module _ (c : ℕ) (k : Kind) (f : Form) (d : Bool) (p : Parameter) (e : codecOf c ≡ Known k f d p) where
-  row : cond (hasCells k) (not (isNames f)) (isNames f && (not d && isNameSize p)) ≡ true
+  row : cond (hasCells k) (isDirect f d) (isNames f && (not d && isNameSize p)) ≡ true
   row = sym (ap rowOk e) ∙ every-row c
 
   -- a kind that has cells
-  pub cells-row : hasCells k ≡ true → isNames f ≡ false
-  cells-row h = not-true (isNames f) (rw h at row)
+  pub cells-row : hasCells k ≡ true → isDirect f d ≡ true
+  cells-row h = rw h at row
 
   -- strings
   pub strings-row : (m : ℕ) → hasCells k ≡ false → parameterOk p m ≡ true → (f ≡ Names) × (d ≡ false) × (m ≤ 255)

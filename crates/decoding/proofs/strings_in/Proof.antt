@@ -1,5 +1,5 @@
--- The refusal of the names says what the payload decodes to; its bytes are copied.
-use mathlib.Core.Path.{sym, ap₂, _∙_}
+-- The payload's refusal says what it decodes to (`judged-refused`, `judged-fine`); its bytes are copied.
+use mathlib.Core.Path.{_≡_, sym, ap, ap₂, _∙_}
 use mathlib.Core.Bool.{false}
 use native.Mathlib.Omega.{arith}
 use mir.Syntax.{w32}
@@ -10,10 +10,12 @@ use Rattle.codecs.specs.declared.Size.the-variants.{One}
 use Rattle.codecs.specs.declared.Form.the-variants.{Names}
 use Rattle.codecs.specs.Numbers.{numbersIn}
 use Rattle.codecs.specs.Payload.{valuesIn}
-use Rattle.columns.specs.Decode.{judgedValues}
+use Rattle.codecs.specs.Laws.Names.{names-length}
+use Rattle.columns.specs.Decode.{column, judgedValues}
 use Rattle.decoding.specs.declared.Fixed.the-variants.{Column}
 use Rattle.decoding.specs.Calls.{asByte}
-use Rattle.decoding.specs.Laws.Names.{names-length, names-bytes, names-refused, names-column}
+use Rattle.payloads.specs.Laws.Judged.{judged-refused, judged-fine}
+use Rattle.decoding.specs.Laws.Names.{names-held, names-bytes}
 use Rattle.decoding.specs.Laws.Calls.{answers-refused, answers-small, answers-done}
 use Rattle.decoding.proofs.strings_in.Statement.{statement}
 use Rattle.decoding.proofs.strings_in.Tie as tie
@@ -21,20 +23,29 @@ use Rattle.decoding.proofs.strings_in.Tie as tie
 returns : tie.Need-returns
 returns c =
     let a = c .before .before .before .before .args in
-    let r = c .before .names-refusal .result in
-    answers-refused asByte (judgedValues (a .n) (a .size) (a .kind) Names false (valuesIn Names (a .payload .now))) (a .buffer .now) r (names-refused (a .n) (a .size) (a .kind) (a .payload .now) r (c .before .names-refusal .ensures (a .kind)) (c .if1 .taken))
+    let r = c .before .refusal-of .result in
+    answers-refused asByte (judgedValues (a .n) (a .size) (a .kind) Names false (valuesIn Names (a .payload .now))) (a .buffer .now) r (judged-refused (a .n) (a .size) (a .kind) Names false (a .payload .now) r (c .before .refusal-of .ensures) (c .if1 .taken))
+
+-- the column that is not refused
+held : (c : tie.Else1)
+    → judgedValues (c .before .before .before .before .args .n) (c .before .before .before .before .args .size) (c .before .before .before .before .args .kind) Names false (valuesIn Names (c .before .before .before .before .args .payload .now))
+    ≡ column (c .before .before .before .before .args .kind) (c .before .before .before .before .args .size) (numbersIn One (c .before .before .before .before .args .payload .now))
+held c =
+    let a = c .before .before .before .before .args in
+    let g = judged-fine (a .n) (a .size) (a .kind) Names false (a .payload .now) (sym (c .if1 .left) ∙ c .before .refusal-of .ensures) in
+    g .3 ∙ ap (column (a .kind) (a .size)) (names-held (a .size) (a .payload .now) (g .0) (g .1))
 
 returns-2 : tie.Need-returns-2
 returns-2 c =
     let a = c .before .before .before .before .before .args in
-    let e = names-column (a .n) (a .size) (a .kind) (a .payload .now) (sym (c .before .if1 .left) ∙ c .before .before .names-refusal .ensures (a .kind)) .1 in
+    let e = held (c .before) in
     let size = names-length (a .payload .now) in
     answers-small asByte (judgedValues (a .n) (a .size) (a .kind) Names false (valuesIn Names (a .payload .now))) (a .buffer .now) (a .kind) (a .size) false (numbersIn One (a .payload .now)) e (omega arith)
 
 returns-3 : tie.Need-returns-3
 returns-3 c =
     let a = c .before .before .before .before .before .before .before .before .before .before .args in
-    let e = names-column (a .n) (a .size) (a .kind) (a .payload .now) (sym (c .before .before .before .before .before .before .if1 .left) ∙ c .before .before .before .before .before .before .before .names-refusal .ensures (a .kind)) .1 in
+    let e = held (c .before .before .before .before .before .before) in
     let size = names-length (a .payload .now) in
     let b = bytes-of (a .payload .now) (λ i. omega (arith, c .before .before .before .before .before .before .before .before .before .shared-slice-known .given i)) in
     let new = c .before .before .before .copy .last .1 .0 in

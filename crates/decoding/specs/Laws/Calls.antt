@@ -1,7 +1,6 @@
 -- Laws of the decoders' answers and buffers. Assumes nothing.
 use mathlib.Core.Path.{_≡_, refl, sym, ap, ap₂, subst, _∙_}
 use mathlib.Core.Bool.{Bool, true, false, cond}
-use mathlib.Core.Option.{some}
 use mathlib.Core.List.{List, [], _∷_, _++_, append-assoc, map}
 use Prim.Native.Nat.{ℕ, suc, _+_, _-_, _<_, _≤_}
 use native.Mathlib.Omega.{arith}
@@ -13,7 +12,6 @@ use mir.Syntax.{w32}
 use mir.Val.{toZ}
 use borrow.Author.Tests.{le-leb, lt-leb}
 use Rattle.refusal.specs.Table.{bufferTooSmall}
-use Rattle.numbers.specs.BigEndian.{Bytes}
 use Rattle.codecs.specs.declared.Form.{Form}
 use Rattle.codecs.specs.Delta.{sumsIf}
 use Rattle.columns.specs.declared.Kind.{Kind}
@@ -22,8 +20,6 @@ use Rattle.columns.specs.declared.Header.{Header}
 use Rattle.columns.specs.declared.Header.the-variants as header
 use Rattle.columns.specs.Header.{headerOf}
 use Rattle.columns.specs.Decode.{Decoding, refused, column, judgedPayload, decode}
-use Rattle.payloads.specs.Held.{heldIn}
-use Rattle.payloads.specs.Laws.Held.{held-read}
 use Rattle.payloads.specs.Laws.Scan.{results-if, length-results}
 use Rattle.payloads.specs.Results.{HasRoom}
 use Rattle.decoding.specs.declared.Decoded.the-variants as decoded
@@ -95,10 +91,6 @@ module _ {B : Type 0} (g : ℤ → B) (d : Bool) (s : List ℕ) where
 
   pub wrote-as : {f h : Form} (old new : List B) → f ≡ h → Wrote g h d s old new → Wrote g f d s old new
   wrote-as {f} {h} old new e w = subst (λ (i : Form). Wrote g i d s old new) (sym e) w
-
--- what is held has room
-pub held-room : (f : Form) (s : List ℕ) (l : List ℤ) (n room : ℕ) → Bytes s → heldIn f s ≡ some l → length l ≡ n → n ≤ room → HasRoom f s room
-held-room f s l n room b e q h = (l, sym (held-read f s b) ∙ e, omega arith)
 
 -- the part of a column after its header
 pub payload-part : (s : List ℕ) → take (length s - 12) (drop 12 s) ≡ drop 12 s

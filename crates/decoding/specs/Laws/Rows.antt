@@ -12,13 +12,14 @@ use Rattle.codecs.specs.declared.Form.the-variants.{Plain, Packed, Runs, Names}
 use Rattle.columns.specs.declared.Kind.{Kind}
 use Rattle.columns.specs.declared.Kind.the-variants as kind
 use Rattle.columns.specs.declared.Wanted.{Wanted}
-use Rattle.columns.specs.declared.Wanted.the-variants.{Only, Real, Any}
+use Rattle.columns.specs.declared.Wanted.the-variants.{Only}
 use Rattle.columns.specs.declared.Parameter.{Parameter}
 use Rattle.columns.specs.declared.Parameter.the-variants.{Unused, Divisor, NameSize}
 use Rattle.columns.specs.declared.Codec.{Codec}
 use Rattle.columns.specs.declared.Codec.the-variants.{Known, Unknown}
 use Rattle.columns.specs.Table.{codecOf, kindNumber, suits, parameterOk}
 use Rattle.columns.specs.Laws.Table.{Passes, every-codec}
+use Rattle.columns.specs.Laws.Rows.{same-kind}
 use Rattle.payloads.specs.Items.{isNames}
 
 -- whether a parameter is the size of names
@@ -38,12 +39,6 @@ stringRow (Known k f d p) = Bool·beq (isStrings k) (isNames f) && (not (isStrin
 row-holds : (c : ℕ) → stringRow (codecOf c) ≡ true
 row-holds c = every-codec stringRow refl refl c
 
--- what is wanted goes by the kind's number
-suits-number : (w : Wanted) (j k : Kind) → kindNumber j ≡ kindNumber k → suits w j ≡ suits w k
-suits-number (Only x) j k e = ap (eqb (kindNumber x)) e
-suits-number Real j k e = ap (λ (n : ℕ). leb n 1) e
-suits-number Any j k e = refl
-
 clash : {A : Type 0} → false ≡ true → A
 clash e = let y : _≡_ {A = ℕ} 0 1 = cc in absurd (omega arith)
 
@@ -56,7 +51,7 @@ pub not-names : (w : Wanted) (s : List ℕ) (n m : ℕ) (k : Kind) (f : Form) (d
 not-names w s n m k f d h e = by (isStrings k) refl (sym (ap stringRow (h .3 .1)) ∙ row-holds (unsignedAt 4 s 0))
   where
     by : (b : Bool) → isStrings k ≡ b → (Bool·beq b (isNames f) && (not b || (not d && isNameSize (h .3 .0)))) ≡ true → isNames f ≡ false
-    by true q r = clash (sym (sym (h .2) ∙ suits-number w k kind.Strings (eqb-true (kindNumber k) 5 q) ∙ e))
+    by true q r = clash (sym (sym (h .2) ∙ ap (suits w) (same-kind k kind.Strings q) ∙ e))
     by false q r = other-form (isNames f) true r
 
 -- a header of strings has names of 1 to 255 bytes, and no delta

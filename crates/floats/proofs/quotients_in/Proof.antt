@@ -10,47 +10,45 @@ use Rattle.codecs.specs.Payload.{valuesIn}
 use Rattle.columns.specs.declared.Kind.the-variants as kind
 use Rattle.columns.specs.Decode.{judgedValues}
 use Rattle.payloads.specs.Held.{exact, allExact}
+use Rattle.payloads.specs.Laws.Judged.{Holds, scan-refused, scan-fine}
 use Rattle.floats.specs.Laws.Tests.{and-both, not-true, not-false}
 use Rattle.floats.specs.Laws.Table.{exact-names}
 use Rattle.floats.specs.Laws.Quotient.{exact-in, divisor-positive}
-use Rattle.floats.specs.Laws.Calls.{Holds, scan-refused, scan-fine, holds-exact, all-results, answer-refused, answer-inexact, answer-short, answer-count}
+use Rattle.floats.specs.Laws.Calls.{holds-exact, all-results, answer-refused, answer-inexact, answer-short, answer-count}
 use Rattle.floats.proofs.quotients_in.Statement.{statement}
 use Rattle.floats.proofs.quotients_in.Tie as tie
 
--- the column that the scan found
-held : (c : tie.After-exact)
-    → Holds (c .before .before .before .before .before .args .n) (c .before .before .before .before .before .args .m) kind.FixedPoint (c .before .before .before .before .before .args .form) (c .before .before .before .before .before .args .delta) (c .before .before .before .before .before .args .n) (c .before .before .before .before .before .args .payload .now) (exact-names (c .before .before .before .before .before .args .form) (c .before .before .before .before .before .args .delta) (c .before .before .before .before .before .pre .0)) (c .exact .given .0 .0) (c .exact .given .0 .1 .0)
-held c =
+-- the column that the scan found, and whether its cells are exact
+found : (c : tie.After-exact)
+    → (h : Holds (c .before .before .before .before .before .args .n) (c .before .before .before .before .before .args .m) kind.FixedPoint (c .before .before .before .before .before .args .form) (c .before .before .before .before .before .args .delta) (c .before .before .before .before .before .args .payload .now))
+    × (allExact (sumsIf (c .before .before .before .before .before .args .delta) (h .0)) ≡ c .exact .given .0 .0)
+found c =
     let a = c .before .before .before .before .before in
+    let k = c .exact .given .0 in
     let b = bytes-of (a .args .payload .now) (λ i. omega (arith, c .before .before .before .before .shared-slice-known .given i)) in
-    scan-fine (a .args .n) (a .args .m) kind.FixedPoint (a .args .form) (a .args .delta) (a .args .n) (a .args .payload .now) (exact-names (a .args .form) (a .args .delta) (a .pre .0)) b (c .exact .given .0 .0) (c .exact .given .0 .1 .0) (sym (c .before .before .scan .ensures) ∙ c .exact .given .1)
-
--- its cells are exact as the scan says
-cells : (c : tie.After-exact) → allExact (sumsIf (c .before .before .before .before .before .args .delta) (held c .0)) ≡ c .exact .given .0 .0
-cells c = let a = c .before .before .before .before .before in holds-exact (a .args .n) (a .args .m) kind.FixedPoint (a .args .form) (a .args .delta) (a .args .n) (a .args .payload .now) (exact-names (a .args .form) (a .args .delta) (a .pre .0)) (c .exact .given .0 .0) (c .exact .given .0 .1 .0) (held c) (a .pre .0)
+    let g = scan-fine (a .args .n) (a .args .m) kind.FixedPoint (a .args .form) (a .args .delta) (a .args .payload .now) (exact-names (a .args .form) (a .args .delta) (a .pre .0)) b (k .0) (sym (c .before .before .scan .ensures) ∙ c .exact .given .1) in
+    (g .0, holds-exact (a .args .n) (a .args .m) kind.FixedPoint (a .args .form) (a .args .delta) (a .args .payload .now) (g .0) (k .0) (g .1) (a .pre .0))
 
 -- and so are cells and divisor
-both : (c : tie.After-are-exact) → (allExact (sumsIf (c .before .before .before .before .before .before .before .args .delta) (held (c .before .before) .0)) && exact (pos (c .before .before .before .before .before .before .before .args .m))) ≡ c .are-exact .result
-both c = ap (λ (x : Bool). x && exact (pos (c .before .before .before .before .before .before .before .args .m))) (cells (c .before .before)) ∙ sym (c .are-exact .ensures)
+both : (c : tie.After-are-exact) → (allExact (sumsIf (c .before .before .before .before .before .before .before .args .delta) (found (c .before .before) .0 .0)) && exact (pos (c .before .before .before .before .before .before .before .args .m))) ≡ c .are-exact .result
+both c = ap (λ (x : Bool). x && exact (pos (c .before .before .before .before .before .before .before .args .m))) (found (c .before .before) .1) ∙ sym (c .are-exact .ensures)
 
-fine : (c : tie.Else1) → not (allExact (sumsIf (c .before .before .before .before .before .before .before .before .args .delta) (held (c .before .before .before) .0)) && exact (pos (c .before .before .before .before .before .before .before .before .args .m))) ≡ false
+fine : (c : tie.Else1) → not (allExact (sumsIf (c .before .before .before .before .before .before .before .before .args .delta) (found (c .before .before .before) .0 .0)) && exact (pos (c .before .before .before .before .before .before .before .before .args .m))) ≡ false
 fine c = ap not (both (c .before)) ∙ c .if1 .left
 
 -- each of them
-parts : (c : tie.Else1) → (allExact (sumsIf (c .before .before .before .before .before .before .before .before .args .delta) (held (c .before .before .before) .0)) ≡ true) × (exact (pos (c .before .before .before .before .before .before .before .before .args .m)) ≡ true)
+parts : (c : tie.Else1) → (allExact (sumsIf (c .before .before .before .before .before .before .before .before .args .delta) (found (c .before .before .before) .0 .0)) ≡ true) × (exact (pos (c .before .before .before .before .before .before .before .before .args .m)) ≡ true)
 parts c = and-both _ _ (both (c .before) ∙ not-false _ (c .if1 .left))
 
 returns : tie.Need-returns
 returns c =
     let a = c .before .before .before .before .before .before .before .before in
-    let k = c .before .before .before .exact .given .0 in
-    answer-inexact (a .args .n) (a .args .m) kind.FixedPoint (a .args .form) (a .args .delta) (a .args .n) (a .args .payload .now) (exact-names (a .args .form) (a .args .delta) (a .pre .0)) (k .0) (k .1 .0) (held (c .before .before .before)) (a .args .buffer .now) refl (both (c .before) ∙ not-true _ (c .if1 .taken))
+    answer-inexact (a .args .n) (a .args .m) kind.FixedPoint (a .args .form) (a .args .delta) (a .args .payload .now) (found (c .before .before .before) .0) (a .args .buffer .now) refl (both (c .before) ∙ not-true _ (c .if1 .taken))
 
 returns-2 : tie.Need-returns-2
 returns-2 c =
     let a = c .before .before .before .before .before .before .before .before .before in
-    let k = c .before .before .before .before .exact .given .0 in
-    answer-short (a .args .n) (a .args .m) kind.FixedPoint (a .args .form) (a .args .delta) (a .args .n) (a .args .payload .now) (exact-names (a .args .form) (a .args .delta) (a .pre .0)) (k .0) (k .1 .0) (held (c .before .before .before .before)) (a .args .buffer .now) (fine (c .before)) (c .if2 .taken)
+    answer-short (a .args .n) (a .args .m) kind.FixedPoint (a .args .form) (a .args .delta) (a .args .payload .now) (found (c .before .before .before .before) .0) (a .args .buffer .now) (fine (c .before)) (c .if2 .taken)
 
 int-to-float-put-quotients : tie.Need-int-to-float-put-quotients
 int-to-float-put-quotients c = exact-in (pos (c .before .before .before .before .before .before .before .before .before .before .args .m)) (parts (c .before .before) .1)
@@ -58,10 +56,10 @@ int-to-float-put-quotients c = exact-in (pos (c .before .before .before .before 
 put-quotients-requires : tie.Need-put-quotients-requires
 put-quotients-requires c κs =
     let a = c .before .before .before .before .before .before .before .before .before .before .before in
-    let h = held (c .before .before .before .before .before .before) in (
+    let h = found (c .before .before .before .before .before .before) .0 in (
       (
         (h .0, h .1, omega (arith, h .2)),
-        all-results (a .args .n) (a .args .m) kind.FixedPoint (a .args .form) (a .args .delta) (a .args .n) (a .args .payload .now) (exact-names (a .args .form) (a .args .delta) (a .pre .0)) (c .before .before .before .before .before .before .exact .given .0 .0) (c .before .before .before .before .before .before .exact .given .0 .1 .0) h (parts (c .before .before .before) .0),
+        all-results (a .args .n) (a .args .m) kind.FixedPoint (a .args .form) (a .args .delta) (a .args .payload .now) h (parts (c .before .before .before) .0),
         divisor-positive (a .args .m) (parts (c .before .before .before) .1) (a .pre .1),
       ),
       ((h .0, h .1, h .2), c .before .before .if2 .left, a .pre .0),
@@ -71,13 +69,12 @@ returns-3 : tie.Need-returns-3
 returns-3 c =
     let a = c .before .before .before .before .before .before in
     answer-refused (judgedValues (a .args .n) (a .args .m) kind.FixedPoint (a .args .form) (a .args .delta) (valuesIn (a .args .form) (a .args .payload .now))) (c .before .r .given .0 .0) (a .args .buffer .now)
-    (scan-refused (a .args .n) (a .args .m) kind.FixedPoint (a .args .form) (a .args .delta) (a .args .n) (a .args .payload .now) (exact-names (a .args .form) (a .args .delta) (a .pre .0)) (c .before .r .given .0 .0) (sym (c .before .before .before .scan .ensures) ∙ c .before .r .given .1))
+    (scan-refused (a .args .n) (a .args .m) kind.FixedPoint (a .args .form) (a .args .delta) (a .args .payload .now) (c .before .r .given .0 .0) (sym (c .before .before .before .scan .ensures) ∙ c .before .r .given .1))
 
 returns-4 : tie.Need-returns-4
 returns-4 c =
     let a = c .before .before .before .before .before .before .before .before .before .before .before .before .before .before in
-    let k = c .before .before .before .before .before .before .before .before .before .exact .given .0 in
-    answer-count (a .args .n) (a .args .m) kind.FixedPoint (a .args .form) (a .args .delta) (a .args .n) (a .args .payload .now) (exact-names (a .args .form) (a .args .delta) (a .pre .0)) (k .0) (k .1 .0) (held (c .before .before .before .before .before .before .before .before .before)) (a .args .buffer .now) (fine (c .before .before .before .before .before .before)) (c .before .before .put-quotients .last .1 .1 .1 .1 .1 .0) (c .before .before .before .before .before .if2 .left) (c .before .before .put-quotients .ensures)
+    answer-count (a .args .n) (a .args .m) kind.FixedPoint (a .args .form) (a .args .delta) (a .args .payload .now) (found (c .before .before .before .before .before .before .before .before .before) .0) (a .args .buffer .now) (fine (c .before .before .before .before .before .before)) (c .before .before .put-quotients .last .1 .1 .1 .1 .1 .0) (c .before .before .before .before .before .if2 .left) (c .before .before .put-quotients .ensures)
 
 pub quotients-in-spec : {M : Type 1} → statement M
 quotients-in-spec =

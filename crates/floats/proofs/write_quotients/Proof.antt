@@ -1,5 +1,5 @@
 -- The quotients of the results before the place stand at the buffer's start (`written-run`); where the reading ends, all do.
-use mathlib.Core.Path.{subst, _∙_}
+use mathlib.Core.Path.{_∙_}
 use Prim.Native.Nat.{_-_, _≤_}
 use native.Mathlib.Omega.{arith}
 use lib.ListN.{length, drop}
@@ -7,10 +7,10 @@ use mir.Syntax.{w32}
 use mir.Val.{toZ, ofZ}
 use mir.Facts.{toZ-ofZ}
 use borrow.Author.Needs.{needs}
-use Rattle.payloads.specs.declared.Item.{Item}
 use Rattle.payloads.specs.declared.Item.the-variants.{Run}
-use Rattle.payloads.specs.Items.{readIn, Gives}
+use Rattle.payloads.specs.Items.{readIn}
 use Rattle.payloads.specs.Results.{HasRoom}
+use Rattle.payloads.specs.Laws.Items.{Gives, item-read}
 use Rattle.payloads.specs.Laws.Writing.{Written, written-start, written-length, written-room, written-run, written-end, written-wrong}
 use Rattle.floats.specs.Calls.{bitsBy}
 use Rattle.floats.specs.Laws.Calls.{written-exact}
@@ -32,7 +32,7 @@ loop-holds c =
 -- the run that was read
 read : (c : tie.After-value Inv-loop μ-loop)
     → Gives (c .before .before .before .before .before .before .args .form) (c .before .before .before .before .before .before .args .payload .now) (c .before .before .before .loop .at) (Run (c .value .given .0 .0) (c .value .given .0 .1 .0) (c .value .given .0 .1 .1 .0))
-read c = subst (λ (i : Item). Gives (c .before .before .before .before .before .before .args .form) (c .before .before .before .before .before .before .args .payload .now) (c .before .before .before .loop .at) i) (c .value .given .1) (c .before .before .item-at .ensures)
+read c = item-read (c .before .before .before .before .before .before .args .form) (c .before .before .before .before .before .before .args .payload .now) (c .before .before .before .loop .at) (c .before .before .item-at .ensures) (c .value .given .1)
 
 fill-quotients-requires : tie.Need-fill-quotients-requires Inv-loop μ-loop
 fill-quotients-requires c κs =
@@ -42,8 +42,8 @@ fill-quotients-requires c κs =
     let w = p .inv .1 (a .pre .0) in
     let g = read (c .before .before) in
     let v = toZ-ofZ {w = w32} {z = k .0} (record { sfits = c .before .known-told .given .0 .1 }) in (
-      written-room (bitsBy (a .args .divisor)) (a .args .form) (a .args .delta) (a .args .payload .now) (a .args .buffer .now) (a .pre .0) (readIn (a .args .form) (drop (p .at) (a .args .payload .now))) (p .o) (p .buffer) (toZ w32 (p .sum)) w (k .0) (k .1 .0) (readIn (a .args .form) (drop (k .1 .1 .0) (a .args .payload .now))) (g .4),
-      rw v (written-exact (a .args .form) (a .args .delta) (a .args .payload .now) (p .at) (k .1 .1 .0) (k .1 .0) (w .0) (a .pre .0 .0) (toZ w32 (p .sum)) (k .0) (a .pre .1) (a .pre .0 .1) (w .1) (w .3) (g .4)),
+      written-room (bitsBy (a .args .divisor)) (a .args .form) (a .args .delta) (a .args .payload .now) (a .args .buffer .now) (a .pre .0) (readIn (a .args .form) (drop (p .at) (a .args .payload .now))) (p .o) (p .buffer) (toZ w32 (p .sum)) w (k .0) (k .1 .0) (readIn (a .args .form) (drop (k .1 .1 .0) (a .args .payload .now))) (g .3),
+      rw v (written-exact (a .args .form) (a .args .delta) (a .args .payload .now) (p .at) (k .1 .1 .0) (k .1 .0) (w .0) (a .pre .0 .0) (toZ w32 (p .sum)) (k .0) (a .pre .1) (a .pre .0 .1) (w .1) (w .3) (g .3)),
       a .pre .2,
     )
 
@@ -52,7 +52,7 @@ add-o c =
     let a = c .before .before .before .before .before .before .before .before .before .before .before in
     let p = c .before .before .before .before .before .before .before .before .loop in
     let k = c .before .before .before .before .before .value .given .0 in
-    let r = written-room (bitsBy (a .args .divisor)) (a .args .form) (a .args .delta) (a .args .payload .now) (a .args .buffer .now) (a .pre .0) (readIn (a .args .form) (drop (p .at) (a .args .payload .now))) (p .o) (p .buffer) (toZ w32 (p .sum)) (p .inv .1 (a .pre .0)) (k .0) (k .1 .0) (readIn (a .args .form) (drop (k .1 .1 .0) (a .args .payload .now))) (read (c .before .before .before .before .before) .4) in
+    let r = written-room (bitsBy (a .args .divisor)) (a .args .form) (a .args .delta) (a .args .payload .now) (a .args .buffer .now) (a .pre .0) (readIn (a .args .form) (drop (p .at) (a .args .payload .now))) (p .o) (p .buffer) (toZ w32 (p .sum)) (p .inv .1 (a .pre .0)) (k .0) (k .1 .0) (readIn (a .args .form) (drop (k .1 .1 .0) (a .args .payload .now))) (read (c .before .before .before .before .before) .3) in
     let l = written-length (bitsBy (a .args .divisor)) (a .args .form) (a .args .delta) (a .args .payload .now) (a .args .buffer .now) (a .pre .0) (readIn (a .args .form) (drop (p .at) (a .args .payload .now))) (p .o) (p .buffer) (toZ w32 (p .sum)) (p .inv .1 (a .pre .0)) in
     record { fits = omega arith }
 
@@ -69,7 +69,7 @@ loop-again c =
     let x = toZ-ofZ {w = w32} {z = c .before .before .fill-quotients .result} (record { sfits = c .before .before .fill-quotients .ok }) in
     let f = c .before .before .fill-quotients .ensures in (
       g .1,
-      (λ room. written-run (bitsBy (a .args .divisor)) (a .args .form) (a .args .delta) (a .args .payload .now) (a .args .buffer .now) room (readIn (a .args .form) (drop (p .at) (a .args .payload .now))) (p .o) (p .buffer) (toZ w32 (p .sum)) (p .inv .1 room) (k .0) (k .1 .0) (readIn (a .args .form) (drop (k .1 .1 .0) (a .args .payload .now))) (g .4) (c .before .before .fill-quotients .last .0) (toZ w32 (ofZ w32 (c .before .before .fill-quotients .result))) (rw v at (f .0), x ∙ (rw v at (f .1)))),
+      (λ room. written-run (bitsBy (a .args .divisor)) (a .args .form) (a .args .delta) (a .args .payload .now) (a .args .buffer .now) room (readIn (a .args .form) (drop (p .at) (a .args .payload .now))) (p .o) (p .buffer) (toZ w32 (p .sum)) (p .inv .1 room) (k .0) (k .1 .0) (readIn (a .args .form) (drop (k .1 .1 .0) (a .args .payload .now))) (g .3) (c .before .before .fill-quotients .last .0) (toZ w32 (ofZ w32 (c .before .before .fill-quotients .result))) (rw v at (f .0), x ∙ (rw v at (f .1)))),
     )
 
 same-length : tie.Need-same-length Inv-loop μ-loop
@@ -89,14 +89,14 @@ returns c =
     let a = c .before .before .before .before .before .before in
     let p = c .before .before .before .loop in
     written-wrong (bitsBy (a .args .divisor)) (a .args .form) (a .args .delta) (a .args .payload .now) (a .args .buffer .now) (a .pre .0) (readIn (a .args .form) (drop (p .at) (a .args .payload .now))) (p .o) (p .buffer) (toZ w32 (p .sum)) (p .inv .1 (a .pre .0))
-    (subst (λ (i : Item). Gives (a .args .form) (a .args .payload .now) (p .at) i) (c .enum-told .given .1) (c .before .before .item-at .ensures))
+    (item-read (a .args .form) (a .args .payload .now) (p .at) (c .before .before .item-at .ensures) (c .enum-told .given .1))
 
 returns-2 : tie.Need-returns-2 Inv-loop μ-loop
 returns-2 c =
     let a = c .before .before .before .before .before .before in
     let p = c .before .before .before .loop in
     written-end (bitsBy (a .args .divisor)) (a .args .form) (a .args .delta) (a .args .payload .now) (a .args .buffer .now) (a .pre .0) (readIn (a .args .form) (drop (p .at) (a .args .payload .now))) (p .o) (p .buffer) (toZ w32 (p .sum)) (p .inv .1 (a .pre .0))
-    (subst (λ (i : Item). Gives (a .args .form) (a .args .payload .now) (p .at) i) (c .enum-told2 .given .1) (c .before .before .item-at .ensures))
+    (item-read (a .args .form) (a .args .payload .now) (p .at) (c .before .before .item-at .ensures) (c .enum-told2 .given .1))
 
 pub write-quotients-spec : {M : Type 1} → statement M
 write-quotients-spec =

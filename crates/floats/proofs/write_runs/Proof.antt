@@ -101,7 +101,7 @@ returns : tie.Need-returns Inv-loop μ-loop
 returns c =
     let a = c .before .before .before .before in
     let p = c .before .loop in
-    begun-end (bitsBy (a .args .divisor)) (Runs (a .args .range)) (a .args .payload .now) (a .args .buffer .now) (a .args .n) (a .pre .0) (a .pre .1) (p .at) (p .o) (p .buffer) (p .inv .1 (a .args .range) (a .pre .0) (a .pre .1)) (runs-end (a .args .range) (a .args .payload .now) (p .at) (p .inv .0) (omega arith))
+    begun-end (bitsBy (a .args .divisor)) (Runs (a .args .range)) (a .args .payload .now) (a .args .buffer .now) (a .args .n) (a .pre .0) (a .pre .1) (p .at) (p .o) (p .buffer) (p .inv .1 (a .args .range) (a .pre .0) (a .pre .1)) (runs-end (a .args .range) (a .args .payload .now) (p .at) (omega arith))
 
 pub write-runs-spec : {M : Type 1} → statement M
 write-runs-spec =

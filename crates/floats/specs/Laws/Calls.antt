@@ -5,53 +5,30 @@ use mathlib.Core.Option.{Option, none, some, Option·map}
 use mathlib.Core.List.{List, _++_, map}
 use Prim.Native.Nat.{ℕ, _+_, _-_, _<_, _≤_}
 use native.Mathlib.Omega.{arith}
-use lib.ListN.{length, take, drop, set, getD, replicate, length-drop}
+use lib.ListN.{length, take, drop, set, replicate, length-drop}
 use lib.Seq.{take-all}
 use lib.IntN.{ℤ, pos}
 use borrow.Author.Tests.{le-leb, lt-leb}
 use Rattle.refusal.specs.Table.{notExact, bufferTooSmall}
-use Rattle.numbers.specs.BigEndian.{Bytes}
 use Rattle.codecs.specs.declared.Form.{Form}
 use Rattle.codecs.specs.Delta.{sumsIf}
-use Rattle.codecs.specs.Payload.{padded, valuesIn}
+use Rattle.codecs.specs.Payload.{valuesIn}
 use Rattle.columns.specs.declared.Kind.{Kind}
-use Rattle.columns.specs.Decode.{Decoding, refused, column, judgedValues, decode}
+use Rattle.columns.specs.Decode.{Decoding, refused, judgedValues, decode}
 use Rattle.columns.specs.declared.Wanted.{Wanted}
 use Rattle.columns.specs.declared.Header.the-variants as header
 use Rattle.columns.specs.Header.{headerOf}
-use Rattle.payloads.specs.declared.Outcome.the-variants as outcome
-use Rattle.payloads.specs.Held.{heldIn, exact, allExact}
-use Rattle.payloads.specs.Scan.{judgesExact, scanOf}
-use Rattle.payloads.specs.Items.{readIn, isNames}
+use Rattle.payloads.specs.Held.{exact, allExact}
+use Rattle.payloads.specs.Scan.{judgesExact}
+use Rattle.payloads.specs.Items.{readIn}
 use Rattle.payloads.specs.Results.{resultsFrom, lastFrom, Filled}
-use Rattle.payloads.specs.Laws.Held.{held-read}
 use Rattle.payloads.specs.Laws.Scan.{results-if, length-results, results-append}
 use Rattle.payloads.specs.Laws.Writing.{filled-start, filled-next}
-use Rattle.payloads.specs.Laws.Judged.{elements-one, padded-one, judged-refused, judged-fine}
+use Rattle.payloads.specs.Laws.Judged.{Holds}
 use Rattle.floats.specs.declared.Floats.{Floats}
 use Rattle.floats.specs.declared.Floats.the-variants.{Count, Refused}
 use Rattle.floats.specs.Calls.{divides, kept, bitsOf, exactly, told, left, Wrote, ResultsExact}
 use Rattle.floats.specs.Laws.Quotient.{exact-parts}
-
--- What a scan says of a column that has no names
-
-module _ (n m : ℕ) (k : Kind) (f : Form) (d : Bool) (i : ℕ) (s : List ℕ) (names : isNames f ≡ false) where
-  pads : (l : List ℤ) → valuesIn f s ≡ some l → padded f m l ≡ true
-  pads l e = padded-one f m l names
-
-  pub scan-refused : (r : ℕ) → scanOf f d n i (heldIn f s) ≡ outcome.Refused r → judgedValues n m k f d (valuesIn f s) ≡ refused r
-  scan-refused r e = judged-refused n m k f d i s pads r (rw (elements-one f n m names) e)
-
-  -- a column that decodes to l, of which x stands at i
-  abbrev pub Holds : Bool → ℤ → Type 0
-  Holds e x =
-      (l : List ℤ) × (readIn f s ≡ some l) × (length l ≡ n) × (judgedValues n m k f d (valuesIn f s) ≡ column k m (sumsIf d l))
-      × (e ≡ (judgesExact f d && allExact (sumsIf d l))) × (x ≡ getD (sumsIf d l) i (pos 0))
-
-  pub scan-fine : Bytes s → (e : Bool) (x : ℤ) → scanOf f d n i (heldIn f s) ≡ outcome.Fine e x → Holds e x
-  scan-fine b e x q =
-      let w = judged-fine n m k f d i s pads e x (rw (elements-one f n m names) q) in
-      (w .0, sym (held-read f s b) ∙ w .1, w .2 ∙ elements-one f n m names, w .3, w .4, w .5)
 
 -- Exact results
 
@@ -83,13 +60,13 @@ Answers x r old new = (r ≡ told (exactly x) (length old)) × (new ≡ left (ex
 pub answer-refused : (x : Decoding) (r : ℕ) (old : List ℕ) → x ≡ refused r → Answers x (Refused r) old old
 answer-refused x r old e = rw e (refl, refl)
 
-module _ (n m : ℕ) (k : Kind) (f : Form) (d : Bool) (i : ℕ) (s : List ℕ) (names : isNames f ≡ false) (e : Bool) (x : ℤ) (h : Holds n m k f d i s names e x) where
+module _ (n m : ℕ) (k : Kind) (f : Form) (d : Bool) (s : List ℕ) (h : Holds n m k f d s) where
   pub holds-length : length (sumsIf d (h .0)) ≡ n
   holds-length = ap length (results-if d (h .0)) ∙ length-results d (pos 0) (h .0) ∙ h .2
 
   -- a form that is judged says whether the cells are exact
-  pub holds-exact : judgesExact f d ≡ true → allExact (sumsIf d (h .0)) ≡ e
-  holds-exact j = sym (h .4 ∙ ap (λ (t : Bool). t && allExact (sumsIf d (h .0))) j)
+  pub holds-exact : (e : Bool) → e ≡ (judgesExact f d && allExact (sumsIf d (h .0))) → judgesExact f d ≡ true → allExact (sumsIf d (h .0)) ≡ e
+  holds-exact e q j = sym (q ∙ ap (λ (t : Bool). t && allExact (sumsIf d (h .0))) j)
 
   pub all-results : allExact (sumsIf d (h .0)) ≡ true → ResultsExact f d s
   all-results a l q = let z : h .0 ≡ l = cc in ap (λ (t : List ℤ). allExact (sumsIf d t)) (sym z) ∙ a

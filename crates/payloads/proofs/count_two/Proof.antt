@@ -18,7 +18,7 @@ use Rattle.payloads.proofs.count_two.Statement.{statement}
 use Rattle.payloads.proofs.count_two.Tie as tie
 
 returns : tie.Need-returns
-returns c = let a = c .before .before .before .before .before .args in c .refusal-in .ensures ∙ ap told (c .before .scan-packed .ensures) ∙ told-scan (Packed Two) false (a .length) (a .length) (readIn (Packed Two) (a .payload .now))
+returns c = let a = c .before .before .before .before .before .args in c .refusal-in .ensures ∙ ap told (c .before .scan-packed .ensures) ∙ told-scan (Packed Two) false (a .length) (readIn (Packed Two) (a .payload .now))
 
 bytes : (c : tie.After-ends-at-limit) → Bytes (c .before .before .before .before .args .payload .now)
 bytes c = bytes-of (c .before .before .before .before .args .payload .now) (λ j. omega (arith, c .before .before .before .shared-slice-known .given j))

@@ -11,20 +11,21 @@ use mir.Facts.{toZ-ofZ}
 use borrow.Author.Needs.{needs}
 use Rattle.numbers.specs.BigEndian.{signedAt}
 use Rattle.codecs.specs.Payload.{inRange}
-use Rattle.payloads.specs.Laws.Items.{count-bits, runs-many, runs-end, runs-count, runs-run, runs-wrong}
+use Rattle.payloads.specs.Laws.Items.{count-bits, run-short, run-item}
 use Rattle.payloads.proofs.run_item.Statement.{statement}
 use Rattle.payloads.proofs.run_item.Tie as tie
 
 returns : tie.Need-returns
 returns c =
     let a = c .before .before .args in
-    runs-end (a .range) (a .payload .now) (a .at) (omega arith) (omega arith)
+    sym (run-short (a .range) (a .payload .now) (a .at) (omega arith))
 
 returns-2 : tie.Need-returns-2
 returns-2 c =
     let a = c .before .before .before .before .before .args in
     let q = toZ-ofZ {w = w32} (record { sfits = c .before .read-i322 .ok }) ∙ c .before .read-i322 .ensures in
-    runs-count (a .range) (a .payload .now) (a .at) (omega arith) (ap (λ (z : ℤ). ltZ z (pos 1)) (sym q) ∙ c .if2 .taken)
+    let t = ap (λ (z : ℤ). ltZ z (pos 1)) (sym q) ∙ c .if2 .taken in
+    sym (run-item (a .range) (a .payload .now) (a .at) (omega arith) ∙ rw t)
 
 returns-3 : tie.Need-returns-3
 returns-3 c =
@@ -35,7 +36,7 @@ returns-3 c =
     let h : inRange (a .range) (signedAt w32 (a .payload .now) (a .at)) ≡ true = ap (inRange (a .range)) (sym v) ∙ sym (c .before .before .is-in .ensures) ∙ c .before .if3 .taken in
     let b = count-bits (signedAt w32 (a .payload .now) (a .at + 4)) t in
     let m : c .to-u32 .result ≡ natAbs (signedAt w32 (a .payload .now) (a .at + 4)) = c .to-u32 .ensures ∙ ap (ofZ w32) q ∙ b .0 in
-    (omega arith, omega arith, omega (arith, b .1), runs-many (a .range) (c .to-u32 .result), rw (m, v) (runs-run (a .range) (a .payload .now) (a .at) (omega arith) t h))
+    rw (m, v) (sym (run-item (a .range) (a .payload .now) (a .at) (omega arith) ∙ rw (t, h)))
 
 returns-4 : tie.Need-returns-4
 returns-4 c =
@@ -43,7 +44,8 @@ returns-4 c =
     let q = toZ-ofZ {w = w32} (record { sfits = c .before .before .before .read-i322 .ok }) ∙ c .before .before .before .read-i322 .ensures in
     let v = toZ-ofZ {w = w32} (record { sfits = c .before .before .before .before .read-i32 .ok }) ∙ c .before .before .before .before .read-i32 .ensures in
     let t = ap (λ (z : ℤ). ltZ z (pos 1)) (sym q) ∙ c .before .before .if2 .left in
-    runs-wrong (a .range) (a .payload .now) (a .at) (omega arith) t (ap (inRange (a .range)) (sym v) ∙ sym (c .before .is-in .ensures) ∙ c .if3 .left)
+    let h = ap (inRange (a .range)) (sym v) ∙ sym (c .before .is-in .ensures) ∙ c .if3 .left in
+    sym (run-item (a .range) (a .payload .now) (a .at) (omega arith) ∙ rw (t, h))
 
 pub run-item-spec : {M : Type 1} → statement M
 run-item-spec =

@@ -14,7 +14,7 @@ use Rattle.numbers.specs.BigEndian.{Bytes}
 use Rattle.codecs.specs.declared.Size.{Size}
 use Rattle.codecs.specs.declared.Size.the-variants.{One, Two, Four}
 use Rattle.codecs.specs.declared.Range.{Range}
-use Rattle.codecs.specs.declared.Range.the-variants.{Int32}
+use Rattle.codecs.specs.declared.Range.the-variants.{Int32, Ascii}
 use Rattle.codecs.specs.declared.Form.{Form}
 use Rattle.codecs.specs.declared.Form.the-variants.{Plain, Packed, Runs, Names}
 use Rattle.codecs.specs.Width.{widthOf, upper, lower}
@@ -22,9 +22,12 @@ use Rattle.codecs.specs.Numbers.{numbersIn}
 use Rattle.codecs.specs.Fits.{Every}
 use Rattle.codecs.specs.Laws.NumbersBack.{numbersIn-fit}
 use Rattle.codecs.specs.Packing.{isLimit, in32, unpackFrom, unpack}
-use Rattle.codecs.specs.Payload.{valuesIn, inRange, allIn, rangeOf}
-use Rattle.payloads.specs.Held.{within, heldIn, exact, allExact}
-use Rattle.payloads.specs.Items.{readIn}
+use Rattle.columns.specs.Table.{elements}
+use Rattle.codecs.specs.Payload.{valuesIn, inRange, allIn, rangeOf, padded, allowed}
+use Rattle.codecs.specs.RunLength.{expand}
+use Rattle.codecs.specs.Laws.Allowed.{and-true}
+use Rattle.payloads.specs.Held.{only, heldIn, exact, allExact}
+use Rattle.payloads.specs.Items.{within, readIn, isNames}
 
 -- Ranges of widths
 
@@ -70,17 +73,38 @@ unpacked-in p q sum begun (x ∷ xs) l e =
         let i = done t k in
         ap (allIn Int32) (sym z) ∙ rw (in-int32 (sum +ℤ x) (ltb-true (mag (sum +ℤ x)) 2147483648 a), i)
 
-within-all : (r : Range) (o : Option (List ℤ)) → ((l : List ℤ) → o ≡ some l → allIn r l ≡ true) → within r o ≡ o
-within-all r none h = refl
-within-all r (some l) h = rw (h l refl)
+only-all : (f : Form) (m : ℕ) (o : Option (List ℤ)) → ((l : List ℤ) → o ≡ some l → allowed f m l ≡ true) → only f m o ≡ o
+only-all f m none h = refl
+only-all f m (some l) h = rw (h l refl)
 
--- what is read is what is held
-pub held-read : (f : Form) (s : List ℕ) → Bytes s → heldIn f s ≡ readIn f s
+-- forms other than names keep nothing but the range
+only-range : (r : Range) (m : ℕ) (o : Option (List ℤ)) → only (Runs r) m o ≡ within r o
+only-range r m none = refl
+only-range r m (some l) = ap (λ (t : Bool). cond t (some l) none) (and-true (allIn r l))
+
+-- what is held is what is read
+pub held-read : (f : Form) (m : ℕ) (s : List ℕ) → Bytes s → isNames f ≡ false → heldIn f m s ≡ readIn f s
 unfolding heldIn readIn valuesIn
-held-read (Plain z) s b = within-all (rangeOf (Plain z)) (some (numbersIn z s)) (λ l e. let q : numbersIn z s ≡ l = cc in ap (allIn (rangeOf (Plain z))) (sym q) ∙ every-in (rangeOf (Plain z)) (SFits (widthOf z)) (fits-in z) (numbersIn z s) (numbersIn-fit z s b))
-held-read (Packed z) s b = within-all Int32 (unpack z (numbersIn z s)) (λ l e. unpacked-in (upper z) (lower z) (pos 0) false (numbersIn z s) l e)
-held-read (Runs r) s b = refl
-held-read Names s b = refl
+held-read (Plain z) m s b h =
+    only-all (Plain z) m (some (numbersIn z s))
+    (λ l e. let q : numbersIn z s ≡ l = cc in and-true (allIn (rangeOf (Plain z)) l) ∙ ap (allIn (rangeOf (Plain z))) (sym q) ∙ every-in (rangeOf (Plain z)) (SFits (widthOf z)) (fits-in z) (numbersIn z s) (numbersIn-fit z s b))
+held-read (Packed z) m s b h =
+    only-all (Packed z) m (unpack z (numbersIn z s)) (λ l e. and-true (allIn Int32 l) ∙ unpacked-in (upper z) (lower z) (pos 0) false (numbersIn z s) l e)
+held-read (Runs r) m s b h = only-range r m (expand (numbersIn Four s))
+held-read Names m s b h = let y : _≡_ {A = ℕ} 0 1 = cc in absurd (omega arith)
+
+-- and of names it is the same where they are padded
+pub held-some : (f : Form) (m : ℕ) (s : List ℕ) (l : List ℤ) → Bytes s → heldIn f m s ≡ some l → readIn f s ≡ some l
+unfolding heldIn readIn valuesIn
+held-some (Plain z) m s l b e = sym (held-read (Plain z) m s b refl) ∙ e
+held-some (Packed z) m s l b e = sym (held-read (Packed z) m s b refl) ∙ e
+held-some (Runs r) m s l b e = sym (held-read (Runs r) m s b refl) ∙ e
+held-some Names m s l b e = by (allIn Ascii (numbersIn One s)) (padded Names m (numbersIn One s)) e
+  where
+    by : (t u : Bool) → cond (t && u) (some (numbersIn One s)) none ≡ some l → cond t (some (numbersIn One s)) none ≡ some l
+    by true true q = q
+    by true false q = let y : _≡_ {A = ℕ} 0 1 = cc in absurd (omega arith)
+    by false u q = q
 
 -- Plain numbers of one and two bytes are exact
 
@@ -101,3 +125,12 @@ exact-below (negsuc n) e = lt-leb (suc n) 16777216 (omega (arith, ltb-true 16777
 pub exact-above : (z : ℤ) → ltZ z (negsuc 16777215) ≡ false → exact z ≡ leZ z (pos 16777216)
 exact-above (pos n) e = refl
 exact-above (negsuc n) e = le-leb (suc n) 16777216 (omega (arith, ltb-false 16777215 n e))
+
+-- Elements
+
+-- other forms than names have one element for each result
+pub elements-one : (f : Form) (n m : ℕ) → isNames f ≡ false → elements f n m ≡ n
+elements-one (Plain z) n m e = refl
+elements-one (Packed z) n m e = refl
+elements-one (Runs r) n m e = refl
+elements-one Names n m e = let y : _≡_ {A = ℕ} 0 1 = cc in absurd (omega arith)

@@ -1,98 +1,112 @@
--- Laws that join a scan's answer to what a column decodes to. Assumes nothing.
+-- Laws that join the answer for a payload to what a column decodes to. Assumes nothing.
 use mathlib.Core.Path.{_≡_, refl, sym, ap, _∙_}
 use mathlib.Core.Bool.{Bool, true, false, cond, _&&_}
 use mathlib.Core.Option.{Option, none, some}
 use mathlib.Core.List.{List}
 use Prim.Native.Nat.{ℕ}
 use native.Mathlib.Omega.{arith}
-use lib.ListN.{length, getD}
-use lib.IntN.{ℤ, pos}
+use lib.ListN.{length}
+use lib.IntN.{ℤ}
 use lib.Dec.{eqb}
 use borrow.Author.Tests.{eqb-true}
 use Rattle.refusal.specs.Table.{numberNotAllowed, lengthDiffers}
+use Rattle.numbers.specs.BigEndian.{Bytes}
 use Rattle.codecs.specs.declared.Form.{Form}
-use Rattle.codecs.specs.declared.Form.the-variants.{Plain, Packed, Runs, Names}
 use Rattle.codecs.specs.Delta.{sumsIf}
-use Rattle.codecs.specs.Payload.{valuesIn, allIn, rangeOf, padded}
+use Rattle.codecs.specs.Payload.{valuesIn, allowed}
 use Rattle.columns.specs.declared.Kind.{Kind}
 use Rattle.columns.specs.Table.{elements}
-use Rattle.columns.specs.Decode.{refused, column, judgedValues}
-use Rattle.payloads.specs.declared.Outcome.{Outcome}
+use Rattle.columns.specs.Decode.{Decoding, refused, column, judgedValues}
 use Rattle.payloads.specs.declared.Outcome.the-variants.{Fine, Refused}
-use Rattle.payloads.specs.Held.{within, heldIn, allExact}
-use Rattle.payloads.specs.Scan.{judgesExact, scanOf}
-use Rattle.payloads.specs.Items.{isNames}
+use Rattle.payloads.specs.Held.{only, heldIn, allExact}
+use Rattle.payloads.specs.Scan.{judgesExact, scanOf, refusalOf}
+use Rattle.payloads.specs.Items.{readIn, isNames}
+use Rattle.payloads.specs.Laws.Held.{held-read, held-some, elements-one}
 
--- other forms than names have one element for each result, and nothing to pad
-pub elements-one : (f : Form) (n m : ℕ) → isNames f ≡ false → elements f n m ≡ n
-elements-one (Plain z) n m e = refl
-elements-one (Packed z) n m e = refl
-elements-one (Runs r) n m e = refl
-elements-one Names n m e = let y : _≡_ {A = ℕ} 0 1 = cc in absurd (omega arith)
+-- what values that are held decode to: c are stated
+abbrev pub judgedBy : ℕ → ℕ → Kind → Bool → Option (List ℤ) → Decoding
+judgedBy c m k d none = refused numberNotAllowed
+judgedBy c m k d (some l) = cond (eqb (length l) c) (column k m (sumsIf d l)) (refused lengthDiffers)
 
-pub padded-one : (f : Form) (m : ℕ) (l : List ℤ) → isNames f ≡ false → padded f m l ≡ true
-padded-one (Plain z) m l e = refl
-padded-one (Packed z) m l e = refl
-padded-one (Runs r) m l e = refl
-padded-one Names m l e = let y : _≡_ {A = ℕ} 0 1 = cc in absurd (omega arith)
-
-module _ (n m : ℕ) (k : Kind) (f : Form) (d : Bool) (i : ℕ) (s : List ℕ) (pads : (l : List ℤ) → valuesIn f s ≡ some l → padded f m l ≡ true) where
-  refused-by : (l : List ℤ) → padded f m l ≡ true → (r : ℕ) (t : Bool) → allIn (rangeOf f) l ≡ t → (u : Bool) → eqb (length l) (elements f n m) ≡ u
-      → scanOf f d (elements f n m) i (cond t (some l) none) ≡ Refused r → judgedValues n m k f d (some l) ≡ refused r
-  refused-by l p r false a u b q = let z : numberNotAllowed ≡ r = cc in rw a (ap refused z)
-  refused-by l p r true a true b q = let z : _≡_ {A = Outcome} (Fine (judgesExact f d && allExact (sumsIf d l)) (getD (sumsIf d l) i (pos 0))) (Refused r) = rw b at q in let y : _≡_ {A = ℕ} 0 1 = cc in absurd (omega arith)
-  refused-by l p r true a false b q = let z : _≡_ {A = Outcome} (Refused lengthDiffers) (Refused r) = rw b at q in let y : lengthDiffers ≡ r = cc in rw (a, p, b) (ap refused y)
-
-  pub judged-refused : (r : ℕ) → scanOf f d (elements f n m) i (heldIn f s) ≡ Refused r → judgedValues n m k f d (valuesIn f s) ≡ refused r
+module _ (n m : ℕ) (k : Kind) (f : Form) (d : Bool) (s : List ℕ) where
+  pub judged-is : judgedValues n m k f d (valuesIn f s) ≡ judgedBy (elements f n m) m k d (heldIn f m s)
   unfolding heldIn
-  judged-refused r = by (valuesIn f s) refl
+  judged-is = by (valuesIn f s)
     where
-      by : (o : Option (List ℤ)) → valuesIn f s ≡ o → scanOf f d (elements f n m) i (within (rangeOf f) o) ≡ Refused r → judgedValues n m k f d o ≡ refused r
-      by none e q = let z : numberNotAllowed ≡ r = cc in ap refused z
-      by (some l) e q = refused-by l (pads l e) r (allIn (rangeOf f) l) refl (eqb (length l) (elements f n m)) refl q
+      tested : (l : List ℤ) (t : Bool) → cond t (judgedBy (elements f n m) m k d (some l)) (refused numberNotAllowed) ≡ judgedBy (elements f n m) m k d (cond t (some l) none)
+      tested l true = refl
+      tested l false = refl
 
-  -- a column that decodes, with what the scan says of it
-  abbrev pub Decodes : Bool → ℤ → Type 0
-  Decodes e x =
-      (l : List ℤ) × (heldIn f s ≡ some l) × (length l ≡ elements f n m) × (judgedValues n m k f d (valuesIn f s) ≡ column k m (sumsIf d l))
-      × (e ≡ (judgesExact f d && allExact (sumsIf d l))) × (x ≡ getD (sumsIf d l) i (pos 0))
+      by : (o : Option (List ℤ)) → judgedValues n m k f d o ≡ judgedBy (elements f n m) m k d (only f m o)
+      by none = refl
+      by (some l) = tested l (allowed f m l)
 
-  fine-by : (e : Bool) (x : ℤ) (l : List ℤ) → padded f m l ≡ true → (t : Bool) → allIn (rangeOf f) l ≡ t → (u : Bool) → eqb (length l) (elements f n m) ≡ u
-      → scanOf f d (elements f n m) i (cond t (some l) none) ≡ Fine e x
-      → (cond t (some l) none ≡ some l) × (length l ≡ elements f n m) × (judgedValues n m k f d (some l) ≡ column k m (sumsIf d l))
-      × (e ≡ (judgesExact f d && allExact (sumsIf d l))) × (x ≡ getD (sumsIf d l) i (pos 0))
-  fine-by e x l p false a u b q = let y : _≡_ {A = ℕ} 0 1 = cc in absurd (omega arith)
-  fine-by e x l p true a false b q = let z : _≡_ {A = Outcome} (Refused lengthDiffers) (Fine e x) = rw b at q in let y : _≡_ {A = ℕ} 0 1 = cc in absurd (omega arith)
-  fine-by e x l p true a true b q =
-      let z : _≡_ {A = Outcome} (Fine (judgesExact f d && allExact (sumsIf d l)) (getD (sumsIf d l) i (pos 0))) (Fine e x) = rw b at q in
-      let y : (judgesExact f d && allExact (sumsIf d l)) ≡ e = cc in
-      let v : getD (sumsIf d l) i (pos 0) ≡ x = cc in
-      (refl, eqb-true (length l) (elements f n m) b, rw (a, p, b), sym y, sym v)
-
-  pub judged-fine : (e : Bool) (x : ℤ) → scanOf f d (elements f n m) i (heldIn f s) ≡ Fine e x → Decodes e x
-  unfolding heldIn
-  judged-fine e x = by (valuesIn f s) refl
+  -- a payload that is refused
+  pub judged-refused : (r : ℕ) → r ≡ refusalOf (elements f n m) (heldIn f m s) → (r ≡ 0 → ⊥) → judgedValues n m k f d (valuesIn f s) ≡ refused r
+  judged-refused r e h = judged-is ∙ by (heldIn f m s) e
     where
-      by : (o : Option (List ℤ)) → valuesIn f s ≡ o → scanOf f d (elements f n m) i (within (rangeOf f) o) ≡ Fine e x
-          → (l : List ℤ) × (within (rangeOf f) o ≡ some l) × (length l ≡ elements f n m) × (judgedValues n m k f d o ≡ column k m (sumsIf d l))
-          × (e ≡ (judgesExact f d && allExact (sumsIf d l))) × (x ≡ getD (sumsIf d l) i (pos 0))
-      by none v q = let y : _≡_ {A = ℕ} 0 1 = cc in absurd (omega arith)
-      by (some l) v q = let w = fine-by e x l (pads l v) (allIn (rangeOf f) l) refl (eqb (length l) (elements f n m)) refl q in (l, w .0, w .1, w .2, w .3, w .4)
+      tested : (l : List ℤ) (t : Bool) → r ≡ cond t 0 lengthDiffers → cond t (column k m (sumsIf d l)) (refused lengthDiffers) ≡ refused r
+      tested l true q = absurd (h q)
+      tested l false q = ap refused (sym q)
 
--- the same for other forms than names
-module _ (n m : ℕ) (k : Kind) (f : Form) (d : Bool) (i : ℕ) (s : List ℕ) (other : isNames f ≡ false) where
-  pads-one : (l : List ℤ) → valuesIn f s ≡ some l → padded f m l ≡ true
-  pads-one l e = padded-one f m l other
+      by : (o : Option (List ℤ)) → r ≡ refusalOf (elements f n m) o → judgedBy (elements f n m) m k d o ≡ refused r
+      by none q = ap refused (sym q)
+      by (some l) q = tested l (eqb (length l) (elements f n m)) q
 
-  counted : scanOf f d (elements f n m) i (heldIn f s) ≡ scanOf f d n i (heldIn f s)
-  counted = ap (λ (c : ℕ). scanOf f d c i (heldIn f s)) (elements-one f n m other)
+  -- one that is not holds the values of a column
+  pub judged-fine : 0 ≡ refusalOf (elements f n m) (heldIn f m s)
+      → (l : List ℤ) × (heldIn f m s ≡ some l) × (length l ≡ elements f n m) × (judgedValues n m k f d (valuesIn f s) ≡ column k m (sumsIf d l))
+  judged-fine e = by (heldIn f m s) refl e
+    where
+      tested : (l : List ℤ) (t : Bool) → eqb (length l) (elements f n m) ≡ t → 0 ≡ cond t 0 lengthDiffers
+          → (length l ≡ elements f n m) × (judgedBy (elements f n m) m k d (some l) ≡ column k m (sumsIf d l))
+      tested l true a q = (eqb-true (length l) (elements f n m) a, rw a)
+      tested l false a q = absurd (omega arith)
 
-  pub refused-one : (r : ℕ) → scanOf f d n i (heldIn f s) ≡ Refused r → judgedValues n m k f d (valuesIn f s) ≡ refused r
-  refused-one r q = judged-refused n m k f d i s pads-one r (counted ∙ q)
+      by : (o : Option (List ℤ)) → heldIn f m s ≡ o → 0 ≡ refusalOf (elements f n m) o
+          → (l : List ℤ) × (heldIn f m s ≡ some l) × (length l ≡ elements f n m) × (judgedValues n m k f d (valuesIn f s) ≡ column k m (sumsIf d l))
+      by none a q = absurd (omega arith)
+      by (some l) a q = let w = tested l (eqb (length l) (elements f n m)) refl q in (l, a, w .0, judged-is ∙ ap (judgedBy (elements f n m) m k d) a ∙ w .1)
 
-  pub fine-one : (e : Bool) (x : ℤ) → scanOf f d n i (heldIn f s) ≡ Fine e x
-      → (l : List ℤ) × (heldIn f s ≡ some l) × (length l ≡ n) × (judgedValues n m k f d (valuesIn f s) ≡ column k m (sumsIf d l))
-      × (e ≡ (judgesExact f d && allExact (sumsIf d l))) × (x ≡ getD (sumsIf d l) i (pos 0))
-  fine-one e x q =
-      let g = judged-fine n m k f d i s pads-one e x (counted ∙ q) in
-      (g .0, g .1, g .2 ∙ elements-one f n m other, g .3, g .4, g .5)
+  -- a scan that refuses, and one that does not
+  pub scan-refused : (r : ℕ) → scanOf f d (elements f n m) (heldIn f m s) ≡ Refused r → judgedValues n m k f d (valuesIn f s) ≡ refused r
+  scan-refused r e = judged-is ∙ by (heldIn f m s) e
+    where
+      tested : (l : List ℤ) (t : Bool) → cond t (Fine (judgesExact f d && allExact (sumsIf d l))) (Refused lengthDiffers) ≡ Refused r → cond t (column k m (sumsIf d l)) (refused lengthDiffers) ≡ refused r
+      tested l true q = let y : _≡_ {A = ℕ} 0 1 = cc in absurd (omega arith)
+      tested l false q = let y : lengthDiffers ≡ r = cc in ap refused y
+
+      by : (o : Option (List ℤ)) → scanOf f d (elements f n m) o ≡ Refused r → judgedBy (elements f n m) m k d o ≡ refused r
+      by none q = let y : numberNotAllowed ≡ r = cc in ap refused y
+      by (some l) q = tested l (eqb (length l) (elements f n m)) q
+
+  pub scan-accepted : (e : Bool) → scanOf f d (elements f n m) (heldIn f m s) ≡ Fine e
+      → (0 ≡ refusalOf (elements f n m) (heldIn f m s)) × ((l : List ℤ) → heldIn f m s ≡ some l → e ≡ (judgesExact f d && allExact (sumsIf d l)))
+  scan-accepted e q = by (heldIn f m s) q
+    where
+      tested : (l : List ℤ) (t : Bool) → cond t (Fine (judgesExact f d && allExact (sumsIf d l))) (Refused lengthDiffers) ≡ Fine e
+          → (0 ≡ cond t 0 lengthDiffers) × (e ≡ (judgesExact f d && allExact (sumsIf d l)))
+      tested l true a = let y : (judgesExact f d && allExact (sumsIf d l)) ≡ e = cc in (refl, sym y)
+      tested l false a = let y : _≡_ {A = ℕ} 0 1 = cc in absurd (omega arith)
+
+      by : (o : Option (List ℤ)) → scanOf f d (elements f n m) o ≡ Fine e → (0 ≡ refusalOf (elements f n m) o) × ((l : List ℤ) → o ≡ some l → e ≡ (judgesExact f d && allExact (sumsIf d l)))
+      by none a = let y : _≡_ {A = ℕ} 0 1 = cc in absurd (omega arith)
+      by (some l) a =
+          let w = tested l (eqb (length l) (elements f n m)) a in
+          (w .0, (λ x z. let y : l ≡ x = cc in w .1 ∙ ap (λ (v : List ℤ). judgesExact f d && allExact (sumsIf d v)) y))
+
+  -- the values l are read, one for each result, and the column decodes to their results
+  abbrev pub Holds : Type 0
+  Holds = (l : List ℤ) × (readIn f s ≡ some l) × (length l ≡ n) × (judgedValues n m k f d (valuesIn f s) ≡ column k m (sumsIf d l))
+
+  -- other forms than names have one value for each result
+  module _ (other : isNames f ≡ false) (bytes : Bytes s) where
+    pub read-fine : 0 ≡ refusalOf (elements f n m) (heldIn f m s) → Holds
+    read-fine e = let g = judged-fine e in (g .0, held-some f m s (g .0) bytes (g .1), g .2 ∙ elements-one f n m other, g .3)
+
+    pub judged-read : judgedValues n m k f d (valuesIn f s) ≡ judgedBy n m k d (readIn f s)
+    judged-read = judged-is ∙ ap (λ (c : ℕ). judgedBy c m k d (heldIn f m s)) (elements-one f n m other) ∙ ap (judgedBy n m k d) (held-read f m s bytes other)
+
+    -- and a scan says whether they are exact
+    pub scan-fine : (e : Bool) → scanOf f d (elements f n m) (heldIn f m s) ≡ Fine e → (h : Holds) × (e ≡ (judgesExact f d && allExact (sumsIf d (h .0))))
+    scan-fine e q = let w = scan-accepted e q in let h = read-fine (w .0) in (h, w .1 (h .0) (held-read f m s bytes other ∙ h .1))

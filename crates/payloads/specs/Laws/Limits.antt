@@ -120,7 +120,7 @@ ends-last s (suc k) f = let e : suc k - 1 ≡ k = omega arith in rw e
 -- The results, where limits are few
 
 abbrev Few : ℕ → List ℕ → ℕ → ℕ → Bool → Type 0
-Few n s at limits begun = (total : ℤ) × (ok : Bool) × Totalled false n s at limits begun total ok
+Few n s at limits begun = (total : ℤ) × (ok : Bool) × Totalled false s at limits begun total ok
 
 -- a number more
 one-more : (n : ℕ) (s : List ℕ) → Bytes s → (k m : ℕ) → m ≤ 65534 → (limits : ℕ) (begun : Bool) → 2 * suc k ≤ length s → (limits ≤ m → Few n s (2 * k) limits begun) → (t : Bool) → isLimit 32767 32768 (signedAt w16 s (2 * k)) ≡ t → limits + cond t 1 0 ≤ m → Few n s (2 * suc k) (limits + cond t 1 0) t
@@ -128,18 +128,18 @@ one-more n s b k m l limits begun h before true e f =
     let w = before (omega arith) in
     let x = signedAt w16 s (2 * k) in
     let i : 2 * suc k ≡ 2 * k + 2 = omega arith in
-    rw i (plusDelta (w .0) x, w .1, totalled-more false n n s (2 * k) limits begun (w .0) (w .1) (w .2) (omega arith) (omega arith) x (two-fits s (2 * k) b (omega arith)) refl (plusDelta (w .0) x) e refl)
+    rw i (plusDelta (w .0) x, w .1, totalled-more false n s (2 * k) limits begun (w .0) (w .1) (w .2) (omega arith) (omega arith) x (two-fits s (2 * k) b (omega arith)) refl (plusDelta (w .0) x) e refl)
 one-more n s b k m l limits begun h before false e f =
     let w = before (omega arith) in
     let x = signedAt w16 s (2 * k) in
     let i : 2 * suc k ≡ 2 * k + 2 = omega arith in
-    rw (i, add-zero limits) (_, _, totalled-done false n n s (2 * k) limits begun (w .0) (w .1) (w .2) (omega arith) (omega arith) x (two-fits s (2 * k) b (omega arith)) refl (plusDelta (w .0) x) e refl (plus-fits (w .0) x))
+    rw (i, add-zero limits) (_, _, totalled-done false n s (2 * k) limits begun (w .0) (w .1) (w .2) (omega arith) (omega arith) x (two-fits s (2 * k) b (omega arith)) refl (plusDelta (w .0) x) e refl (plus-fits (w .0) x))
 
 shorter : (k n : ℕ) → 2 * suc k ≤ n → 2 * k ≤ n
 shorter k n h = omega arith
 
 first : (n : ℕ) (s : List ℕ) → Few n s (2 * 0) (limitsIn s 0 0) (endsAtLimit s 0)
-first n s = rw (limits-none s 0, ends-none s 0 refl) (pos 0, true, totalled-start false n s)
+first n s = rw (limits-none s 0, ends-none s 0 refl) (pos 0, true, totalled-start false s)
 
 next : (n : ℕ) (s : List ℕ) → Bytes s → (k m : ℕ) → m ≤ 65534 → 2 * suc k ≤ length s → (limitsIn s 0 k ≤ m → Few n s (2 * k) (limitsIn s 0 k) (endsAtLimit s k)) → limitsIn s 0 (suc k) ≤ m → Few n s (2 * suc k) (limitsIn s 0 (suc k)) (endsAtLimit s (suc k))
 next n s b k m l h before f =
@@ -157,17 +157,17 @@ module _ (n : ℕ) (s : List ℕ) (b : Bytes s) (k : ℕ) (h : 2 * k ≤ length 
   pub limits-unfinished : endsAtLimit s k ≡ true → numberNotAllowed ≡ refusalOf n (readIn (Packed Two) s)
   limits-unfinished e =
       let w = all in
-      ap told (totalled-unfinished false n n s (2 * k) (limitsIn s 0 k) (endsAtLimit s k) (w .0) (w .1) (w .2) g e) ∙ told-scan (Packed Two) false n n (readIn (Packed Two) s)
+      ap told (totalled-unfinished false n s (2 * k) (limitsIn s 0 k) (endsAtLimit s k) (w .0) (w .1) (w .2) g e) ∙ told-scan (Packed Two) false n (readIn (Packed Two) s)
 
   module _ (e : endsAtLimit s k ≡ false) where
     pub limits-other : (k - limitsIn s 0 k ≡ n → ⊥) → lengthDiffers ≡ refusalOf n (readIn (Packed Two) s)
     limits-other q =
         let w = all in
-        let c = w .2 .5 in
-        ap told (totalled-other false n n s (2 * k) (limitsIn s 0 k) (endsAtLimit s k) (w .0) (w .1) (w .2) g e (λ x. q (omega arith))) ∙ told-scan (Packed Two) false n n (readIn (Packed Two) s)
+        let c = w .2 .4 in
+        ap told (totalled-other false n s (2 * k) (limitsIn s 0 k) (endsAtLimit s k) (w .0) (w .1) (w .2) g e (λ x. q (omega arith))) ∙ told-scan (Packed Two) false n (readIn (Packed Two) s)
 
     pub limits-all : k - limitsIn s 0 k ≡ n → 0 ≡ refusalOf n (readIn (Packed Two) s)
     limits-all q =
         let w = all in
-        let c = w .2 .5 in
-        ap told (totalled-all false n n s (2 * k) (limitsIn s 0 k) (endsAtLimit s k) (w .0) (w .1) (w .2) g e (omega arith) (omega arith)) ∙ told-scan (Packed Two) false n n (readIn (Packed Two) s)
+        let c = w .2 .4 in
+        ap told (totalled-all false n s (2 * k) (limitsIn s 0 k) (endsAtLimit s k) (w .0) (w .1) (w .2) g e (omega arith)) ∙ told-scan (Packed Two) false n (readIn (Packed Two) s)

@@ -1,14 +1,13 @@
 -- Laws of scans and of writing of packed numbers, number by number. Assumes nothing.
-use mathlib.Core.Path.{_≡_, refl, sym, ap, ap₂, subst, _∙_}
+use mathlib.Core.Path.{_≡_, refl, sym, ap, subst, _∙_}
 use mathlib.Core.Bool.{Bool, true, false, cond, _&&_}
 use mathlib.Core.Option.{Option, none, some, Option·map}
 use mathlib.Core.List.{List, [], _∷_, _++_, append-nil, append-assoc, map}
 use Prim.Native.Nat.{ℕ, _+_, _-_, _<_, _≤_}
 use native.Mathlib.Omega.{arith}
-use lib.ListN.{length, drop, set, getD, length-append, List·getD-eq-default}
+use lib.ListN.{length, drop, set, length-append}
 use lib.IntN.{ℤ, pos}
-use lib.Dec.{eqb, ltb}
-use borrow.Author.Tests.{eq-eqb, ne-eqb, eqb-true, eqb-false, ltb-true, ltb-false}
+use borrow.Author.Tests.{eq-eqb, ne-eqb}
 use Rattle.refusal.specs.Table.{numberNotAllowed, lengthDiffers}
 use Rattle.numbers.specs.BigEndian.{signedAt}
 use Rattle.codecs.specs.declared.Size.{Size}
@@ -18,25 +17,26 @@ use Rattle.codecs.specs.declared.Turn.the-variants.{More, Done, Wrong}
 use Rattle.codecs.specs.Width.{widthOf, sizeOf}
 use Rattle.codecs.specs.Delta.{sumsIf}
 use Rattle.codecs.specs.Steps.{turnOf}
+use Rattle.codecs.specs.Laws.Allowed.{and-true}
 use Rattle.payloads.specs.declared.Outcome.the-variants.{Fine, Refused}
 use Rattle.payloads.specs.Held.{exact, allExact}
 use Rattle.payloads.specs.Scan.{scanOf}
 use Rattle.payloads.specs.Items.{readIn}
 use Rattle.payloads.specs.Results.{advance, resultsFrom, lastFrom, HasRoom}
 use Rattle.payloads.specs.Laws.Items.{from, after, from-turn, from-end, packed-is}
-use Rattle.payloads.specs.Laws.Scan.{results-if, length-results, results-append, last-append, exact-append, getD-left, getD-right, map-id, map-both}
+use Rattle.payloads.specs.Laws.Scan.{results-if, results-append, last-append, exact-append, map-id, map-both}
 use Rattle.payloads.specs.Laws.Writing.{WrittenTo, written-start, written-length, written-room, written-one, written-end, written-wrong}
 
--- The results of the values p are done before the place: how many, the last, whether all are exact, and the one at i. A result that has
--- begun has the sum `part` so far.
-abbrev pub Unpacked : Size → Bool → ℕ → List ℕ → ℕ → ℤ → Bool → ℕ → ℤ → Bool → ℤ → Type 0
-Unpacked z d i s at part begun count sum ok cell =
+-- The results of the values p are done before the place: how many, the last, and whether all are exact. A result that has begun has the
+-- sum `part` so far.
+abbrev pub Unpacked : Size → Bool → List ℕ → ℕ → ℤ → Bool → ℕ → ℤ → Bool → Type 0
+Unpacked z d s at part begun count sum ok =
     (p : List ℤ) × (readIn (Packed z) s ≡ Option·map (λ (l : List ℤ). p ++ l) (from z s part begun at)) × (count ≡ length p) × (sum ≡ lastFrom d (pos 0) p)
-    × (ok ≡ allExact (resultsFrom d (pos 0) p)) × (cell ≡ getD (resultsFrom d (pos 0) p) i (pos 0))
+    × (ok ≡ allExact (resultsFrom d (pos 0) p))
 
-pub unpacked-start : (z : Size) (d : Bool) (i : ℕ) (s : List ℕ) → Unpacked z d i s 0 (pos 0) false 0 (pos 0) true (pos 0)
+pub unpacked-start : (z : Size) (d : Bool) (s : List ℕ) → Unpacked z d s 0 (pos 0) false 0 (pos 0) true
 unfolding lastFrom resultsFrom allExact
-unpacked-start z d i s = ([], packed-is z s 0 ∙ map-id (from z s (pos 0) false 0), refl, refl, refl, refl)
+unpacked-start z d s = ([], packed-is z s 0 ∙ map-id (from z s (pos 0) false 0), refl, refl, refl)
 
 -- one result more
 results-one : (d : Bool) (p : List ℤ) (r : ℤ) → resultsFrom d (pos 0) (p ++ (r ∷ [])) ≡ resultsFrom d (pos 0) p ++ (advance d (lastFrom d (pos 0) p) r ∷ [])
@@ -47,46 +47,23 @@ last-one : (d : Bool) (p : List ℤ) (r : ℤ) → lastFrom d (pos 0) (p ++ (r �
 unfolding lastFrom
 last-one d p r = last-append d (pos 0) p (r ∷ [])
 
-and-true : (b : Bool) → (b && true) ≡ b
-and-true true = refl
-and-true false = refl
-
 exact-one : (l : List ℤ) (y : ℤ) → allExact (l ++ (y ∷ [])) ≡ (allExact l && exact y)
 unfolding allExact
 exact-one l y = exact-append l (y ∷ []) ∙ ap (λ (b : Bool). allExact l && b) (and-true (exact y))
 
-cell-one : (l : List ℤ) (y : ℤ) (i n : ℕ) → n ≡ length l → cond (eqb n i) y (getD l i (pos 0)) ≡ getD (l ++ (y ∷ [])) i (pos 0)
-cell-one l y i n q = by (eqb n i) refl
-  where
-    past : (i : ℕ) → length l < i → getD l i (pos 0) ≡ getD (l ++ (y ∷ [])) i (pos 0)
-    past i h =
-        let m = length-append l (y ∷ []) in
-        List·getD-eq-default l (pos 0) {n = i} (omega arith) ∙ sym (List·getD-eq-default (l ++ (y ∷ [])) (pos 0) {n = i} (omega arith))
-
-    apart : (u : Bool) → ltb i (length l) ≡ u → (n ≡ i → ⊥) → getD l i (pos 0) ≡ getD (l ++ (y ∷ [])) i (pos 0)
-    apart true g e = sym (getD-left l (y ∷ []) i (ltb-true i (length l) g))
-    apart false g e = past i (omega (arith, ltb-false i (length l) g))
-
-    by : (t : Bool) → eqb n i ≡ t → cond t y (getD l i (pos 0)) ≡ getD (l ++ (y ∷ [])) i (pos 0)
-    by true e =
-        let z : i ≡ length l = sym (eqb-true n i e) ∙ q in
-        let k : i - length l ≡ 0 = omega arith in
-        sym (getD-right l (y ∷ []) i (omega arith) ∙ ap (λ (m : ℕ). getD (y ∷ []) m (pos 0)) k)
-    by false e = apart (ltb i (length l)) refl (eqb-false n i e)
-
-module _ (z : Size) (d : Bool) (n i : ℕ) (s : List ℕ) (at : ℕ) (part : ℤ) (begun : Bool) (count : ℕ) (sum : ℤ) (ok : Bool) (cell : ℤ) (w : Unpacked z d i s at part begun count sum ok cell) where
+module _ (z : Size) (d : Bool) (n : ℕ) (s : List ℕ) (at : ℕ) (part : ℤ) (begun : Bool) (count : ℕ) (sum : ℤ) (ok : Bool) (w : Unpacked z d s at part begun count sum ok) where
   module _ (h : at + sizeOf z ≤ length s) where
     turned : (u : Turn) → turnOf z part (signedAt (widthOf z) s at) ≡ u → readIn (Packed z) s ≡ Option·map (λ (l : List ℤ). w .0 ++ l) (after z u s (at + sizeOf z))
     turned u e =
         w .1 ∙ ap (Option·map (λ (l : List ℤ). w .0 ++ l)) (from-turn z part begun s at h ∙ ap (λ (v : Turn). after z v s (at + sizeOf z)) e)
 
     -- a limit: the result goes on
-    pub unpacked-more : (a : ℤ) → turnOf z part (signedAt (widthOf z) s at) ≡ More a → Unpacked z d i s (at + sizeOf z) a true count sum ok cell
-    unpacked-more a e = (w .0, turned (More a) e, w .2, w .3, w .4, w .5)
+    pub unpacked-more : (a : ℤ) → turnOf z part (signedAt (widthOf z) s at) ≡ More a → Unpacked z d s (at + sizeOf z) a true count sum ok
+    unpacked-more a e = (w .0, turned (More a) e, w .2, w .3, w .4)
 
     -- a result more
     pub unpacked-done : (r y : ℤ) → turnOf z part (signedAt (widthOf z) s at) ≡ Done r → y ≡ advance d sum r
-        → Unpacked z d i s (at + sizeOf z) (pos 0) false (count + 1) y (ok && exact y) (cond (eqb count i) y cell)
+        → Unpacked z d s (at + sizeOf z) (pos 0) false (count + 1) y (ok && exact y)
     unpacked-done r y e q =
         let a = turned (Done r) e ∙ map-both (λ (l : List ℤ). w .0 ++ l) (λ (l : List ℤ). r ∷ l) (from z s (pos 0) false (at + sizeOf z)) in
         let v = q ∙ ap (λ (x : ℤ). advance d x r) (w .3) in
@@ -98,35 +75,34 @@ module _ (z : Size) (d : Bool) (n i : ℕ) (s : List ℕ) (at : ℕ) (part : ℤ
           omega arith,
           v ∙ sym (last-one d (w .0) r),
           ap (λ (b : Bool). b && exact y) (w .4) ∙ sym (ap allExact m ∙ exact-one (resultsFrom d (pos 0) (w .0)) y),
-          ap (cond (eqb count i) y) (w .5) ∙ cell-one (resultsFrom d (pos 0) (w .0)) y i count (w .2 ∙ sym (length-results d (pos 0) (w .0))) ∙ ap (λ (t : List ℤ). getD t i (pos 0)) (sym m),
         )
 
     -- a sum outside 32 bits
-    pub unpacked-wrong : turnOf z part (signedAt (widthOf z) s at) ≡ Wrong → Refused numberNotAllowed ≡ scanOf (Packed z) d n i (readIn (Packed z) s)
-    unpacked-wrong e = sym (ap (scanOf (Packed z) d n i) (turned Wrong e))
+    pub unpacked-wrong : turnOf z part (signedAt (widthOf z) s at) ≡ Wrong → Refused numberNotAllowed ≡ scanOf (Packed z) d n (readIn (Packed z) s)
+    unpacked-wrong e = sym (ap (scanOf (Packed z) d n) (turned Wrong e))
 
   module _ (h : length s - at < sizeOf z) where
     left : from z s part begun at ≡ cond begun none (some [])
     left = from-end z part begun s at h
 
     -- an unfinished result
-    pub unpacked-unfinished : begun ≡ true → Refused numberNotAllowed ≡ scanOf (Packed z) d n i (readIn (Packed z) s)
+    pub unpacked-unfinished : begun ≡ true → Refused numberNotAllowed ≡ scanOf (Packed z) d n (readIn (Packed z) s)
     unpacked-unfinished e =
         let a = w .1 ∙ ap (Option·map (λ (l : List ℤ). w .0 ++ l)) (left ∙ ap (λ (b : Bool). cond b none (some [])) e) in
-        sym (ap (scanOf (Packed z) d n i) a)
+        sym (ap (scanOf (Packed z) d n) a)
 
     module _ (e : begun ≡ false) where
       whole : readIn (Packed z) s ≡ some (w .0)
       whole = w .1 ∙ ap (Option·map (λ (l : List ℤ). w .0 ++ l)) (left ∙ ap (λ (b : Bool). cond b none (some [])) e) ∙ ap some (append-nil (w .0))
 
       -- too many results, or too few
-      pub unpacked-other : (count ≡ n → ⊥) → Refused lengthDiffers ≡ scanOf (Packed z) d n i (readIn (Packed z) s)
-      unpacked-other q = sym (ap (scanOf (Packed z) d n i) whole ∙ rw (ne-eqb (length (w .0)) n (λ x. q (w .2 ∙ x))))
+      pub unpacked-other : (count ≡ n → ⊥) → Refused lengthDiffers ≡ scanOf (Packed z) d n (readIn (Packed z) s)
+      unpacked-other q = sym (ap (scanOf (Packed z) d n) whole ∙ rw (ne-eqb (length (w .0)) n (λ x. q (w .2 ∙ x))))
 
       -- as many as there should be
-      pub unpacked-all : count ≡ n → Fine ok cell ≡ scanOf (Packed z) d n i (readIn (Packed z) s)
+      pub unpacked-all : count ≡ n → Fine ok ≡ scanOf (Packed z) d n (readIn (Packed z) s)
       unpacked-all q =
-          sym (ap (scanOf (Packed z) d n i) whole ∙ rw (eq-eqb (length (w .0)) n (sym (w .2) ∙ q), results-if d (w .0)) (sym (ap₂ Fine (w .4) (w .5))))
+          sym (ap (scanOf (Packed z) d n) whole ∙ rw (eq-eqb (length (w .0)) n (sym (w .2) ∙ q), results-if d (w .0)) (sym (ap Fine (w .4))))
 
 -- Writing
 

@@ -1,11 +1,11 @@
 -- Laws of scans of plain numbers: their count is the payload's size, and each stands at its place. Assumes nothing.
 use mathlib.Core.Path.{_≡_, refl, sym, ap, _∙_}
-use mathlib.Core.Bool.{false, _&&_}
+use mathlib.Core.Bool.{Bool, true, false, _&&_}
 use mathlib.Core.List.{List}
 use Prim.Native.Nat.{ℕ, zero, suc, _+_, _*_, _/_, _<_, _≤_}
 use native.Mathlib.Nat.{div-mul-le-self, mul-le-mul-right}
 use native.Mathlib.Omega.{arith}
-use lib.ListN.{length, drop, getD, List·getD-eq-default}
+use lib.ListN.{length, drop, getD}
 use lib.IntN.{ℤ, pos}
 use borrow.Author.Tests.{eq-eqb, ne-eqb}
 use Rattle.refusal.specs.Table.{lengthDiffers}
@@ -14,6 +14,7 @@ use Rattle.codecs.specs.declared.Size.{Size}
 use Rattle.codecs.specs.declared.Size.the-variants.{One, Two, Four}
 use Rattle.codecs.specs.declared.Form.the-variants.{Plain}
 use Rattle.codecs.specs.Width.{widthOf, sizeOf}
+use Rattle.codecs.specs.Delta.{sumsIf}
 use Rattle.codecs.specs.Numbers.{numbersIn}
 use Rattle.codecs.specs.Laws.Numbers.{numbers-step, length-numbers}
 use Rattle.payloads.specs.declared.Outcome.the-variants.{Fine, Refused}
@@ -49,24 +50,18 @@ number-at-place z s n i e h =
     number-from z s i 0 (omega arith) ∙ ap (signedAt (widthOf z) s) a
 
 -- whether they are exact
-plain-judged : (z : Size) (s : List ℕ) → Bytes s → (judgesExact (Plain z) false && allExact (numbersIn z s)) ≡ judgesExact (Plain z) false
-plain-judged One s b = plain-exact One s b (λ e. let y : _≡_ {A = ℕ} 0 1 = cc in absurd (omega arith))
-plain-judged Two s b = plain-exact Two s b (λ e. let y : _≡_ {A = ℕ} 0 1 = cc in absurd (omega arith))
-plain-judged Four s b = refl
+plain-judged : (z : Size) (d : Bool) (s : List ℕ) → Bytes s → (judgesExact (Plain z) d && allExact (sumsIf d (numbersIn z s))) ≡ judgesExact (Plain z) d
+plain-judged One false s b = plain-exact One s b (λ e. let y : _≡_ {A = ℕ} 0 1 = cc in absurd (omega arith))
+plain-judged Two false s b = plain-exact Two s b (λ e. let y : _≡_ {A = ℕ} 0 1 = cc in absurd (omega arith))
+plain-judged One true s b = refl
+plain-judged Two true s b = refl
+plain-judged Four d s b = refl
 
-module _ (z : Size) (s : List ℕ) (n i : ℕ) where
-  pub plain-other : (length s / sizeOf z ≡ n → ⊥) → scanOf (Plain z) false n i (readIn (Plain z) s) ≡ Refused lengthDiffers
+module _ (z : Size) (d : Bool) (s : List ℕ) (n : ℕ) where
+  pub plain-other : (length s / sizeOf z ≡ n → ⊥) → scanOf (Plain z) d n (readIn (Plain z) s) ≡ Refused lengthDiffers
   unfolding readIn
   plain-other h = rw (ne-eqb (length (numbersIn z s)) n (λ e. h (sym (length-numbers z s) ∙ e)))
 
-  plain-right : Bytes s → length s / sizeOf z ≡ n → scanOf (Plain z) false n i (readIn (Plain z) s) ≡ Fine (judgesExact (Plain z) false) (getD (numbersIn z s) i (pos 0))
+  pub plain-right : Bytes s → length s / sizeOf z ≡ n → scanOf (Plain z) d n (readIn (Plain z) s) ≡ Fine (judgesExact (Plain z) d)
   unfolding readIn
-  plain-right b e = rw (eq-eqb (length (numbersIn z s)) n (length-numbers z s ∙ e), plain-judged z s b)
-
-  pub plain-fine : Bytes s → length s / sizeOf z ≡ n → i < n → scanOf (Plain z) false n i (readIn (Plain z) s) ≡ Fine (judgesExact (Plain z) false) (signedAt (widthOf z) s (i * sizeOf z))
-  plain-fine b e h = plain-right b e ∙ ap (Fine (judgesExact (Plain z) false)) (number-at-place z s n i e h)
-
-  pub plain-beyond : Bytes s → length s / sizeOf z ≡ n → n ≤ i → scanOf (Plain z) false n i (readIn (Plain z) s) ≡ Fine (judgesExact (Plain z) false) (pos 0)
-  plain-beyond b e h =
-      let l = length-numbers z s ∙ e in
-      plain-right b e ∙ ap (Fine (judgesExact (Plain z) false)) (List·getD-eq-default (numbersIn z s) (pos 0) {n = i} (omega arith))
+  plain-right b e = rw (eq-eqb (length (numbersIn z s)) n (length-numbers z s ∙ e), plain-judged z d s b)

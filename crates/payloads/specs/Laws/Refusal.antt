@@ -1,51 +1,103 @@
--- Laws of the refusal of a payload, for one who asks for nothing else: a scan says the same. Assumes nothing.
-use mathlib.Core.Path.{_≡_, refl, sym, ap, _∙_}
+-- Laws of the refusal of a payload: a scan says the same, and names are judged by their bytes. Assumes nothing.
+use mathlib.Core.Path.{_≡_, refl, sym, ap, ap₂, _∙_}
 use mathlib.Core.Bool.{Bool, true, false, cond, _&&_}
 use mathlib.Core.Option.{Option, none, some}
-use mathlib.Core.List.{List}
-use Prim.Native.Nat.{ℕ}
+use mathlib.Core.List.{List, map}
+use Prim.Native.Nat.{ℕ, _+_, _*_, _/_, _%_, _<_}
+use native.Mathlib.Nat.{add-zero, mul-zero, div-add-mod', mul-mod-left, mul-div-cancel}
 use native.Mathlib.Omega.{arith}
-use lib.ListN.{length, getD}
+use lib.ListN.{length}
 use lib.IntN.{ℤ, pos}
 use lib.Dec.{eqb}
-use Rattle.refusal.specs.Table.{lengthDiffers}
+use borrow.Author.Tests.{eq-eqb, ne-eqb, eqb-true, eqb-false}
+use Rattle.refusal.specs.Table.{numberNotAllowed, lengthDiffers}
 use Rattle.numbers.specs.BigEndian.{Bytes}
+use Rattle.codecs.specs.declared.Size.the-variants.{One}
 use Rattle.codecs.specs.declared.Form.{Form}
+use Rattle.codecs.specs.declared.Form.the-variants.{Names}
+use Rattle.codecs.specs.Numbers.{numbersIn}
 use Rattle.codecs.specs.Delta.{sumsIf}
+use Rattle.codecs.specs.Payload.{valuesIn, allowed}
+use Rattle.codecs.specs.Laws.Names.{names-length, allowed-bytes}
+use Rattle.columns.specs.Table.{elements}
 use Rattle.payloads.specs.declared.Outcome.the-variants.{Fine, Refused}
 use Rattle.payloads.specs.Held.{heldIn, allExact}
-use Rattle.payloads.specs.Items.{readIn, told}
+use Rattle.payloads.specs.Items.{readIn, isNames, told}
 use Rattle.payloads.specs.Scan.{judgesExact, scanOf, refusalOf}
-use Rattle.payloads.specs.Laws.Held.{held-read}
+use Rattle.payloads.specs.Laws.Held.{held-read, elements-one}
 
-module _ (f : Form) (d : Bool) (n i : ℕ) where
+module _ (f : Form) (d : Bool) (n : ℕ) where
   -- what a scan says
-  pub told-scan : (o : Option (List ℤ)) → told (scanOf f d n i o) ≡ refusalOf n o
+  pub told-scan : (o : Option (List ℤ)) → told (scanOf f d n o) ≡ refusalOf n o
   told-scan none = refl
   told-scan (some l) = by (eqb (length l) n)
     where
-      by : (t : Bool) → told (cond t (Fine (judgesExact f d && allExact (sumsIf d l)) (getD (sumsIf d l) i (pos 0))) (Refused lengthDiffers)) ≡ cond t 0 lengthDiffers
+      by : (t : Bool) → told (cond t (Fine (judgesExact f d && allExact (sumsIf d l))) (Refused lengthDiffers)) ≡ cond t 0 lengthDiffers
       by true = refl
       by false = refl
 
-  -- a refusal
-  pub refusal-refused : (o : Option (List ℤ)) (r : ℕ) → r ≡ refusalOf n o → (r ≡ 0 → ⊥) → scanOf f d n i o ≡ Refused r
-  refusal-refused none r e h = ap Refused (sym e)
-  refusal-refused (some l) r e h = by (eqb (length l) n) e
-    where
-      by : (t : Bool) → r ≡ cond t 0 lengthDiffers → cond t (Fine (judgesExact f d && allExact (sumsIf d l)) (getD (sumsIf d l) i (pos 0))) (Refused lengthDiffers) ≡ Refused r
-      by true q = absurd (h q)
-      by false q = ap Refused (sym q)
+-- what is read of the payload of a form other than names is what it holds
+pub refusal-held : (f g : Form) (m n : ℕ) (s : List ℕ) (r : ℕ) → Bytes s → isNames f ≡ false → g ≡ f → r ≡ refusalOf n (readIn f s)
+    → r ≡ refusalOf (elements g n m) (heldIn g m s)
+refusal-held f g m n s r b h q e =
+    e ∙ ap (refusalOf n) (sym (held-read f m s b h)) ∙ ap (λ (c : ℕ). refusalOf c (heldIn f m s)) (sym (elements-one f n m h))
+    ∙ ap (λ (x : Form). refusalOf (elements x n m) (heldIn x m s)) (sym q)
 
-  -- none
-  pub refusal-fine : (o : Option (List ℤ)) → 0 ≡ refusalOf n o → (e : Bool) × (x : ℤ) × (scanOf f d n i o ≡ Fine e x)
-  refusal-fine none q = let y : _≡_ {A = ℕ} 0 1 = omega arith in absurd (omega arith)
-  refusal-fine (some l) q = by (eqb (length l) n) q
-    where
-      by : (t : Bool) → 0 ≡ cond t 0 lengthDiffers → (e : Bool) × (x : ℤ) × (cond t (Fine (judgesExact f d && allExact (sumsIf d l)) (getD (sumsIf d l) i (pos 0))) (Refused lengthDiffers) ≡ Fine e x)
-      by true q = (judgesExact f d && allExact (sumsIf d l), getD (sumsIf d l) i (pos 0), refl)
-      by false q = absurd (omega arith)
+-- a scan of names by their refusal
+pub names-scanned : (c m : ℕ) (s : List ℕ) (r : ℕ) → r ≡ refusalOf c (heldIn Names m s) → (r ≡ 0 → ⊥) → Refused r ≡ scanOf Names false c (heldIn Names m s)
+names-scanned c m s r e h = by (heldIn Names m s) e
+  where
+    tested : (l : List ℤ) (t : Bool) → r ≡ cond t 0 lengthDiffers → Refused r ≡ cond t (Fine false) (Refused lengthDiffers)
+    tested l true q = absurd (h q)
+    tested l false q = ap Refused q
 
--- what is read of the payload of a form is what it holds
-pub refusal-held : (f g : Form) (n : ℕ) (s : List ℕ) (r : ℕ) → Bytes s → g ≡ f → r ≡ refusalOf n (readIn f s) → r ≡ refusalOf n (heldIn g s)
-refusal-held f g n s r b q e = e ∙ ap (refusalOf n) (sym (held-read f s b)) ∙ ap (λ (x : Form). refusalOf n (heldIn x s)) (sym q)
+    by : (o : Option (List ℤ)) → r ≡ refusalOf c o → Refused r ≡ scanOf Names false c o
+    by none q = ap Refused q
+    by (some l) q = tested l (eqb (length l) c) q
+
+pub names-fine : (c m : ℕ) (s : List ℕ) → 0 ≡ refusalOf c (heldIn Names m s) → Fine false ≡ scanOf Names false c (heldIn Names m s)
+names-fine c m s e = by (heldIn Names m s) e
+  where
+    tested : (t : Bool) → 0 ≡ cond t 0 lengthDiffers → Fine false ≡ cond t (Fine false) (Refused lengthDiffers)
+    tested true q = refl
+    tested false q = absurd (omega arith)
+
+    by : (o : Option (List ℤ)) → 0 ≡ refusalOf c o → Fine false ≡ scanOf Names false c o
+    by none q = absurd (omega arith)
+    by (some l) q = tested (eqb (length l) c) q
+
+-- Names, by their bytes
+
+-- the refusal by whether names are allowed, and whether they are as many as stated
+abbrev namesBy : Bool → Bool → ℕ
+namesBy t u = cond t (cond u 0 lengthDiffers) numberNotAllowed
+
+pub names-told : (n m : ℕ) (s : List ℕ) (t u : Bool) → Bytes s → t ≡ allowed Names m (map pos s) → u ≡ eqb (length s) (n * m) → namesBy t u ≡ refusalOf (elements Names n m) (heldIn Names m s)
+unfolding heldIn valuesIn
+names-told n m s t u b e f =
+    ap₂ namesBy (e ∙ sym (allowed-bytes m s b)) (f ∙ ap (λ (l : ℕ). eqb l (n * m)) (sym (names-length s))) ∙ by (allowed Names m (numbersIn One s))
+  where
+    by : (v : Bool) → namesBy v (eqb (length (numbersIn One s)) (n * m)) ≡ refusalOf (n * m) (cond v (some (numbersIn One s)) none)
+    by true = refl
+    by false = refl
+
+pub names-as : (g : Form) (m n : ℕ) (s : List ℕ) (r : ℕ) → g ≡ Names → r ≡ refusalOf (elements Names n m) (heldIn Names m s) → r ≡ refusalOf (elements g n m) (heldIn g m s)
+names-as g m n s r q e = e ∙ ap (λ (x : Form). refusalOf (elements x n m) (heldIn x m s)) (sym q)
+
+-- a length by its quotient and its remainder
+module _ (all n size : ℕ) where
+  pub product-none : size ≡ 0 → eqb all 0 ≡ eqb all (n * size)
+  product-none e = let q : n * size ≡ 0 = rw e (mul-zero n) in ap (eqb all) (sym q)
+
+  pub product-part : 0 < size → (all % size ≡ 0 → ⊥) → false ≡ eqb all (n * size)
+  product-part h q = sym (ne-eqb all (n * size) (λ e. q (ap (λ (k : ℕ). k % size) e ∙ mul-mod-left n size)))
+
+  pub product-whole : 0 < size → all % size ≡ 0 → eqb (all / size) n ≡ eqb all (n * size)
+  product-whole h q = by (eqb (all / size) n) refl
+    where
+      by : (t : Bool) → eqb (all / size) n ≡ t → t ≡ eqb all (n * size)
+      by true e =
+          let d = div-add-mod' all size in
+          let k : all ≡ n * size = sym d ∙ ap₂ (λ (x y : ℕ). x * size + y) (eqb-true (all / size) n e) q ∙ add-zero (n * size) in
+          sym (eq-eqb all (n * size) k)
+      by false e = sym (ne-eqb all (n * size) (λ k. eqb-false (all / size) n e (ap (λ (x : ℕ). x / size) k ∙ mul-div-cancel n h)))

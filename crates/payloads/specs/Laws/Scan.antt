@@ -1,4 +1,4 @@
--- Laws of scans: results one after the other, and what a tally says of the values that it has passed. Assumes nothing.
+-- Laws of scans: results one after the other, and what is kept of the runs before a place. Assumes nothing.
 use mathlib.Core.Path.{_≡_, refl, sym, ap, ap₂, _∙_}
 use mathlib.Core.Bool.{Bool, true, false, cond, not, _&&_, _||_}
 use mathlib.Core.Option.{Option, none, some, Option·map}
@@ -6,7 +6,7 @@ use mathlib.Core.List.{List, [], _∷_, _++_, append-nil, append-assoc}
 use Prim.Native.Nat.{ℕ, zero, suc, _+_, _-_, _*_, _/_, _%_, _^_, _<_, _≤_}
 use native.Mathlib.Nat.{mod-lt, div-add-mod', mul-le-mul, add-mul, mul-right-comm}
 use native.Mathlib.Omega.{arith}
-use lib.ListN.{length, drop, getD, replicate, length-append, length-replicate, List·getD-eq-default}
+use lib.ListN.{length, drop, getD, replicate, length-append, length-replicate}
 use lib.IntN.{ℤ, pos}
 use lib.Dec.{eqb, ltb}
 use mir.Syntax.{w32}
@@ -14,20 +14,20 @@ use mir.Val.{toZ, ofZ}
 use mir.Facts.{ofZ-toZ}
 use borrow.Author.Tests.{eq-eqb, ne-eqb, eqb-true, eqb-false, lt-ltb, le-ltb, ltb-true, ltb-false}
 use Rattle.refusal.specs.Table.{numberNotAllowed, lengthDiffers}
-use Rattle.numbers.specs.BigEndian.{Bytes}
-use Rattle.codecs.specs.declared.Size.the-variants.{One, Two, Four}
 use Rattle.codecs.specs.declared.Range.{Range}
 use Rattle.codecs.specs.declared.Form.{Form}
-use Rattle.codecs.specs.declared.Form.the-variants.{Plain, Packed, Runs, Names}
+use Rattle.codecs.specs.declared.Form.the-variants.{Runs, Names}
 use Rattle.codecs.specs.Delta.{plusDelta, sumsFrom, sumsIf}
-use Rattle.payloads.specs.declared.Tally.{Tally}
+use Rattle.codecs.specs.Laws.Allowed.{and-true, and-more}
+use Rattle.columns.specs.Table.{elements}
+use Rattle.numbers.specs.BigEndian.{Bytes}
 use Rattle.payloads.specs.declared.Outcome.{Outcome}
 use Rattle.payloads.specs.declared.Outcome.the-variants.{Fine, Refused}
 use Rattle.payloads.specs.Held.{heldIn, exact, allExact}
 use Rattle.payloads.specs.Results.{advance, resultsFrom, lastFrom}
-use Rattle.payloads.specs.Scan.{judgesExact, scanOf}
-use Rattle.payloads.specs.Laws.Held.{held-read}
-use Rattle.payloads.specs.Items.{readIn, single, plusTimes, afterRun, cellAfter, passRun, finished}
+use Rattle.payloads.specs.Scan.{scanOf}
+use Rattle.payloads.specs.Laws.Held.{held-read, elements-one}
+use Rattle.payloads.specs.Items.{readIn, isNames, plusTimes, afterRun}
 
 -- Results
 
@@ -119,25 +119,6 @@ exact-same (suc (suc k)) v h = by (exact v) (exact-same (suc k) v (omega arith))
     by true e = e
     by false e = refl
 
-single-exact : (a v : ℤ) → allExact (resultsFrom true a (replicate 1 v)) ≡ exact (plusTimes a v 1)
-unfolding allExact resultsFrom
-single-exact a v = rw (times-one a v) (by (exact (plusDelta a v)))
-  where
-    by : (t : Bool) → (t && true) ≡ t
-    by true = refl
-    by false = refl
-
--- the results of a run are exact where its last is, in the forms that are judged
-run-exact : (f : Form) (d : Bool) (a v : ℤ) (k : ℕ) → 1 ≤ k → (single f ≡ true → k ≡ 1) → judgesExact f d ≡ true
-    → allExact (resultsFrom d a (replicate k v)) ≡ exact (afterRun d a v k)
-run-exact f false a v k h s j = ap allExact (results-plain a (replicate k v)) ∙ exact-same k v h
-run-exact (Packed z) true a v k h s j = rw (s refl) (single-exact a v)
-run-exact (Plain One) true a v k h s j = let y : _≡_ {A = ℕ} 0 1 = cc in absurd (omega arith)
-run-exact (Plain Two) true a v k h s j = let y : _≡_ {A = ℕ} 0 1 = cc in absurd (omega arith)
-run-exact (Plain Four) true a v k h s j = let y : _≡_ {A = ℕ} 0 1 = cc in absurd (omega arith)
-run-exact (Runs r) true a v k h s j = let y : _≡_ {A = ℕ} 0 1 = cc in absurd (omega arith)
-run-exact Names true a v k h s j = let y : _≡_ {A = ℕ} 0 1 = cc in absurd (omega arith)
-
 -- Places in two lists
 
 pub getD-left : (p q : List ℤ) (i : ℕ) → i < length p → getD (p ++ q) i (pos 0) ≡ getD p i (pos 0)
@@ -162,18 +143,6 @@ passed-by i m k = by (ltb i m) refl
         rest true g = sym (lt-ltb i (m + k) (omega (arith, ltb-false i m e, ltb-true (i - m) k g)))
         rest false g = sym (le-ltb i (m + k) (omega (arith, ltb-false i m e, ltb-false (i - m) k g)))
 
--- Tallies
-
--- what a tally says of the values p that it has passed
-abbrev pub Tells : Form → Bool → ℕ → ℕ → List ℤ → Tally → Type 0
-Tells f d n i p t =
-    (t .left ≡ n - length p) × (t .over ≡ ltb n (length p)) × (t .wait ≡ i - length p) × (t .found ≡ ltb i (length p)) × (t .sum ≡ lastFrom d (pos 0) p)
-    × (t .exact ≡ (judgesExact f d && allExact (resultsFrom d (pos 0) p))) × (t .cell ≡ getD (resultsFrom d (pos 0) p) i (pos 0))
-
--- the values p stand before the place, and the tally tells of them
-abbrev pub Passed : Form → Bool → ℕ → ℕ → List ℕ → ℕ → Tally → Type 0
-Passed f d n i s at t = (p : List ℤ) × (readIn f s ≡ Option·map (λ (l : List ℤ). p ++ l) (readIn f (drop at s))) × Tells f d n i p t
-
 pub map-id : (o : Option (List ℤ)) → o ≡ Option·map (λ (l : List ℤ). l) o
 map-id none = refl
 map-id (some l) = refl
@@ -182,163 +151,57 @@ pub map-both : {A B C : Type 0} (f : B → C) (g : A → B) (o : Option A) → O
 map-both f g none = refl
 map-both f g (some x) = refl
 
-and-true : (b : Bool) → b ≡ (b && true)
-and-true true = refl
-and-true false = refl
+-- Runs
 
-pub tells-start : (f : Form) (d : Bool) (n i : ℕ) → Tells f d n i [] (record { left = n; over = false; wait = i; found = false; sum = pos 0; exact = judgesExact f d; cell = pos 0 })
-unfolding lastFrom resultsFrom allExact
-tells-start f d n i = (omega arith, sym (le-ltb n 0 (omega arith)), omega arith, sym (le-ltb i 0 (omega arith)), refl, and-true (judgesExact f d), refl)
+-- The values p stand before the place: of n results so many are left, whether there were too many, and whether all are exact. With delta
+-- they are not judged.
+abbrev pub Kept : Range → Bool → ℕ → List ℕ → ℕ → ℕ → Bool → Bool → Type 0
+Kept r d n s at left over ok =
+    (p : List ℤ) × (readIn (Runs r) s ≡ Option·map (λ (l : List ℤ). p ++ l) (readIn (Runs r) (drop at s))) × (left ≡ n - length p) × (over ≡ ltb n (length p))
+    × (ok ≡ (not d && allExact p))
 
-pub passed-start : (f : Form) (d : Bool) (n i : ℕ) (s : List ℕ)
-    → Passed f d n i s 0 (record { left = n; over = false; wait = i; found = false; sum = pos 0; exact = judgesExact f d; cell = pos 0 })
-passed-start f d n i s = ([], map-id (readIn f s), tells-start f d n i)
+pub kept-start : (r : Range) (d : Bool) (n : ℕ) (s : List ℕ) → Kept r d n s 0 n false (not d)
+unfolding allExact
+kept-start r d n s = ([], map-id (readIn (Runs r) s), omega arith, sym (le-ltb n 0 (omega arith)), sym (and-true (not d)))
 
-module _ (f : Form) (d : Bool) (n i : ℕ) (p : List ℤ) (t : Tally) (w : Tells f d n i p t) (v : ℤ) (k : ℕ) (h : 1 ≤ k) (s : single f ≡ true → k ≡ 1) where
-  more : length (p ++ replicate k v) ≡ length p + k
-  more = length-append p (replicate k v) ∙ ap (λ (m : ℕ). length p + m) (length-replicate k v)
-
-  results : resultsFrom d (pos 0) (p ++ replicate k v) ≡ resultsFrom d (pos 0) p ++ resultsFrom d (t .sum) (replicate k v)
-  results = results-append d (pos 0) p (replicate k v) ∙ ap (λ (a : ℤ). resultsFrom d (pos 0) p ++ resultsFrom d a (replicate k v)) (sym (w .4))
-
-  tells-sum : afterRun d (t .sum) v k ≡ lastFrom d (pos 0) (p ++ replicate k v)
-  tells-sum = sym (run-last d (t .sum) v k h) ∙ ap (λ (a : ℤ). lastFrom d a (replicate k v)) (w .4) ∙ sym (last-append d (pos 0) p (replicate k v))
-
-  tells-exact : (t .exact && exact (afterRun d (t .sum) v k)) ≡ (judgesExact f d && allExact (resultsFrom d (pos 0) (p ++ replicate k v)))
-  tells-exact =
-      ap (λ (b : Bool). b && exact (afterRun d (t .sum) v k)) (w .5)
-      ∙ by (judgesExact f d) refl (allExact (resultsFrom d (pos 0) p))
-      ∙ ap (λ (b : Bool). judgesExact f d && b) (sym (ap allExact results ∙ exact-append (resultsFrom d (pos 0) p) (resultsFrom d (t .sum) (replicate k v))))
-    where
-      by : (j : Bool) → judgesExact f d ≡ j → (b : Bool) → ((j && b) && exact (afterRun d (t .sum) v k)) ≡ (j && (b && allExact (resultsFrom d (t .sum) (replicate k v))))
-      by false e b = refl
-      by true e b = ap (λ (x : Bool). b && x) (sym (run-exact f d (t .sum) v k h s e))
-
-  long : length (resultsFrom d (pos 0) p) ≡ length p
-  long = length-results d (pos 0) p
-
-  tells-cell : cellAfter d t v k ≡ getD (resultsFrom d (pos 0) (p ++ replicate k v)) i (pos 0)
-  tells-cell = ap (λ (b : Bool). cond b (t .cell) (cond (ltb (t .wait) k) (afterRun d (t .sum) v (t .wait + 1)) (t .cell))) (w .3) ∙ by (ltb i (length p)) refl ∙ ap (λ (l : List ℤ). getD l i (pos 0)) (sym results)
-    where
-      P : List ℤ
-      P = resultsFrom d (pos 0) p
-
-      Q : List ℤ
-      Q = resultsFrom d (t .sum) (replicate k v)
-
-      size : length Q ≡ k
-      size = length-results d (t .sum) (replicate k v) ∙ length-replicate k v
-
-      rest : length p ≤ i → (b : Bool) → ltb (t .wait) k ≡ b → cond b (afterRun d (t .sum) v (t .wait + 1)) (t .cell) ≡ getD (P ++ Q) i (pos 0)
-      rest l true e =
-          let a = ltb-true (t .wait) k e in
-          let u : t .wait + 1 ≡ suc (t .wait) = omega arith in
-          let c : i - length P ≡ t .wait = ap (λ (m : ℕ). i - m) long ∙ sym (w .2) in
-          rw u (sym (getD-right P Q i (omega (arith, long)) ∙ ap (λ (m : ℕ). getD Q m (pos 0)) c ∙ run-at d (t .sum) v k (t .wait) a))
-      rest l false e =
-          let a = ltb-false (t .wait) k e in
-          let c = w .2 in
-          let m = length-append P Q in
-          let x : getD P i (pos 0) ≡ pos 0 = List·getD-eq-default P (pos 0) {n = i} (omega (arith, long)) in
-          let y : getD (P ++ Q) i (pos 0) ≡ pos 0 = List·getD-eq-default (P ++ Q) (pos 0) {n = i} (omega (arith, long, size)) in
-          w .6 ∙ x ∙ sym y
-
-      by : (b : Bool) → ltb i (length p) ≡ b → cond b (t .cell) (cond (ltb (t .wait) k) (afterRun d (t .sum) v (t .wait + 1)) (t .cell)) ≡ getD (P ++ Q) i (pos 0)
-      by true e = w .6 ∙ sym (getD-left P Q i (omega (arith, long, ltb-true i (length p) e)))
-      by false e = rest (ltb-false i (length p) e) (ltb (t .wait) k) refl
-
-  pub tells-run : Tells f d n i (p ++ replicate k v) (passRun d t v k)
-  tells-run =
-      let l = more in (
-        let a = w .0 in omega arith,
-        ap₂ (λ (b : Bool) (m : ℕ). b || ltb m k) (w .1) (w .0) ∙ passed-by n (length p) k ∙ ap (ltb n) (sym more),
-        let a = w .2 in omega arith,
-        ap₂ (λ (b : Bool) (m : ℕ). b || ltb m k) (w .3) (w .2) ∙ passed-by i (length p) k ∙ ap (ltb i) (sym more),
-        tells-sum,
-        tells-exact,
-        tells-cell,
+module _ (r : Range) (d : Bool) (n : ℕ) (s : List ℕ) (at left : ℕ) (over ok : Bool) (w : Kept r d n s at left over ok) where
+  pub kept-run : (v : ℤ) (k e : ℕ) → 1 ≤ k → readIn (Runs r) (drop at s) ≡ Option·map (λ (l : List ℤ). replicate k v ++ l) (readIn (Runs r) (drop e s))
+      → Kept r d n s e (left - k) (over || ltb left k) (ok && exact v)
+  kept-run v k e h q =
+      let p = w .0 in
+      let a = w .1 ∙ ap (Option·map (λ (l : List ℤ). w .0 ++ l)) q ∙ map-both (λ (l : List ℤ). w .0 ++ l) (λ (l : List ℤ). replicate k v ++ l) (readIn (Runs r) (drop e s)) in
+      let l = length-append (w .0) (replicate k v) ∙ ap (λ (m : ℕ). length (w .0) + m) (length-replicate k v) in
+      let z = w .2 in (
+        w .0 ++ replicate k v,
+        simp append-assoc a,
+        omega arith,
+        ap₂ (λ (b : Bool) (m : ℕ). b || ltb m k) (w .3) (w .2) ∙ passed-by n (length (w .0)) k ∙ ap (ltb n) (sym l),
+        ap (λ (b : Bool). b && exact v) (w .4) ∙ and-more (not d) (allExact (w .0)) (exact v) ∙ ap (λ (b : Bool). not d && b) (sym (exact-append (w .0) (replicate k v) ∙ ap (λ (b : Bool). allExact (w .0) && b) (exact-same k v h))),
       )
 
--- at the payload's end a tally says the answer
-pub tells-finished : (f : Form) (d : Bool) (n i : ℕ) (p : List ℤ) (t : Tally) → Tells f d n i p t → finished t ≡ scanOf f d n i (some p)
-tells-finished f d n i p t w = ended (ltb n (length p)) refl
-  where
-    fine : Fine (t .exact) (t .cell) ≡ Fine (judgesExact f d && allExact (sumsIf d p)) (getD (sumsIf d p) i (pos 0))
-    fine = rw (results-if d p) (ap₂ Fine (w .5) (w .6))
+  pub kept-wrong : readIn (Runs r) (drop at s) ≡ none → Refused numberNotAllowed ≡ scanOf (Runs r) d n (readIn (Runs r) s)
+  kept-wrong q = let a = w .1 ∙ ap (Option·map (λ (l : List ℤ). w .0 ++ l)) q in rw a
 
-    ended : (b : Bool) → ltb n (length p) ≡ b → finished t ≡ scanOf f d n i (some p)
-    ended true e =
-        let o : t .over ≡ true = w .1 ∙ e in
-        rw (o, ne-eqb (length p) n (λ x. omega (arith, ltb-true n (length p) e)))
-    ended false e = left (eqb (t .left) 0) refl
-      where
-        o : t .over ≡ false
-        o = w .1 ∙ e
-
-        left : (b : Bool) → eqb (t .left) 0 ≡ b → finished t ≡ scanOf f d n i (some p)
-        left true g = let z = eqb-true (t .left) 0 g in let y = w .0 in rw (o, g, eq-eqb (length p) n (omega (arith, ltb-false n (length p) e))) fine
-        left false g = let z = eqb-false (t .left) 0 g in let y = w .0 in rw (o, g, ne-eqb (length p) n (λ x. z (omega arith)))
-
-module _ (f : Form) (d : Bool) (n i : ℕ) (s : List ℕ) (at : ℕ) (t : Tally) (w : Passed f d n i s at t) where
-  -- a run more
-  pub passed-run : (v : ℤ) (k e : ℕ) → 1 ≤ k → (single f ≡ true → k ≡ 1)
-      → readIn f (drop at s) ≡ Option·map (λ (l : List ℤ). replicate k v ++ l) (readIn f (drop e s)) → Passed f d n i s e (passRun d t v k)
-  passed-run v k e h u q =
-      let p = w .0 in
-      let a = w .1 ∙ ap (Option·map (λ (l : List ℤ). p ++ l)) q ∙ map-both (λ (l : List ℤ). p ++ l) (λ (l : List ℤ). replicate k v ++ l) (readIn f (drop e s)) in
-      (p ++ replicate k v, simp append-assoc a, tells-run f d n i p t (w .2) v k h u)
-
-  -- a number that is not allowed
-  pub passed-wrong : readIn f (drop at s) ≡ none → Refused numberNotAllowed ≡ scanOf f d n i (readIn f s)
-  passed-wrong q = let p = w .0 in let a = w .1 ∙ ap (Option·map (λ (l : List ℤ). p ++ l)) q in rw a
-
-  -- the end
-  pub passed-end : readIn f (drop at s) ≡ some [] → finished t ≡ scanOf f d n i (readIn f s)
-  passed-end q =
-      let whole : readIn f s ≡ some (w .0) = w .1 ∙ ap (Option·map (λ (l : List ℤ). w .0 ++ l)) q ∙ ap some (append-nil (w .0)) in
-      tells-finished f d n i (w .0) t (w .2) ∙ sym (ap (scanOf f d n i) whole)
-
-  -- past the end there is no cell
-  pub passed-none : n ≤ i → t .over ≡ false → t .cell ≡ pos 0
-  passed-none h o =
-      let p = w .0 in
-      let l = ltb-false n (length p) (sym (w .2 .1) ∙ o) in
-      w .2 .6 ∙ List·getD-eq-default (resultsFrom d (pos 0) (w .0)) (pos 0) {n = i} (omega (arith, length-results d (pos 0) (w .0)))
-
--- Runs with no cell asked for: what is kept of a tally
-
-abbrev pub Kept : Range → Bool → ℕ → ℕ → List ℕ → ℕ → ℕ → Bool → Bool → Type 0
-Kept r d n i s at left over ok = (t : Tally) × Passed (Runs r) d n i s at t × (left ≡ t .left) × (over ≡ t .over) × (ok ≡ t .exact)
-
-pub kept-start : (r : Range) (d : Bool) (n i : ℕ) (s : List ℕ) → Kept r d n i s 0 n false (not d)
-kept-start r d n i s = (record { left = n; over = false; wait = i; found = false; sum = pos 0; exact = not d; cell = pos 0 }, passed-start (Runs r) d n i s, refl, refl, refl)
-
-module _ (r : Range) (d : Bool) (n i : ℕ) (s : List ℕ) (at left : ℕ) (over ok : Bool) (w : Kept r d n i s at left over ok) where
-  pub kept-run : (v : ℤ) (k e : ℕ) → 1 ≤ k → readIn (Runs r) (drop at s) ≡ Option·map (λ (l : List ℤ). replicate k v ++ l) (readIn (Runs r) (drop e s))
-      → Kept r d n i s e (left - k) (over || ltb left k) (ok && exact v)
-  kept-run v k e h q = (
-    passRun d (w .0) v k,
-    passed-run (Runs r) d n i s at (w .0) (w .1) v k e h (λ x. let y : _≡_ {A = ℕ} 0 1 = cc in absurd (omega arith)) q,
-    ap (λ (m : ℕ). m - k) (w .2),
-    ap₂ (λ (b : Bool) (m : ℕ). b || ltb m k) (w .3) (w .2),
-    ap (λ (b : Bool). b && exact v) (w .4) ∙ by d refl,
-  )
+  pub kept-end : readIn (Runs r) (drop at s) ≡ some [] → cond (over || not (eqb left 0)) (Refused lengthDiffers) (Fine ok) ≡ scanOf (Runs r) d n (readIn (Runs r) s)
+  kept-end q =
+      let whole : readIn (Runs r) s ≡ some (w .0) = w .1 ∙ ap (Option·map (λ (l : List ℤ). w .0 ++ l)) q ∙ ap some (append-nil (w .0)) in
+      ended over refl ∙ sym (ap (scanOf (Runs r) d n) whole)
     where
-      by : (b : Bool) → d ≡ b → ((w .0) .exact && exact v) ≡ ((w .0) .exact && exact (afterRun d ((w .0) .sum) v k))
-      by false e = rw e
-      by true e =
-          let z : (w .0) .exact ≡ false = w .1 .2 .5 ∙ ap (λ (b : Bool). not b && allExact (resultsFrom d (pos 0) (w .1 .0))) e in
-          rw z
+      -- without delta the results are the values
+      judged : (b : Bool) → (not b && allExact (w .0)) ≡ (not b && allExact (sumsIf b (w .0)))
+      judged true = refl
+      judged false = refl
 
-  pub kept-wrong : readIn (Runs r) (drop at s) ≡ none → Refused numberNotAllowed ≡ scanOf (Runs r) d n i (readIn (Runs r) s)
-  kept-wrong q = passed-wrong (Runs r) d n i s at (w .0) (w .1) q
+      fine : Fine ok ≡ Fine (not d && allExact (sumsIf d (w .0)))
+      fine = ap Fine (w .4 ∙ judged d)
 
-  pub kept-end : n ≤ i → readIn (Runs r) (drop at s) ≡ some [] → cond (over || not (eqb left 0)) (Refused lengthDiffers) (Fine ok (pos 0)) ≡ scanOf (Runs r) d n i (readIn (Runs r) s)
-  kept-end h q = ap₂ (λ (b : Bool) (m : ℕ). cond (b || not (eqb m 0)) (Refused lengthDiffers) (Fine ok (pos 0))) (w .3) (w .2) ∙ by ((w .0) .over) refl ∙ passed-end (Runs r) d n i s at (w .0) (w .1) q
-    where
-      by : (b : Bool) → (w .0) .over ≡ b → cond (b || not (eqb ((w .0) .left) 0)) (Refused lengthDiffers) (Fine ok (pos 0)) ≡ finished (w .0)
-      by true e = rw e
-      by false e = rw (e, w .4, passed-none (Runs r) d n i s at (w .0) (w .1) h e)
+      rest : over ≡ false → (t : Bool) → eqb left 0 ≡ t → cond (not t) (Refused lengthDiffers) (Fine ok) ≡ cond (eqb (length (w .0)) n) (Fine (not d && allExact (sumsIf d (w .0)))) (Refused lengthDiffers)
+      rest o true e = let z = eqb-true left 0 e in let y = w .2 in rw (eq-eqb (length (w .0)) n (omega (arith, ltb-false n (length (w .0)) (sym (w .3) ∙ o)))) fine
+      rest o false e = let z = eqb-false left 0 e in let y = w .2 in rw (ne-eqb (length (w .0)) n (λ x. z (omega arith)))
+
+      ended : (b : Bool) → over ≡ b → cond (over || not (eqb left 0)) (Refused lengthDiffers) (Fine ok) ≡ cond (eqb (length (w .0)) n) (Fine (not d && allExact (sumsIf d (w .0)))) (Refused lengthDiffers)
+      ended true o = rw (o, ne-eqb (length (w .0)) n (λ x. omega (arith, ltb-true n (length (w .0)) (sym (w .3) ∙ o))))
+      ended false o = rw o (rest o (eqb left 0) refl)
 
 -- A count may be taken modulo 2 ^ 32
 
@@ -360,13 +223,18 @@ times-fit k n h =
     let c : k % 4294967296 * n ≤ 4294967295 * 4294967295 = mul-le-mul {n₂ = 4294967295} {m₂ = 4294967295} (omega arith) (omega arith) in
     omega arith
 
--- tallies with the same fields
-pub tally-is : {left left′ wait wait′ : ℕ} {over over′ found found′ exact exact′ : Bool} {sum sum′ cell cell′ : ℤ}
-    → left ≡ left′ → over ≡ over′ → wait ≡ wait′ → found ≡ found′ → sum ≡ sum′ → exact ≡ exact′ → cell ≡ cell′
-    → _≡_ {A = Tally} (record { left = left; over = over; wait = wait; found = found; sum = sum; exact = exact; cell = cell })
-    (record { left = left′; over = over′; wait = wait′; found = found′; sum = sum′; exact = exact′; cell = cell′ })
-tally-is a b c d e f g = cc
+-- By the form that a payload has
 
--- what is read of the payload of a form is what it holds
-pub scan-held : (f g : Form) (d : Bool) (n i : ℕ) (s : List ℕ) (r : Outcome) → Bytes s → g ≡ f → r ≡ scanOf f d n i (readIn f s) → r ≡ scanOf g d n i (heldIn g s)
-scan-held f g d n i s r b q e = e ∙ ap (scanOf f d n i) (sym (held-read f s b)) ∙ ap (λ (x : Form). scanOf x d n i (heldIn x s)) (sym q)
+-- what is read of a form other than names is what is held
+pub scan-held : (f g : Form) (d : Bool) (m n : ℕ) (s : List ℕ) (r : Outcome) → Bytes s → isNames f ≡ false → g ≡ f → r ≡ scanOf f d n (readIn f s) → r ≡ scanOf g d (elements g n m) (heldIn g m s)
+scan-held f g d m n s r b h q e =
+    e ∙ ap (scanOf f d n) (sym (held-read f m s b h)) ∙ ap (λ (c : ℕ). scanOf f d c (heldIn f m s)) (sym (elements-one f n m h))
+    ∙ ap (λ (x : Form). scanOf x d (elements x n m) (heldIn x m s)) (sym q)
+
+-- names are never judged to be exact
+names-judged : (d : Bool) (c : ℕ) (o : Option (List ℤ)) → scanOf Names false c o ≡ scanOf Names d c o
+names-judged d c none = refl
+names-judged d c (some l) = refl
+
+pub scan-names : (g : Form) (d : Bool) (m n : ℕ) (s : List ℕ) (r : Outcome) → g ≡ Names → r ≡ scanOf Names false (elements Names n m) (heldIn Names m s) → r ≡ scanOf g d (elements g n m) (heldIn g m s)
+scan-names g d m n s r q e = e ∙ names-judged d (elements Names n m) (heldIn Names m s) ∙ ap (λ (x : Form). scanOf x d (elements x n m) (heldIn x m s)) (sym q)

@@ -7,7 +7,7 @@ use mathlib.Core.List.{List, _++_, map}
 use Prim.Native.Nat.{ℕ, suc, _+_, _-_, _*_, _%_, _<_, _≤_}
 use native.Mathlib.Nat.{mod-lt}
 use native.Mathlib.Omega.{arith}
-use lib.ListN.{length, drop, set, replicate, List·getD-eq-default}
+use lib.ListN.{length, drop, set, replicate}
 use lib.IntN.{ℤ, pos, negsuc, _+ℤ_}
 use lib.Signed.{mag}
 use lib.Dec.{ltb}
@@ -32,7 +32,6 @@ use Rattle.payloads.specs.Held.{exact, allExact}
 use Rattle.payloads.specs.Results.{advance, resultsFrom, HasRoom}
 use Rattle.payloads.specs.Scan.{scanOf}
 use Rattle.payloads.specs.Items.{readIn}
-use Rattle.payloads.specs.Laws.Scan.{length-results}
 use Rattle.payloads.specs.Laws.Items.{from}
 use Rattle.payloads.specs.Laws.Writing.{written-exact}
 use Rattle.payloads.specs.Laws.Packed.{step, WrittenPacked, packed-written-start, packed-written-length, packed-written-more, packed-written-room, packed-written-done, packed-written-wrong, packed-written-end, Unpacked, unpacked-start, unpacked-more, unpacked-done, unpacked-unfinished, unpacked-other, unpacked-all}
@@ -88,17 +87,17 @@ unfolding Every
 two-fits s at b h = subst (Every (SFits w16)) (numbers-step Two s at h) (numbersIn-fit Two (drop at s) (drop-bytes at s b)) .0
 
 -- the numbers before the place are unpacked: so many were limits, and `part` is the sum of a result that has begun
-abbrev pub Totalled : Bool → ℕ → List ℕ → ℕ → ℕ → Bool → ℤ → Bool → Type 0
-Totalled d i s at limits begun total ok =
-    (part : ℤ) × (count : ℕ) × (sum : ℤ) × (cell : ℤ) × Unpacked Two d i s at part begun count sum ok cell × (at ≡ 2 * (count + limits)) × (mag part ≤ 32768 * limits) × (total ≡ advance d sum part)
+abbrev pub Totalled : Bool → List ℕ → ℕ → ℕ → Bool → ℤ → Bool → Type 0
+Totalled d s at limits begun total ok =
+    (part : ℤ) × (count : ℕ) × (sum : ℤ) × Unpacked Two d s at part begun count sum ok × (at ≡ 2 * (count + limits)) × (mag part ≤ 32768 * limits) × (total ≡ advance d sum part)
 
-pub totalled-start : (d : Bool) (i : ℕ) (s : List ℕ) → Totalled d i s 0 0 false (pos 0) true
-totalled-start d i s = (pos 0, 0, pos 0, pos 0, unpacked-start Two d i s, omega arith, omega arith, at-first d)
+pub totalled-start : (d : Bool) (s : List ℕ) → Totalled d s 0 0 false (pos 0) true
+totalled-start d s = (pos 0, 0, pos 0, unpacked-start Two d s, omega arith, omega arith, at-first d)
 
-module _ (d : Bool) (n i : ℕ) (s : List ℕ) (at limits : ℕ) (begun : Bool) (total : ℤ) (ok : Bool) (w : Totalled d i s at limits begun total ok) where
+module _ (d : Bool) (n : ℕ) (s : List ℕ) (at limits : ℕ) (begun : Bool) (total : ℤ) (ok : Bool) (w : Totalled d s at limits begun total ok) where
   module _ (few : limits ≤ 65534) (h : at + 2 ≤ length s) (x : ℤ) (f : SFits w16 x) (q : signedAt w16 s at ≡ x) where
     near : mag (w .0 +ℤ x) ≤ 32768 * (limits + 1)
-    near = let m = mag-add (w .0) x in let b = w .6 in let k = f .sfits in omega arith
+    near = let m = mag-add (w .0) x in let b = w .5 in let k = f .sfits in omega arith
 
     inside : mag (w .0 +ℤ x) < 2147483648
     inside = let m = near in omega arith
@@ -107,45 +106,40 @@ module _ (d : Bool) (n i : ℕ) (s : List ℕ) (at limits : ℕ) (begun : Bool) 
     wide = record { sfits = let k = f .sfits in omega arith }
 
     partly : SFits w32 (w .0)
-    partly = record { sfits = let b = w .6 in omega arith }
+    partly = record { sfits = let b = w .5 in omega arith }
 
     on : (y : ℤ) → y ≡ plusDelta total x → y ≡ advance d (w .2) (w .0 +ℤ x)
-    on y e = e ∙ ap (λ (t : ℤ). plusDelta t x) (w .7) ∙ total-more d (w .2) (w .0) x partly wide inside
+    on y e = e ∙ ap (λ (t : ℤ). plusDelta t x) (w .6) ∙ total-more d (w .2) (w .0) x partly wide inside
 
     turned : turnOf Two (w .0) (signedAt w16 s at) ≡ cond (isLimit 32767 32768 x) (More (w .0 +ℤ x)) (Done (w .0 +ℤ x))
     turned = ap (turnOf Two (w .0)) q ∙ turn-inside Two (w .0) x inside
 
     -- a limit
-    pub totalled-more : (y : ℤ) → isLimit 32767 32768 x ≡ true → y ≡ plusDelta total x → Totalled d i s (at + 2) (limits + 1) true y ok
+    pub totalled-more : (y : ℤ) → isLimit 32767 32768 x ≡ true → y ≡ plusDelta total x → Totalled d s (at + 2) (limits + 1) true y ok
     totalled-more y l e =
-        let a = w .5 in
+        let a = w .4 in
         let m = near in
         let t : turnOf Two (w .0) (signedAt w16 s at) ≡ More (w .0 +ℤ x) = turned ∙ rw l in
-        (w .0 +ℤ x, w .1, w .2, w .3, unpacked-more Two d n i s at (w .0) begun (w .1) (w .2) ok (w .3) (w .4) h (w .0 +ℤ x) t, omega arith, m, on y e)
+        (w .0 +ℤ x, w .1, w .2, unpacked-more Two d n s at (w .0) begun (w .1) (w .2) ok (w .3) h (w .0 +ℤ x) t, omega arith, m, on y e)
 
     -- the end of a result
-    pub totalled-done : (y : ℤ) → isLimit 32767 32768 x ≡ false → y ≡ plusDelta total x → SFits w32 y → Totalled d i s (at + 2) limits false (cond d y (pos 0)) (ok && exact y)
+    pub totalled-done : (y : ℤ) → isLimit 32767 32768 x ≡ false → y ≡ plusDelta total x → SFits w32 y → Totalled d s (at + 2) limits false (cond d y (pos 0)) (ok && exact y)
     totalled-done y l e g =
-        let a = w .5 in
+        let a = w .4 in
         let t : turnOf Two (w .0) (signedAt w16 s at) ≡ Done (w .0 +ℤ x) = turned ∙ rw l in
-        let u = unpacked-done Two d n i s at (w .0) begun (w .1) (w .2) ok (w .3) (w .4) h (w .0 +ℤ x) y t (on y e) in
-        (pos 0, w .1 + 1, y, _, u, omega arith, omega arith, total-start d y g)
+        let u = unpacked-done Two d n s at (w .0) begun (w .1) (w .2) ok (w .3) h (w .0 +ℤ x) y t (on y e) in
+        (pos 0, w .1 + 1, y, u, omega arith, omega arith, total-start d y g)
 
   module _ (h : length s - at < 2) where
-    pub totalled-unfinished : begun ≡ true → Refused numberNotAllowed ≡ scanOf (Packed Two) d n i (readIn (Packed Two) s)
-    totalled-unfinished e = unpacked-unfinished Two d n i s at (w .0) begun (w .1) (w .2) ok (w .3) (w .4) h e
+    pub totalled-unfinished : begun ≡ true → Refused numberNotAllowed ≡ scanOf (Packed Two) d n (readIn (Packed Two) s)
+    totalled-unfinished e = unpacked-unfinished Two d n s at (w .0) begun (w .1) (w .2) ok (w .3) h e
 
     module _ (e : begun ≡ false) where
-      pub totalled-other : (w .1 ≡ n → ⊥) → Refused lengthDiffers ≡ scanOf (Packed Two) d n i (readIn (Packed Two) s)
-      totalled-other q = unpacked-other Two d n i s at (w .0) begun (w .1) (w .2) ok (w .3) (w .4) h e q
+      pub totalled-other : (w .1 ≡ n → ⊥) → Refused lengthDiffers ≡ scanOf (Packed Two) d n (readIn (Packed Two) s)
+      totalled-other q = unpacked-other Two d n s at (w .0) begun (w .1) (w .2) ok (w .3) h e q
 
-      -- past the end there is no cell
-      pub totalled-all : w .1 ≡ n → n ≤ i → Fine ok (pos 0) ≡ scanOf (Packed Two) d n i (readIn (Packed Two) s)
-      totalled-all q l =
-          let u = w .4 in
-          let c = u .2 in
-          let z : w .3 ≡ pos 0 = u .5 ∙ List·getD-eq-default (resultsFrom d (pos 0) (u .0)) (pos 0) {n = i} (omega (arith, length-results d (pos 0) (u .0))) in
-          ap (Fine ok) (sym z) ∙ unpacked-all Two d n i s at (w .0) begun (w .1) (w .2) ok (w .3) (w .4) h e q
+      pub totalled-all : w .1 ≡ n → Fine ok ≡ scanOf (Packed Two) d n (readIn (Packed Two) s)
+      totalled-all q = unpacked-all Two d n s at (w .0) begun (w .1) (w .2) ok (w .3) h e q
 
 -- Writing
 

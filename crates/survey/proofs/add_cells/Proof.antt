@@ -58,7 +58,7 @@ returns-4 c =
       omega arith,
       c .before .before .add-entry .ensures .0 ∙ ap (λ (x : ℕ). a .args .tally .atoms + x) (entries (a .args .atoms .now)),
       c .add-entry2 .ensures .0 ∙ ap (λ (x : ℕ). a .args .tally .bonds + x) (entries (a .args .bonds .now)),
-      (omega arith, c .before .before .add-entry .ensures .1, c .add-entry2 .ensures .1),
+      (c .before .before .add-entry .ensures .1, c .add-entry2 .ensures .1),
       toZ-ofZ {w = w32} (a .fits .cell),
     )
 
@@ -70,9 +70,7 @@ add-cells-spec =
     (λ c κs. search needs)
     (λ c. search needs)
     returns-2
-    (λ c. search needs)
     returns-3
-    (λ c. search needs)
     (λ c. search needs)
     (λ c. search needs)
     (λ c κs. search needs)

@@ -1,4 +1,4 @@
--- An entry is below 2 ^ 32, so that the product grows by no more than the room for the cells (`mul-le-mul-right`).
+-- An entry is below 2 ^ 32, so that the sum grows by no more than the cells take of the room (`mul-le-mul-right`).
 use Prim.Native.Nat.{_*_, _≤_}
 use native.Mathlib.Nat.{mul-le-mul-right}
 use native.Mathlib.Omega.{arith}
@@ -15,7 +15,7 @@ add-result : tie.Need-add-result
 add-result c = omega (arith, grows c, c .pre .0, c .pre .1)
 
 returns : tie.Need-returns
-returns c = omega (arith, grows c, c .pre .0, c .pre .1)
+returns c = (omega arith, omega (arith, grows c, c .pre .0, c .pre .1))
 
 pub add-entry-spec : {M : Type 1} → statement M
 add-entry-spec = tie.close (tie.spec mul-result add-result returns)

@@ -6,7 +6,7 @@ use mir.Facts.{toZ-ofZ}
 use mir.Val.{SFits}
 use borrow.Author.Needs.{needs}
 use Rattle.payloads.specs.Laws.Scan.{run-last}
-use Rattle.survey.specs.Laws.Rest.{results-same, results-still, last-still, of-zero}
+use Rattle.survey.specs.Laws.Runs.{results-same, results-still, last-still, of-zero}
 use Rattle.survey.proofs.add_run.Statement.{statement}
 use Rattle.survey.proofs.add_run.Tie as tie
 

@@ -12,7 +12,7 @@ use borrow.Author.Needs.{needs}
 use Rattle.codecs.specs.Delta.{plusDelta}
 use Rattle.payloads.specs.Results.{resultsFrom, lastFrom}
 use Rattle.survey.specs.Steps.{Sound, Adds}
-use Rattle.survey.specs.Laws.Rest.{last-first}
+use Rattle.survey.specs.Laws.Runs.{last-first}
 use Rattle.survey.specs.Laws.Steps.{Onward, onward-start, sums-on, sums-off, sums-end}
 use Rattle.survey.proofs.add_sums.Statement.{statement}
 use Rattle.survey.proofs.add_sums.Tie as tie

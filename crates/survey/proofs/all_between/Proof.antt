@@ -1,36 +1,49 @@
--- A column that decodes has a header that passes, and its cells are the results of what is read by it (`decode-read`).
-use mathlib.Core.Path.{sym, _∙_}
-use native.Mathlib.Omega.{arith}
+-- A header that is refused refuses the column, and by one that passes the payload decides (`judged-is`, `pass-judged`).
+use mathlib.Core.Path.{sym, ap, _∙_}
+use Prim.Native.Nat.{_-_}
+use lib.ListN.{length, take, drop}
 use mir.Syntax.{w32}
 use mir.Facts.{toZ-ofZ}
 use borrow.Author.Needs.{needs}
-use Rattle.numbers.specs.Laws.BigEndian.{bytes-of}
-use Rattle.columns.specs.declared.Wanted.the-variants.{Any}
+use Rattle.columns.specs.Table.{elements}
 use Rattle.columns.specs.Laws.Table.{Passes, header-passes}
-use Rattle.survey.specs.Laws.Field.{decode-header, decode-read}
+use Rattle.payloads.specs.Held.{heldIn}
+use Rattle.payloads.specs.Laws.Judged.{judged-is}
+use Rattle.decoding.specs.Laws.Calls.{decode-refused, decode-good}
+use Rattle.survey.specs.Cells.{between, cellsPass}
+use Rattle.survey.specs.Laws.Steps.{pass-judged}
 use Rattle.survey.proofs.all_between.Statement.{statement}
 use Rattle.survey.proofs.all_between.Tie as tie
 
 -- the header that passed
-passed : (c : tie.After-form)
-    → Passes Any (c .before .before .before .before .args .column .now) (c .form .given .0 .0) (c .form .given .0 .1 .0) (c .form .given .0 .1 .1 .0) (c .form .given .0 .1 .1 .1 .0) (c .form .given .0 .1 .1 .1 .1 .0)
+passed : (c : tie.After-n)
+    → Passes (c .before .before .before .before .args .wanted) (c .before .before .before .before .args .column .now) (c .n .given .0 .0) (c .n .given .0 .1 .0) (c .n .given .0 .1 .1 .0) (c .n .given .0 .1 .1 .1 .0) (c .n .given .0 .1 .1 .1 .1 .0)
 passed c =
-    let k = c .form .given .0 in
-    header-passes Any (c .before .before .before .before .args .column .now) (k .0) (k .1 .0) (k .1 .1 .0) (k .1 .1 .1 .0) (k .1 .1 .1 .1 .0) (sym (c .before .before .read-header .ensures) ∙ c .form .given .1)
+    let a = c .before .before .before .before .args in
+    let k = c .n .given .0 in
+    header-passes (a .wanted) (a .column .now) (k .0) (k .1 .0) (k .1 .1 .0) (k .1 .1 .1 .0) (k .1 .1 .1 .1 .0) (sym (c .before .before .read-header .ensures) ∙ c .n .given .1)
+
+sub-results-between : tie.Need-sub-results-between
+sub-results-between c = passed (c .before) .0
+
+part-results-between-start : tie.Need-part-results-between-start
+part-results-between-start c = passed (c .before) .0
 
 returns : tie.Need-returns
-returns c k m xs e =
+returns c =
     let a = c .before .before .before .before .args in
-    decode-header (a .column .now) k m xs e (c .enum-told .given .0 .0) (sym (c .before .before .read-header .ensures) ∙ c .enum-told .given .1)
+    let t = c .enum-told .given in
+    sym (ap (cellsPass (between (a .low) (a .high))) (decode-refused (a .wanted) (a .column .now) (t .0 .0) (sym (c .before .before .read-header .ensures) ∙ t .1)))
 
 returns-2 : tie.Need-returns-2
-returns-2 c k m xs e =
-    let b = c .before .before .before in
-    let a = b .before .before .before .before in
-    let g = b .form .given .0 in
-    let bytes = bytes-of (a .args .column .now) (λ i. omega (arith, b .before .before .before .shared-slice-known .given i)) in
-    let w = decode-read (a .args .column .now) k m xs e (g .0) (g .1 .0) (g .1 .1 .0) (g .1 .1 .1 .0) (g .1 .1 .1 .1 .0) (sym (b .before .before .read-header .ensures) ∙ b .form .given .1) bytes in
-    rw (toZ-ofZ {w = w32} (a .fits .low), toZ-ofZ {w = w32} (a .fits .high), w .2) at (c .results-between .ensures (w .0) (w .1))
+returns-2 c =
+    let a = c .before .before .before .before .before .before .before in
+    let k = c .before .before .before .n .given .0 in
+    let payload = take (length (a .args .column .now) - 12) (drop 12 (a .args .column .now)) in
+    let test = between (a .args .low) (a .args .high) in
+    let h = rw (toZ-ofZ {w = w32} (a .fits .low), toZ-ofZ {w = w32} (a .fits .high)) at (c .results-between .ensures) in
+    let e = decode-good (a .args .wanted) (a .args .column .now) (k .0) (k .1 .0) (k .1 .1 .0) (k .1 .1 .1 .0) (k .1 .1 .1 .1 .0) (sym (c .before .before .before .before .before .read-header .ensures) ∙ c .before .before .before .n .given .1) ∙ judged-is (k .0) (k .1 .0) (k .1 .1 .0) (k .1 .1 .1 .0) (k .1 .1 .1 .1 .0) payload in
+    h ∙ sym (ap (cellsPass test) e ∙ pass-judged test (elements (k .1 .1 .1 .0) (k .0) (k .1 .0)) (k .1 .0) (k .1 .1 .0) (k .1 .1 .1 .1 .0) (heldIn (k .1 .1 .1 .0) (k .1 .0) payload))
 
 pub all-between-spec : {M : Type 1} → statement M
 all-between-spec =
@@ -39,8 +52,9 @@ all-between-spec =
     (λ c κs. search needs)
     (λ c. search needs)
     (λ c. search needs)
-    (λ c. passed (c .before) .0)
-    (λ c. passed (c .before) .0)
+    sub-results-between
+    part-results-between-start
+    (λ c. search needs)
     (λ c. search needs)
     (λ c κs. search needs)
     returns

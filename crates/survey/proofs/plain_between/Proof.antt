@@ -1,5 +1,5 @@
 -- The numbers before the place pass or not, and those from it on decide (`passing-on`).
-use mathlib.Core.Path.{refl, ap, _∙_}
+use mathlib.Core.Path.{ap, _∙_}
 use mathlib.Core.Bool.{Bool, _&&_}
 use Prim.Native.Nat.{_-_, _≤_}
 use native.Mathlib.Omega.{arith}
@@ -10,15 +10,23 @@ use mir.Facts.{toZ-ofZ}
 use borrow.Author.Needs.{needs}
 use Rattle.codecs.specs.Laws.Numbers.{size-pos}
 use Rattle.survey.specs.Cells.{between}
-use Rattle.survey.specs.Laws.Steps.{Passing, passing-on, passing-end}
+use Rattle.survey.specs.Laws.Steps.{Passing, passing-start, passing-on, passing-end}
 use Rattle.survey.proofs.plain_between.Statement.{statement}
 use Rattle.survey.proofs.plain_between.Tie as tie
 
 abbrev Inv-loop : tie.InvT-loop
-Inv-loop payload size low high k at₀ fine₀ at fine = (at ≤ length payload) × Passing (between (toZ w32 low) (toZ w32 high)) size payload at fine
+Inv-loop payload size n low high k at₀ fine₀ at fine = (at ≤ length payload) × Passing (between (toZ w32 low) (toZ w32 high)) n size payload at fine
 
 abbrev μ-loop : tie.MeasureT-loop
-μ-loop payload size low high k at₀ fine₀ at fine = length payload - at
+μ-loop payload size n low high k at₀ fine₀ at fine = length payload - at
+
+div-fine : tie.Need-div-fine Inv-loop μ-loop
+div-fine c = rw (c .bytes .ensures) (size-pos (c .before .before .args .size))
+
+loop-holds : tie.Need-loop-holds Inv-loop μ-loop
+loop-holds c =
+    let a = c .before .before .args in
+    (omega arith, rw (c .bytes .ensures) (passing-start (between (toZ w32 (ofZ w32 (a .low))) (toZ w32 (ofZ w32 (a .high)))) (a .n) (a .size) (a .payload .now)))
 
 loop-less : tie.Need-loop-less Inv-loop μ-loop
 loop-less c = let o = size-pos (c .before .before .before .before .before .before .before .args .size) in omega (arith, c .before .before .before .before .before .bytes .ensures)
@@ -30,14 +38,20 @@ loop-again c =
     let e = c .before .before .before .before .before .bytes .ensures in
     let x = toZ-ofZ {w = w32} (record { sfits = c .before .before .number-at .ok }) ∙ c .before .before .number-at .ensures in
     let t = c .both .ensures ∙ ap (λ (b : Bool). p .fine && b) (c .before .is-between .ensures ∙ ap (between (toZ w32 (ofZ w32 (a .low))) (toZ w32 (ofZ w32 (a .high)))) x) in
-    (omega arith, rw (e, t) (passing-on (between (toZ w32 (ofZ w32 (a .low))) (toZ w32 (ofZ w32 (a .high)))) (a .size) (a .payload .now) (p .at) (p .fine) (p .inv .1) (omega arith)))
+    (omega arith, rw (e, t) (passing-on (between (toZ w32 (ofZ w32 (a .low))) (toZ w32 (ofZ w32 (a .high)))) (a .n) (a .size) (a .payload .now) (p .at) (p .fine) (p .inv .1) (omega arith)))
 
 returns : tie.Need-returns Inv-loop μ-loop
 returns c =
     let a = c .before .before .before .before in
     let p = c .before .loop in
     rw (toZ-ofZ {w = w32} (a .fits .low), toZ-ofZ {w = w32} (a .fits .high))
-    at (passing-end (between (toZ w32 (ofZ w32 (a .args .low))) (toZ w32 (ofZ w32 (a .args .high)))) (a .args .size) (a .args .payload .now) (p .at) (p .fine) (p .inv .1) (omega (arith, c .before .before .bytes .ensures)))
+    at (passing-end (between (toZ w32 (ofZ w32 (a .args .low))) (toZ w32 (ofZ w32 (a .args .high)))) (a .args .n) (a .args .size) (a .args .payload .now) (p .at) (p .fine) (p .inv .1) (omega (arith, c .before .before .bytes .ensures)))
+
+sub-loop : tie.Need-sub-loop Inv-loop μ-loop
+sub-loop c = omega arith
+
+add-at : tie.Need-add-at Inv-loop μ-loop
+add-at c = omega arith
 
 pub plain-between-spec : {M : Type 1} → statement M
 plain-between-spec =
@@ -46,12 +60,13 @@ plain-between-spec =
     Inv-loop
     μ-loop
     (λ c κs. search needs)
-    (λ c. (omega arith, refl))
-    (λ c. omega arith)
+    div-fine
+    loop-holds
+    sub-loop
     (λ c κs. search needs)
     (λ c κs. search needs)
     (λ c κs. search needs)
-    (λ c. omega arith)
+    add-at
     loop-less
     loop-again
     returns)

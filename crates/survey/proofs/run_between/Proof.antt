@@ -4,7 +4,7 @@ use mir.Syntax.{w32}
 use mir.Facts.{toZ-ofZ}
 use borrow.Author.Needs.{needs}
 use Rattle.payloads.specs.Laws.Scan.{run-last}
-use Rattle.survey.specs.Laws.Rest.{results-same, results-still, last-still, of-zero}
+use Rattle.survey.specs.Laws.Runs.{results-same, results-still, last-still, of-zero}
 use Rattle.survey.proofs.run_between.Statement.{statement}
 use Rattle.survey.proofs.run_between.Tie as tie
 

@@ -1,29 +1,24 @@
--- Each arm says it of the payload by its form (`by-form`); plain numbers without delta have a loop of their own.
-use mathlib.Core.Path.{_≡_, ap, _∙_}
-use mathlib.Core.Bool.{false}
-use mathlib.Core.List.{List}
-use Prim.Native.Nat.{_≤_}
-use lib.ListN.{length}
-use lib.IntN.{ℤ}
+-- Each arm says it of the payload by its form; plain numbers without delta have a loop of their own.
+use mathlib.Core.Path.{_≡_, sym, ap, ap₂, _∙_}
+use mathlib.Core.Bool.{Bool, false}
 use borrow.Author.Needs.{needs}
-use Rattle.codecs.specs.declared.Size.the-variants.{One, Two, Four}
 use Rattle.codecs.specs.declared.Size.{Size}
+use Rattle.codecs.specs.declared.Size.the-variants.{One, Two, Four}
+use Rattle.codecs.specs.declared.Form.{Form}
 use Rattle.codecs.specs.declared.Form.the-variants.{Plain}
+use Rattle.payloads.specs.Items.{readIn}
 use Rattle.survey.specs.declared.Sums.{Sums}
-use Rattle.survey.specs.Cells.{TotalsOf}
-use Rattle.survey.specs.Steps.{OfResults, cellLimit}
-use Rattle.survey.specs.Laws.Steps.{by-form}
+use Rattle.survey.specs.Steps.{heldSums}
 use Rattle.survey.proofs.sums_of.Statement.{statement}
 use Rattle.survey.proofs.sums_of.Tie as tie
 
--- what is said of the sums over all results
-abbrev Says : tie.Start → Sums → List ℤ → Type 0
-Says c r xs = length xs ≤ cellLimit → TotalsOf (c .args .types) (c .args .atoms .now) (c .args .bonds .now) xs r
+-- the sums over the payload by a form, with delta or without
+abbrev By : tie.Start → Form → Bool → Sums
+By c f d = heldSums (c .args .types) (c .args .atoms .now) (c .args .bonds .now) (c .args .n) d (readIn f (c .args .payload .now))
 
 -- the answer for plain numbers of a size, where they are what is given
-plain : (c : tie.Start) (r : Sums) (z : Size) → c .args .form ≡ Plain z → c .args .delta ≡ false → OfResults (Plain z) false (c .args .payload .now) (Says c r)
-    → OfResults (c .args .form) (c .args .delta) (c .args .payload .now) (Says c r)
-plain c r z e d h = rw d (by-form (c .args .form) (Plain z) false (c .args .payload .now) (Says c r) e h)
+plain : (c : tie.Start) (r : Sums) (z : Size) → c .args .form ≡ Plain z → c .args .delta ≡ false → r ≡ By c (Plain z) false → r ≡ By c (c .args .form) (c .args .delta)
+plain c r z e d h = h ∙ ap₂ (By c) (sym e) (sym d)
 
 returns-2 : tie.Need-returns-2
 returns-2 c = plain (c .before .before .before .before .before .before .before .before) (c .sum-plain .result) One (c .before .before .before .before .form .given .1 ∙ ap Plain (c .before .enum-told .given .1)) (c .before .before .before .before .before .before .if1 .left) (c .sum-plain .ensures)

@@ -1,38 +1,63 @@
--- A column that decodes has a header that passes, and its cells are the results of what is read by it (`decode-read`), not too many
--- to be counted (`decode-cells`).
-use mathlib.Core.Path.{sym, _∙_}
+-- A header that is refused refuses the column, and by one that passes the payload, which has no names, decides (`judged-read`,
+-- `sums-judged`).
+use mathlib.Core.Path.{refl, sym, ap, _∙_}
+use Prim.Native.Nat.{_-_}
 use native.Mathlib.Omega.{arith}
+use lib.ListN.{length, take, drop}
 use borrow.Author.Needs.{needs}
-use Rattle.numbers.specs.Laws.BigEndian.{bytes-of}
-use Rattle.columns.specs.declared.Wanted.the-variants.{Any}
+use borrow.Author.Tests.{le-leb}
+use Rattle.numbers.specs.BigEndian.{Bytes}
+use Rattle.numbers.specs.Laws.BigEndian.{bytes-of, part-bytes}
+use Rattle.columns.specs.declared.Kind.the-variants.{Int32}
+use Rattle.columns.specs.declared.Wanted.the-variants.{Only}
+use Rattle.columns.specs.Decode.{decode}
 use Rattle.columns.specs.Laws.Table.{Passes, header-passes}
-use Rattle.survey.specs.Laws.Field.{decode-header, decode-read, decode-cells}
+use Rattle.payloads.specs.Items.{readIn}
+use Rattle.payloads.specs.Laws.Judged.{judged-read}
+use Rattle.decoding.specs.Laws.Rows.{not-names}
+use Rattle.decoding.specs.Laws.Calls.{decode-refused, decode-good}
+use Rattle.survey.specs.Cells.{typeLimit, sumsOf}
+use Rattle.survey.specs.Laws.Steps.{sums-judged, sums-many}
 use Rattle.survey.proofs.totals.Statement.{statement}
 use Rattle.survey.proofs.totals.Tie as tie
 
 -- the header that passed
-passed : (c : tie.After-form)
-    → Passes Any (c .before .before .before .before .before .args .column .now) (c .form .given .0 .0) (c .form .given .0 .1 .0) (c .form .given .0 .1 .1 .0) (c .form .given .0 .1 .1 .1 .0) (c .form .given .0 .1 .1 .1 .1 .0)
+passed : (c : tie.After-n)
+    → Passes (Only Int32) (c .before .before .before .before .before .args .column .now) (c .n .given .0 .0) (c .n .given .0 .1 .0) (c .n .given .0 .1 .1 .0) (c .n .given .0 .1 .1 .1 .0) (c .n .given .0 .1 .1 .1 .1 .0)
 passed c =
-    let k = c .form .given .0 in
-    header-passes Any (c .before .before .before .before .before .args .column .now) (k .0) (k .1 .0) (k .1 .1 .0) (k .1 .1 .1 .0) (k .1 .1 .1 .1 .0) (sym (c .before .before .read-header .ensures) ∙ c .form .given .1)
+    let a = c .before .before .before .before .before .args in
+    let k = c .n .given .0 in
+    header-passes (Only Int32) (a .column .now) (k .0) (k .1 .0) (k .1 .1 .0) (k .1 .1 .1 .0) (k .1 .1 .1 .1 .0) (sym (c .before .before .read-header .ensures) ∙ c .n .given .1)
 
 returns : tie.Need-returns
-returns c k m xs e h = absurd (omega (arith, c .before .if1 .taken))
+returns c = let a = c .before .before .before .args in c .no-sums .ensures ∙ sym (sums-many (a .types) (a .atoms .now) (a .bonds .now) (decode (Only Int32) (a .column .now)) (c .before .if1 .taken))
+
+sub-sums-of : tie.Need-sub-sums-of
+sub-sums-of c = passed (c .before) .0
+
+part-sums-of-start : tie.Need-part-sums-of-start
+part-sums-of-start c = passed (c .before) .0
+
+sums-of-requires : tie.Need-sums-of-requires
+sums-of-requires c κs = (c .before .before .before .before .before .if1 .left, passed (c .before .before) .1)
 
 returns-2 : tie.Need-returns-2
-returns-2 c k m xs e h =
+returns-2 c =
     let a = c .before .before .before .before .before .before .args in
-    decode-header (a .column .now) k m xs e (c .before .enum-told .given .0 .0) (sym (c .before .before .before .read-header .ensures) ∙ c .before .enum-told .given .1)
+    let t = c .before .enum-told .given in
+    c .no-sums2 .ensures ∙ sym (ap (sumsOf (a .types) (a .atoms .now) (a .bonds .now)) (decode-refused (Only Int32) (a .column .now) (t .0 .0) (sym (c .before .before .before .read-header .ensures) ∙ t .1)))
 
 returns-3 : tie.Need-returns-3
-returns-3 c k m xs e h =
-    let b = c .before .before .before in
-    let a = b .before .before .before .before .before in
-    let g = b .form .given .0 in
-    let bytes = bytes-of (a .args .column .now) (λ i. omega (arith, b .before .before .before .before .shared-slice-known .given i)) in
-    let w = decode-read (a .args .column .now) k m xs e (g .0) (g .1 .0) (g .1 .1 .0) (g .1 .1 .1 .0) (g .1 .1 .1 .1 .0) (sym (b .before .before .read-header .ensures) ∙ b .form .given .1) bytes in
-    (rw (w .2) at (c .sums-of .ensures (w .0) (w .1))) (decode-cells Any (a .args .column .now) k m xs e)
+returns-3 c =
+    let a = c .before .before .before .before .before .before .before .before .args in
+    let k = c .before .before .before .n .given .0 in
+    let p = passed (c .before .before .before) in
+    let payload = take (length (a .column .now) - 12) (drop 12 (a .column .now)) in
+    let b : Bytes payload = part-bytes (a .column .now) 12 (length (a .column .now) - 12) (omega (arith, p .0)) (bytes-of (a .column .now) (λ i. omega (arith, c .before .before .before .before .before .before .before .shared-slice-known .given i))) in
+    let other = not-names (Only Int32) (a .column .now) (k .0) (k .1 .0) (k .1 .1 .0) (k .1 .1 .1 .0) (k .1 .1 .1 .1 .0) p refl in
+    let e = decode-good (Only Int32) (a .column .now) (k .0) (k .1 .0) (k .1 .1 .0) (k .1 .1 .1 .0) (k .1 .1 .1 .1 .0) (sym (c .before .before .before .before .before .read-header .ensures) ∙ c .before .before .before .n .given .1) ∙ judged-read (k .0) (k .1 .0) (k .1 .1 .0) (k .1 .1 .1 .0) (k .1 .1 .1 .1 .0) payload other b in
+    let few = le-leb (a .types) typeLimit (c .before .before .before .before .before .before .if1 .left) in
+    c .sums-of .ensures ∙ sym (ap (sumsOf (a .types) (a .atoms .now) (a .bonds .now)) e ∙ sums-judged (a .types) (a .atoms .now) (a .bonds .now) (k .0) (k .1 .0) (k .1 .1 .0) (k .1 .1 .1 .1 .0) (readIn (k .1 .1 .1 .0) payload) few)
 
 pub totals-spec : {M : Type 1} → statement M
 totals-spec =
@@ -44,9 +69,9 @@ totals-spec =
     (λ c. search needs)
     (λ c κs. search needs)
     (λ c. search needs)
-    (λ c. passed (c .before) .0)
-    (λ c. passed (c .before) .0)
+    sub-sums-of
+    part-sums-of-start
     (λ c. search needs)
-    (λ c κs. search needs)
+    sums-of-requires
     returns-2
     returns-3)

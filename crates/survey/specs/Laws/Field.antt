@@ -2,12 +2,10 @@
 -- Assumes nothing.
 use mathlib.Core.Path.{_≡_, refl, sym, ap, _∙_}
 use mathlib.Core.Bool.{Bool, true, false, cond, not, _&&_, _||_, and-eq-true-iff}
-use mathlib.Core.Option.{some}
 use mathlib.Core.List.{List, [], _∷_}
 use Prim.Native.Nat.{ℕ, _-_, _*_, _/_, _≤_, _<_}
-use native.Mathlib.Nat.{mul-le-mul}
 use native.Mathlib.Omega.{arith}
-use lib.ListN.{length, take, drop, getD}
+use lib.ListN.{length, take, drop}
 use lib.IntN.{ℤ, pos, negsuc}
 use lib.Signed.{leZ}
 use lib.Dec.{eqb, leb}
@@ -15,8 +13,7 @@ use mir.Syntax.{w32}
 use mir.Val.{SFits}
 use borrow.Author.Tests.{le-leb, leb-true, eq-eqb, eqb-true, not-false}
 use Rattle.refusal.specs.Table.{headerRange}
-use Rattle.numbers.specs.BigEndian.{Bytes, unsignedAt}
-use Rattle.numbers.specs.Laws.BigEndian.{part-bytes}
+use Rattle.numbers.specs.BigEndian.{unsignedAt}
 use Rattle.codecs.specs.declared.Range.{Range}
 use Rattle.codecs.specs.declared.Range.the-variants.{Int8, Int16, Int32, Ascii}
 use Rattle.codecs.specs.declared.Form.{Form}
@@ -28,47 +25,41 @@ use Rattle.codecs.specs.Laws.Delta.{sumsFrom-fit, length-sumsIf}
 use Rattle.columns.specs.declared.Kind.{Kind}
 use Rattle.columns.specs.declared.Kind.the-variants as kind
 use Rattle.columns.specs.declared.Wanted.{Wanted}
-use Rattle.columns.specs.declared.Wanted.the-variants.{Only, Any}
+use Rattle.columns.specs.declared.Wanted.the-variants.{Only}
+use Rattle.columns.specs.declared.Parameter.{Parameter}
+use Rattle.columns.specs.declared.Parameter.the-variants.{Unused, Divisor, NameSize}
 use Rattle.columns.specs.declared.Codec.{Codec}
 use Rattle.columns.specs.declared.Codec.the-variants.{Known, Unknown}
-use Rattle.columns.specs.Table.{kindNumber, suits, lengthLimit, elements}
+use Rattle.columns.specs.Table.{kindNumber, suits, lengthLimit, used, elements}
 use Rattle.columns.specs.declared.Header.the-variants as header
 use Rattle.columns.specs.Header.{headerOf}
 use Rattle.columns.specs.Decode.{Decoding, refused, column, judgedPayload, decode}
 use Rattle.columns.specs.Laws.Table.{Passes, header-passes, every-codec}
-use Rattle.columns.specs.Laws.Decode.{Decoded, decode-rules, decode-kept}
-use Rattle.payloads.specs.Held.{heldIn}
-use Rattle.payloads.specs.Items.{readIn, isNames}
-use Rattle.payloads.specs.Laws.Held.{held-read}
-use Rattle.payloads.specs.Laws.Judged.{elements-one}
+use Rattle.columns.specs.Laws.Rows.{same-kind}
+use Rattle.columns.specs.Laws.Decode.{Decoded, decode-rules}
+use Rattle.payloads.specs.Items.{isNames}
+use Rattle.payloads.specs.Laws.Held.{elements-one}
 use Rattle.decoding.specs.Laws.Rows.{not-names, string-row}
-use Rattle.decoding.specs.Laws.Calls.{payload-part, decode-refused, decode-good}
+use Rattle.decoding.specs.Laws.Calls.{decode-refused, decode-good}
 use Rattle.survey.specs.declared.Checked.the-variants.{Good, Refused}
 use Rattle.survey.specs.Field.{fieldNameSize, isNameSize, otherNames, fieldColumn, isStrings, lengthOf, checkedOf}
 
 -- Kinds
 
--- the kind of a number
-abbrev kindAt : ℕ → Kind
-kindAt n = getD (kind.Float32 ∷ kind.FixedPoint ∷ kind.Int8 ∷ kind.Int16 ∷ kind.Int32 ∷ kind.Strings ∷ kind.Chars ∷ []) n kind.Float32
-
-kindAt-number : (k : Kind) → kindAt (kindNumber k) ≡ k
-kindAt-number kind.Float32 = refl
-kindAt-number kind.FixedPoint = refl
-kindAt-number kind.Int8 = refl
-kindAt-number kind.Int16 = refl
-kindAt-number kind.Int32 = refl
-kindAt-number kind.Strings = refl
-kindAt-number kind.Chars = refl
-
 -- where one kind is wanted no other suits
 pub suits-only : (j k : Kind) → suits (Only j) k ≡ true → k ≡ j
-suits-only j k e = sym (kindAt-number k) ∙ ap kindAt (sym (eqb-true (kindNumber j) (kindNumber k) e)) ∙ kindAt-number j
+suits-only j k e = sym (same-kind j k e)
 
 is-strings : (k : Kind) → isStrings k ≡ true → k ≡ kind.Strings
-is-strings k e = sym (kindAt-number k) ∙ ap kindAt (eqb-true (kindNumber k) (kindNumber kind.Strings) e)
+is-strings k e = same-kind k kind.Strings e
 
 -- Rows of the table
+
+-- the size of names is used
+used-size : (p : Parameter) (m : ℕ) → isNameSize p ≡ true → used p m ≡ m
+used-size Unused m e = let y : _≡_ {A = ℕ} 0 1 = cc in absurd (omega arith)
+used-size Divisor m e = refl
+used-size NameSize m e = refl
 
 -- strings have a size
 abbrev sizedRow : Codec → Bool
@@ -96,7 +87,7 @@ module _ (w : Wanted) (s : List ℕ) (n m : ℕ) (k : Kind) (f : Form) (d : Bool
   unfolding otherNames
   strings-size e o =
       let q : not (eqb (unsignedAt 4 s 8) fieldNameSize) ≡ false = rw (le-leb 12 (length s) (h .0), h .3 .1, h .2, sized e) at o in
-      h .6 ∙ eqb-true (unsignedAt 4 s 8) fieldNameSize (not-false (eqb (unsignedAt 4 s 8) fieldNameSize) q)
+      h .6 ∙ used-size (h .3 .0) (unsignedAt 4 s 8) (sized e) ∙ eqb-true (unsignedAt 4 s 8) fieldNameSize (not-false (eqb (unsignedAt 4 s 8) fieldNameSize) q)
 
 -- Answers
 
@@ -120,12 +111,6 @@ module _ (w : Wanted) (s : List ℕ) where
 
 pub checked-refused : (x : Decoding) (r : ℕ) → x ≡ refused r → Refused r ≡ checkedOf x
 checked-refused x r e = rw e
-
-pub checked-cells : (x : Decoding) (n m : ℕ) (k : Kind) (d : Bool) (l : List ℤ) → isStrings k ≡ false → length l ≡ n → x ≡ column k m (sumsIf d l) → Good n m ≡ checkedOf x
-checked-cells x n m k d l h c e = rw (e, h, length-sumsIf d l, c)
-
-pub checked-names : (x : Decoding) (n m : ℕ) (l : List ℤ) → length l ≡ n * fieldNameSize → x ≡ column kind.Strings m l → Good n m ≡ checkedOf x
-checked-names x n m l c e = let q : length l / fieldNameSize ≡ n = omega arith in rw (e, q)
 
 -- cells are results, but in strings
 pub length-cells : (k : Kind) (xs : List ℤ) → isStrings k ≡ false → lengthOf k xs ≡ length xs
@@ -169,29 +154,6 @@ module _ (w : Wanted) (s : List ℕ) (k : Kind) (m : ℕ) (xs : List ℤ) where
   counted : (r : Decoded w s k m xs) → length xs ≡ elements (r .form) (unsignedAt 4 s 4) m
   counted r = sym (ap length (r .summed)) ∙ length-sumsIf (r .delta) (r .values) ∙ r .counted
 
-  -- it decodes where any kind is wanted
-  pub decode-any : decode w s ≡ column k m xs → decode Any s ≡ column k m xs
-  decode-any e =
-      let r = decode-rules w s k m xs e in
-      decode-kept Any s k m xs
-      (record {
-        form = r .form;
-        delta = r .delta;
-        parameter = r .parameter;
-        values = r .values;
-        long = r .long;
-        known = r .known;
-        suited = refl;
-        few = r .few;
-        parameter-read = r .parameter-read;
-        parameter-right = r .parameter-right;
-        size-right = r .size-right;
-        values-read = r .values-read;
-        held = r .held;
-        counted = r .counted;
-        summed = r .summed;
-      })
-
   -- its kind is the one that is wanted
   pub decode-suits : decode w s ≡ column k m xs → suits w k ≡ true
   decode-suits e = decode-rules w s k m xs e .suited
@@ -203,19 +165,6 @@ module _ (w : Wanted) (s : List ℕ) (k : Kind) (m : ℕ) (xs : List ℤ) where
       let names = other-row w s (unsignedAt 4 s 4) m k (r .form) (r .delta) (passes r) h in
       let l = counted r ∙ elements-one (r .form) (unsignedAt 4 s 4) m names in
       omega (arith, r .few)
-
-  -- and fewer than 2 ^ 32 in any case
-  pub decode-cells : decode w s ≡ column k m xs → length xs ≤ 4294967295
-  decode-cells e = by (isStrings k) refl
-    where
-      by : (t : Bool) → isStrings k ≡ t → length xs ≤ 4294967295
-      by true h =
-          let r = decode-rules w s k m xs e in
-          let row = strings-row w s (unsignedAt 4 s 4) m k (r .form) (r .delta) (passes r) (is-strings k h) in
-          let l : length xs ≡ unsignedAt 4 s 4 * m = counted r ∙ rw (row .0) in
-          let b : unsignedAt 4 s 4 * m ≤ 16777216 * 255 = mul-le-mul {n₂ = 16777216} {m₂ = 255} (r .few) (row .3) in
-          omega arith
-      by false h = let l = decode-length e h in omega arith
 
   -- its cells are 32-bit numbers
   pub decode-fit : decode w s ≡ column k m xs → AllFit w32 xs
@@ -243,10 +192,6 @@ module _ (w : Wanted) (s : List ℕ) (k : Kind) (m : ℕ) (xs : List ℤ) where
   pub fieldColumn-suits : fieldColumn w s ≡ column k m xs → suits w k ≡ true
   fieldColumn-suits e = decode-suits (fieldColumn-decode e)
 
-  -- and as any
-  pub fieldColumn-any : fieldColumn w s ≡ column k m xs → decode Any s ≡ column k m xs
-  fieldColumn-any e = decode-any (fieldColumn-decode e)
-
   -- its length is the one that its header states
   pub fieldColumn-stated : fieldColumn w s ≡ column k m xs → lengthOf k xs ≡ unsignedAt 4 s 4
   fieldColumn-stated e = by (isStrings k) refl
@@ -269,27 +214,9 @@ module _ (w : Wanted) (s : List ℕ) (k : Kind) (m : ℕ) (xs : List ℤ) where
   pub fieldColumn-length : fieldColumn w s ≡ column k m xs → lengthOf k xs ≤ lengthLimit
   fieldColumn-length e = let q = fieldColumn-stated e in omega (arith, decode-rules w s k m xs (fieldColumn-decode e) .few)
 
--- What is read of it, by its header
-
-module _ (s : List ℕ) (k : Kind) (m : ℕ) (xs : List ℤ) (e : decode Any s ≡ column k m xs) where
-  pub decode-header : {A : Type 0} (r : ℕ) → headerOf Any s ≡ header.Refused r → A
-  decode-header r h = let q : refused r ≡ column k m xs = sym (decode-refused Any s r h) ∙ e in let y : _≡_ {A = ℕ} 0 1 = cc in absurd (omega arith)
-
-  rules : Decoded Any s k m xs
-  rules = decode-rules Any s k m xs e
-
-  held : heldIn (rules .form) (drop 12 s) ≡ some (rules .values)
-  unfolding heldIn
-  held = let a = and-eq-true-iff (allIn (rangeOf (rules .form)) (rules .values)) (padded (rules .form) m (rules .values)) .0 (rules .held) .0 in rw (rules .values-read, a)
-
-  pub decode-read : (n′ m′ : ℕ) (k′ : Kind) (f : Form) (d : Bool) → headerOf Any s ≡ header.Good n′ m′ k′ f d → Bytes s
-      → (l : List ℤ) × (readIn f (take (length s - 12) (drop 12 s)) ≡ some l) × (sumsIf d l ≡ xs)
-  decode-read n′ m′ k′ f d h b =
-      let p = header-passes Any s n′ m′ k′ f d h in
-      let q : Known k (rules .form) (rules .delta) (rules .parameter) ≡ Known k′ f d (p .3 .0) = sym (rules .known) ∙ p .3 .1 in
-      let x : rules .form ≡ f = cc in
-      let y : rules .delta ≡ d = cc in
-      let t = payload-part s in
-      let bytes : Bytes (drop 12 s) = rw t at (part-bytes s 12 (length s - 12) (omega (arith, p .0)) b) in
-      let g = sym (held-read (rules .form) (drop 12 s) bytes) ∙ held in
-      (rules .values, rw t (rw x at g), rw y at (rules .summed))
+-- a column that decodes has the length that was read
+pub checked-fine : (w : Wanted) (s : List ℕ) (n m : ℕ) (k : Kind) (f : Form) (d : Bool) (xs : List ℤ) → headerOf w s ≡ header.Good n m k f d → fieldColumn w s ≡ column k m xs → Good n m ≡ checkedOf (fieldColumn w s)
+checked-fine w s n m k f d xs h e =
+    let p = header-passes w s n m k f d h in
+    let q : n ≡ lengthOf k xs = p .5 ∙ sym (fieldColumn-stated w s k m xs e) in
+    ap (λ (i : ℕ). Good i m) q ∙ sym (ap checkedOf e)

@@ -1,8 +1,7 @@
--- Laws of what is left of a payload while its results are passed, once over what is said of them. Assumes nothing.
-use mathlib.Core.Path.{_≡_, refl, sym, ap, subst, _∙_}
+-- Laws of the results of runs of one value. Assumes nothing.
+use mathlib.Core.Path.{_≡_, refl, sym, ap, _∙_}
 use mathlib.Core.Bool.{Bool, true, false}
-use mathlib.Core.Option.{Option, none, some, Option·map}
-use mathlib.Core.List.{List, [], _∷_, _++_}
+use mathlib.Core.List.{List, _∷_}
 use Prim.Native.Nat.{ℕ, zero, suc, _+_, _-_, _%_, _<_}
 use native.Mathlib.Omega.{arith}
 use lib.ListN.{replicate}
@@ -10,36 +9,8 @@ use lib.IntN.{ℤ, pos}
 use mir.Syntax.{w32}
 use mir.Val.{toZ, ofZ, SFits}
 use mir.Facts.{toZ-ofZ, fits-ofZ}
-use Rattle.codecs.specs.Delta.{plusDelta, sumsIf}
+use Rattle.codecs.specs.Delta.{plusDelta}
 use Rattle.payloads.specs.Results.{advance, resultsFrom, lastFrom}
-use Rattle.payloads.specs.Laws.Scan.{results-if, results-append}
-
--- the values r are left after the result x, and Q holds of their results
-abbrev pub Rest : Bool → (List ℤ → Type 0) → Option (List ℤ) → ℤ → Type 0
-Rest d Q left x = (r : List ℤ) × (left ≡ some r) × Q (resultsFrom d x r)
-
-module _ (d : Bool) (Q : List ℤ → Type 0) where
-  pub rest-start : (left : Option (List ℤ)) (l : List ℤ) → left ≡ some l → Q (sumsIf d l) → Rest d Q left (pos 0)
-  rest-start left l e q = (l, e, subst Q (results-if d l) q)
-
-  module _ (left : Option (List ℤ)) (x : ℤ) (w : Rest d Q left x) where
-    -- a run, and what is left after it
-    pub rest-run : (v : ℤ) (k : ℕ) (left′ : Option (List ℤ)) → left ≡ Option·map (λ (l : List ℤ). replicate k v ++ l) left′
-        → (r : List ℤ) × (left′ ≡ some r) × Q (resultsFrom d x (replicate k v) ++ resultsFrom d (lastFrom d x (replicate k v)) r)
-    rest-run v k none e = let q : none ≡ some (w .0) = sym e ∙ w .1 in let y : _≡_ {A = ℕ} 0 1 = cc in absurd (omega arith)
-    rest-run v k (some r) e =
-        let q : some (replicate k v ++ r) ≡ some (w .0) = sym e ∙ w .1 in
-        let z : w .0 ≡ replicate k v ++ r = cc in
-        (r, refl, subst Q (ap (resultsFrom d x) z ∙ results-append d x (replicate k v) r) (w .2))
-
-    pub rest-end : left ≡ some [] → Q []
-    unfolding resultsFrom
-    rest-end e = let q : some (w .0) ≡ some [] = sym (w .1) ∙ e in let z : w .0 ≡ [] = cc in subst (λ (r : List ℤ). Q (resultsFrom d x r)) z (w .2)
-
-    pub rest-wrong : {A : Type 0} → left ≡ none → A
-    rest-wrong e = let q : none ≡ some (w .0) = sym e ∙ w .1 in let y : _≡_ {A = ℕ} 0 1 = cc in absurd (omega arith)
-
--- Runs
 
 module _ (d : Bool) (a v : ℤ) where
   -- the first result of a run

@@ -1,9 +1,9 @@
 -- A length by its quotient and its remainder.
 use native.Mathlib.Omega.{arith}
 use borrow.Author.Needs.{needs}
-use Rattle.decoding.specs.Laws.Names.{product-none, product-part, product-whole}
-use Rattle.decoding.proofs.is_product.Statement.{statement}
-use Rattle.decoding.proofs.is_product.Tie as tie
+use Rattle.payloads.specs.Laws.Refusal.{product-none, product-part, product-whole}
+use Rattle.payloads.proofs.is_product.Statement.{statement}
+use Rattle.payloads.proofs.is_product.Tie as tie
 
 returns : tie.Need-returns
 returns c = let a = c .before .args in product-none (a .length) (a .n) (a .size) (c .if1 .taken)

@@ -15,18 +15,18 @@ use Rattle.codecs.specs.Delta.{plusDelta}
 use Rattle.codecs.specs.Packing.{isLimit}
 use Rattle.payloads.specs.Held.{exact}
 use Rattle.payloads.specs.Laws.Totals.{two-fits, Totalled, totalled-start, totalled-more, totalled-done, totalled-unfinished, totalled-other, totalled-all}
-use Rattle.payloads.proofs.judge_two.Statement.{statement}
-use Rattle.payloads.proofs.judge_two.Tie as tie
+use Rattle.payloads.proofs.scan_two.Statement.{statement}
+use Rattle.payloads.proofs.scan_two.Tie as tie
 
 abbrev Inv-loop : tie.InvT-loop
-Inv-loop payload delta length₀ index i₀ limits₀ last₀ total₀ exact₀ i limits last total exact =
-    (i ≤ length payload) × (limits ≤ i) × (limits ≤ 65534 → Totalled delta index payload i limits last (toZ w32 total) exact)
+Inv-loop payload delta length₀ i₀ limits₀ last₀ total₀ exact₀ i limits last total exact =
+    (i ≤ length payload) × (limits ≤ i) × (limits ≤ 65534 → Totalled delta payload i limits last (toZ w32 total) exact)
 
 abbrev μ-loop : tie.MeasureT-loop
-μ-loop payload delta length₀ index i₀ limits₀ last₀ total₀ exact₀ i limits last total exact = length payload - i
+μ-loop payload delta length₀ i₀ limits₀ last₀ total₀ exact₀ i limits last total exact = length payload - i
 
 loop-holds : tie.Need-loop-holds Inv-loop μ-loop
-loop-holds c = let a = c .before .args in (omega arith, omega arith, (λ few. totalled-start (a .delta) (a .index) (a .payload .now)))
+loop-holds c = let a = c .before .args in (omega arith, omega arith, (λ few. totalled-start (a .delta) (a .payload .now)))
 
 -- the number that was read
 number : (c : tie.After-is-limit Inv-loop μ-loop) → toZ w32 (ofZ w32 (c .before .before .number-at .result)) ≡ signedAt w16 (c .before .before .before .before .before .before .args .payload .now) (c .before .before .before .before .loop .i)
@@ -49,7 +49,7 @@ loop-again c =
     let p = c .before .before .before .before .before .loop in (
       omega arith,
       omega (arith, p .inv .1),
-      (λ few. rw (c .if1 .taken) (totalled-more (a .delta) (a .length) (a .index) (a .payload .now) (p .i) (p .limits) (p .last) (toZ w32 (p .total)) (p .exact) (p .inv .2 (omega arith)) (omega arith) (omega arith)
+      (λ few. rw (c .if1 .taken) (totalled-more (a .delta) (a .length) (a .payload .now) (p .i) (p .limits) (p .last) (toZ w32 (p .total)) (p .exact) (p .inv .2 (omega arith)) (omega arith) (omega arith)
           (signedAt w16 (a .payload .now) (p .i)) (fits (c .before)) refl (toZ w32 (ofZ w32 (c .before .before .add-delta .result))) (limit (c .before) ∙ c .if1 .taken) (total (c .before)))),
     )
 
@@ -63,43 +63,43 @@ loop-again-2 c =
     let t = toZ-ofZ {w = w32} (record { sfits = c .total-after .ok }) ∙ c .total-after .ensures in (
       omega arith,
       omega (arith, p .inv .1),
-      (λ few. rw (e, t, c .before .before .before .if1 .left) (totalled-done (a .delta) (a .length) (a .index) (a .payload .now) (p .i) (p .limits) (p .last) (toZ w32 (p .total)) (p .exact) (p .inv .2 few) few (omega arith)
+      (λ few. rw (e, t, c .before .before .before .if1 .left) (totalled-done (a .delta) (a .length) (a .payload .now) (p .i) (p .limits) (p .last) (toZ w32 (p .total)) (p .exact) (p .inv .2 few) few (omega arith)
           (signedAt w16 (a .payload .now) (p .i)) (fits (c .before .before .before .before)) refl (toZ w32 (ofZ w32 (c .before .before .before .before .before .add-delta .result))) (limit (c .before .before .before .before) ∙ c .before .before .before .if1 .left) (total (c .before .before .before .before)) (rw o (record { sfits = c .before .before .before .before .before .add-delta .ok })))),
     )
 
 -- the numbers, all unpacked
-ended : (c : tie.After-loop Inv-loop μ-loop) → c .before .loop .limits ≤ 65534 → Totalled (c .before .before .before .args .delta) (c .before .before .before .args .index) (c .before .before .before .args .payload .now) (c .before .loop .i) (c .before .loop .limits) (c .before .loop .last) (toZ w32 (c .before .loop .total)) (c .before .loop .exact)
+ended : (c : tie.After-loop Inv-loop μ-loop) → c .before .loop .limits ≤ 65534 → Totalled (c .before .before .before .args .delta) (c .before .before .before .args .payload .now) (c .before .loop .i) (c .before .loop .limits) (c .before .loop .last) (toZ w32 (c .before .loop .total)) (c .before .loop .exact)
 ended c few = c .before .loop .inv .2 few
 
 returns-2 : tie.Need-returns-2 Inv-loop μ-loop
 returns-2 c =
     let a = c .before .before .before .before .before .args in
     let p = c .before .before .before .loop in
-    totalled-unfinished (a .delta) (a .length) (a .index) (a .payload .now) (p .i) (p .limits) (p .last) (toZ w32 (p .total)) (p .exact) (ended (c .before .before) (c .before .if2 .left)) (omega arith) (c .if3 .taken)
+    totalled-unfinished (a .delta) (a .length) (a .payload .now) (p .i) (p .limits) (p .last) (toZ w32 (p .total)) (p .exact) (ended (c .before .before) (c .before .if2 .left)) (omega arith) (c .if3 .taken)
 
 sub-if4 : tie.Need-sub-if4 Inv-loop μ-loop
-sub-if4 c = let w = ended (c .before .before) (c .before .if2 .left) in let e = w .5 in omega arith
+sub-if4 c = let w = ended (c .before .before) (c .before .if2 .left) in let e = w .4 in omega arith
 
 returns-3 : tie.Need-returns-3 Inv-loop μ-loop
 returns-3 c =
     let a = c .before .before .before .before .before .before .args in
     let p = c .before .before .before .before .loop in
     let w = ended (c .before .before .before) (c .before .before .if2 .left) in
-    let e = w .5 in
+    let e = w .4 in
     let q = c .if4 .taken in
-    totalled-other (a .delta) (a .length) (a .index) (a .payload .now) (p .i) (p .limits) (p .last) (toZ w32 (p .total)) (p .exact) w (omega arith) (c .before .if3 .left) (λ x. q (omega arith))
+    totalled-other (a .delta) (a .length) (a .payload .now) (p .i) (p .limits) (p .last) (toZ w32 (p .total)) (p .exact) w (omega arith) (c .before .if3 .left) (λ x. q (omega arith))
 
 returns-4 : tie.Need-returns-4 Inv-loop μ-loop
 returns-4 c =
     let a = c .before .before .before .before .before .before .args in
     let p = c .before .before .before .before .loop in
     let w = ended (c .before .before .before) (c .before .before .if2 .left) in
-    let e = w .5 in
+    let e = w .4 in
     let q = c .if4 .left in
-    totalled-all (a .delta) (a .length) (a .index) (a .payload .now) (p .i) (p .limits) (p .last) (toZ w32 (p .total)) (p .exact) w (omega arith) (c .before .if3 .left) (omega arith) (c .before .before .before .before .before .before .pre)
+    totalled-all (a .delta) (a .length) (a .payload .now) (p .i) (p .limits) (p .last) (toZ w32 (p .total)) (p .exact) w (omega arith) (c .before .if3 .left) (omega arith)
 
-pub judge-two-spec : {M : Type 1} → statement M
-judge-two-spec =
+pub scan-two-spec : {M : Type 1} → statement M
+scan-two-spec =
     tie.close
     (tie.spec
     Inv-loop
