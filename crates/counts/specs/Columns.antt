@@ -114,14 +114,14 @@ abbrev pub isLong : Wanted → ℕ → Option Document → Bool
 isLong w n nothing = true
 isLong w n (some x) = eqb (lengthIn (decoded w x)) n
 
--- has it one entry for each of what it is per?
+-- has a column that is there as many entries as there are atoms, groups or chains, whichever it is for, or any number if it is for bonds?
 abbrev pub longPer : Wanted → Per → ℕ → ℕ → ℕ → Option Document → Bool
 longPer w atom atoms groups chains x = isLong w atoms x
 longPer w group atoms groups chains x = isLong w groups x
 longPer w chain atoms groups chains x = isLong w chains x
 longPer w bond atoms groups chains x = true
 
--- columns have one entry for each of what they are per
+-- has each column of a list the length that it must have in a file of so many atoms, groups and chains?
 unfoldable pub allLong : List Column → ℕ → ℕ → ℕ → Entries → Bool
 allLong [] atoms groups chains es = true
 allLong (c ∷ cs) atoms groups chains es = longPer (c .kind) (c .per) atoms groups chains (field (c .name) es) && allLong cs atoms groups chains es

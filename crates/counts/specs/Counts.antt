@@ -35,7 +35,7 @@ integerIn nothing = pos 0
 abbrev pub integer : Text.String → Entries → ℤ
 integer name es = integerIn (field name es)
 
--- the same as a count, which by rule 2 is not negative
+-- an integer field as a count, which by rule 2 is not negative
 abbrev pub natural : Text.String → Entries → ℕ
 natural name es = natAbs (integer name es)
 
@@ -65,14 +65,14 @@ outerOrders es = cells "bondOrderList" (Only Int8) es
 abbrev pub fewTypes : Entries → Bool
 fewTypes es = leb (count (groupTypes es)) typeLimit
 
--- 2: the five num fields are 0 to 16,777,216; entries of groupsPerChain and chainsPerModel are not negative
+-- 2: each of the five num fields is 0 to the limit of counts; no entry of groupsPerChain or chainsPerModel is negative
 abbrev pub numbersRight : Entries → Bool
 numbersRight es =
     allBetween (pos 0) (pos countLimit)
     (integer "numBonds" es ∷ integer "numAtoms" es ∷ integer "numGroups" es ∷ integer "numChains" es ∷ integer "numModels" es ∷ [])
     && (noneNegative (integers "groupsPerChain" es) && noneNegative (integers "chainsPerModel" es))
 
--- 3: numModels entries in chainsPerModel, summing to numChains; numChains entries in groupsPerChain, summing to numGroups
+-- 3: chainsPerModel has numModels entries, and their sum is numChains; groupsPerChain has numChains entries, and their sum is numGroups
 abbrev pub chainsAgree : Entries → Bool
 chainsAgree es =
     (eqb (length (integers "chainsPerModel" es)) (natural "numModels" es) && eqb (sum (integers "chainsPerModel" es)) (natural "numChains" es))
@@ -88,7 +88,7 @@ lengthsAgree es = allLong columns (natural "numAtoms" es) (natural "numGroups" e
 abbrev pub groupsInside : Entries → Bool
 groupsInside es = allBelow (count (groupTypes es)) (groupCells es)
 
--- 7: the atoms of each group's type, added over all groups, give numAtoms
+-- 7: each group has the atoms of its type, and together these are numAtoms
 abbrev pub atomsAgree : Entries → Bool
 atomsAgree es = eqb (total (each atomsOf (groupTypes es)) (groupCells es)) (natural "numAtoms" es)
 

@@ -3,26 +3,38 @@ use mathlib.Core.Path.{_≡_}
 use mathlib.Core.Bool.{true, false, cond}
 use mathlib.Core.List.{List, [], _∷_}
 use mathlib.Core.Option.{Option, some, none as nothing}
-use Prim.Native.Nat.{ℕ, _<_}
+use Prim.Native.Nat.{ℕ, _≤_, _<_}
 use lib.Dec.{eqb}
 use lib.IntN.{ℤ}
 use lib.ListN.{length, getD}
 use Rattle.messagepack.specs.Document.{Document, Entries}
 use Rattle.fields.specs.Table.{fieldCount}
 use Rattle.fields.specs.Fields.{fieldAt}
-use Rattle.fields.specs.Noted.{PlaceSays}
+use Rattle.values.specs.Places.{PlaceSays}
+use Rattle.values.specs.Walked.{WalkedBy}
 use Rattle.columns.specs.declared.Kind.{Kind}
 use Rattle.columns.specs.declared.Wanted.{Wanted}
 use Rattle.columns.specs.Decode.{column}
 use Rattle.columns.specs.declared.Wanted.the-variants.{Only, Real}
 use Rattle.columns.specs.declared.Kind.the-variants.{Int8, Int32, Strings, Chars}
+use Rattle.survey.specs.Cells.{typeLimit, sumsOver}
+use Rattle.survey.specs.declared.Sums.{Sums}
+use Rattle.groups.specs.Group.{listIn}
 use Rattle.groups.specs.declared.List as list
-use Rattle.counts.specs.Columns.{Column, Per, atom, group, chain, bond, columns, columnOf, decoded, refusalIn, lengthIn}
+use Rattle.counts.specs.Columns.{Column, Per, atom, group, chain, bond, columns, columnOf, AllRight, decoded, cellsIn, refusalIn, lengthIn}
 
 -- the places of the named fields among a file's entries
 pub record PlacesOf (s : List ℕ) (es : Entries) (places : List ℕ) : Type 0 where
   pub long : length places ≡ fieldCount
   pub says : (i : ℕ) → i < fieldCount → PlaceSays s (getD places i 0) (fieldAt i es)
+
+-- a promise on a walked file by its entries, of which the named fields stand at their places
+abbrev pub WalkedFields : List ℕ → List ℕ → List ℕ → (Entries → Type 0) → Type 0
+WalkedFields leads file places P = WalkedBy leads (λ es. PlacesOf file es places) P
+
+-- a promise on a walked file of which the columns decode
+abbrev pub WalkedColumns : List ℕ → List ℕ → List ℕ → (Entries → Type 0) → Type 0
+WalkedColumns leads file places P = WalkedFields leads file places (λ es. AllRight columns es → P es)
 
 -- the columns by numbers, as the code goes through them: the field of each, its kind, and what it has one entry for
 abbrev pub fieldNumbers : List ℕ
@@ -60,3 +72,8 @@ listOf w (some x) = record { there = true; count = lengthIn (decoded w x) }
 abbrev pub Right : Wanted → Option Document → Type 0
 Right w nothing = Unit {0}
 Right w (some x) = record { k : Kind; m : ℕ; cells : List ℤ; is : decoded w x ≡ column k m cells }
+
+-- the sums of two tables over the cells of the int32 column at a place, where it is there and decodes, and the types are not too many
+abbrev pub TotalsIn : ℕ → ℕ → List ℕ → List ℕ → Option Document → Sums → Type 0
+TotalsIn at types atoms bonds o r =
+    (at ≡ 0 → ⊥) → Right (Only Int32) o → types ≤ typeLimit → r ≡ sumsOver types atoms bonds (listIn (cellsIn (Only Int32) o))

@@ -1,18 +1,17 @@
 // The columns of a file at their places: the refusal of the first that has one, their lengths, and what their cells add up to. The table of
-// columns is gone through by numbers, which stand for the rows of specs/Columns.antt.
+// columns is gone through by numbers, which stand for the rows of specs/Columns.antt. Each function takes any bytes and any places, and promises
+// a meaning for a file that has been walked (`Walked.antt` of values).
 ghost use mathlib.Core.Path.{_≡_};
-ghost use mathlib.Core.List.{List};
 ghost use mathlib.Core.Option.{Option};
 ghost use Prim.Native.Nat.{_≤_, _<_};
 ghost use lib.ListN.{getD};
-ghost use Rattle.heads.specs.Table.{leadTable};
-ghost use Rattle.messagepack.specs.Document.{Document, Entries};
-ghost use Rattle.fields.specs.Noted.{PlaceSays};
+ghost use Rattle.messagepack.specs.Document.{Document};
+ghost use Rattle.values.specs.Walked.{WalkedPlace};
 ghost use Rattle.numbers.specs.BigEndian.{unsignedAt};
-ghost use Rattle.survey.specs.Cells.{typeLimit, allBetween, TotalsOf};
+ghost use Rattle.survey.specs.Cells.{allBetween};
 ghost use Rattle.groups.specs.Group.{listIn};
 ghost use Rattle.counts.specs.Columns.{columns, AllRight, columnsNumber, cellsIn, isLong, longPer, allLong};
-ghost use Rattle.counts.specs.Steps.{PlacesOf, fieldNumbers, kindNumbers, perNumbers, kindFrom, perFrom, refusalOf, listOf, Right};
+ghost use Rattle.counts.specs.Steps.{WalkedFields, WalkedColumns, TotalsIn, fieldNumbers, kindNumbers, perNumbers, kindFrom, perFrom, refusalOf, listOf, Right};
 use columns::Kind;
 use columns::Wanted;
 use groups::List;
@@ -25,15 +24,15 @@ const COLUMN_COUNT: usize = 16;
 // The fields of the columns, in field order.
 const FIELDS: [u8; 16] = [8, 9, 10, 11, 12, 13, 16, 17, 18, 19, 20, 21, 22, 23, 24, 25];
 
-// Their kinds: 0 real, 1 int32, 2 strings, 3 int8, 4 chars.
+// The kinds of the columns: 0 real, 1 int32, 2 strings, 3 int8, 4 chars.
 const KINDS: [u8; 16] = [0, 0, 0, 1, 1, 2, 1, 3, 0, 1, 4, 0, 3, 4, 1, 2];
 
-// What they have one entry for: 0 an atom, 1 a group, 2 a chain, 3 a bond.
+// What each column has one entry for: 0 an atom, 1 a group, 2 a chain, 3 a bond.
 const PERS: [u8; 16] = [0, 0, 0, 1, 1, 2, 3, 3, 0, 0, 0, 0, 1, 1, 1, 2];
 
 // The refusal of the first column of a file that has one, 14 to 19, or 0.
 pub fn columns_refusal(leads: &[u8; 256], file: &[u8], places: &[usize; 39]) -> u8
-    ensures { λ r. ⌜ (now (leads .entry) ≡ leadTable → (es : Entries) → PlacesOf (now (file .entry)) es (now (places .entry)) → r ≡ columnsNumber es) ⌝ }
+    ensures { λ r. ⌜ WalkedFields (now (leads .entry)) (now (file .entry)) (now (places .entry)) (λ es. r ≡ columnsNumber es) ⌝ }
 {
     let mut i: usize = 0;
     while i < COLUMN_COUNT {
@@ -55,7 +54,7 @@ pub fn lengths_agree(
     groups: usize,
     chains: usize,
 ) -> bool
-    ensures { λ r. ⌜ (now (leads .entry) ≡ leadTable → (es : Entries) → PlacesOf (now (file .entry)) es (now (places .entry)) → AllRight columns es → r ≡ allLong columns atoms groups chains es) ⌝ }
+    ensures { λ r. ⌜ WalkedColumns (now (leads .entry)) (now (file .entry)) (now (places .entry)) (λ es. r ≡ allLong columns atoms groups chains es) ⌝ }
 {
     let mut i: usize = 0;
     while i < COLUMN_COUNT {
@@ -96,7 +95,7 @@ fn is_long(list: List, count: usize) -> bool
 
 // The length of the column at a place that decodes; a place 0 has none.
 pub fn list_at(leads: &[u8; 256], file: &[u8], at: usize, wanted: Wanted) -> List
-    ensures { λ r. ⌜ (now (leads .entry) ≡ leadTable → (o : Option Document) → PlaceSays (now (file .entry)) at o → Right wanted o → r ≡ listOf wanted o) ⌝ }
+    ensures { λ r. ⌜ WalkedPlace (now (leads .entry)) (now (file .entry)) at (λ o. Right wanted o → r ≡ listOf wanted o) ⌝ }
 {
     if at == 0 {
         return List {
@@ -127,7 +126,7 @@ fn wide32(x: u32) -> usize
 
 // The refusal of the column at a place, 14 to 19, or 0; a place 0 has none.
 fn refusal_at(leads: &[u8; 256], file: &[u8], at: usize, wanted: Wanted) -> u8
-    ensures { λ r. ⌜ (now (leads .entry) ≡ leadTable → (o : Option Document) → PlaceSays (now (file .entry)) at o → r ≡ refusalOf wanted o) ⌝ }
+    ensures { λ r. ⌜ WalkedPlace (now (leads .entry)) (now (file .entry)) at (λ o. r ≡ refusalOf wanted o) ⌝ }
 {
     if at == 0 {
         return refusal::ACCEPTED;
@@ -149,27 +148,26 @@ pub fn all_between(
     low: i32,
     high: i32,
 ) -> bool
-    ensures { λ r. ⌜ (now (leads .entry) ≡ leadTable → (o : Option Document) → PlaceSays (now (file .entry)) at o → Right wanted o → r ≡ allBetween low high (listIn (cellsIn wanted o))) ⌝ }
+    ensures { λ r. ⌜ WalkedPlace (now (leads .entry)) (now (file .entry)) at (λ o. Right wanted o → r ≡ allBetween low high (listIn (cellsIn wanted o))) ⌝ }
 {
     if at == 0 {
         return true;
     }
     let part = values::text_at(leads, file, at);
     let a = part.at;
-    survey::all_between(&file[a..a + part.count], low, high)
+    survey::all_between(&file[a..a + part.count], wanted, low, high)
 }
 
-// Whether the cells of the column at a place, which decodes, are indices of two tables, and the sums of the tables over them.
+// The sums of two tables over the cells of the int32 column at a place, where all are indices of the first `types` entries; else none.
 pub fn totals(
     leads: &[u8; 256],
     file: &[u8],
     at: usize,
-    wanted: Wanted,
     types: usize,
     atoms: &[u32; survey::TYPE_LIMIT],
     bonds: &[u32; survey::TYPE_LIMIT],
 ) -> Sums
-    ensures { λ r. ⌜ (now (leads .entry) ≡ leadTable → (o : Option Document) → PlaceSays (now (file .entry)) at o → (at ≡ 0 → ⊥) → Right wanted o → types ≤ typeLimit → TotalsOf types (now (atoms .entry)) (now (bonds .entry)) (listIn (cellsIn wanted o)) r) ⌝ }
+    ensures { λ r. ⌜ WalkedPlace (now (leads .entry)) (now (file .entry)) at (λ o. TotalsIn at types (now (atoms .entry)) (now (bonds .entry)) o r) ⌝ }
 {
     let part = values::text_at(leads, file, at);
     let a = part.at;

@@ -10,6 +10,7 @@ use lib.ListN.{getD}
 use Rattle.refusal.specs.Table.{accepted, fieldMissing, fieldType, versionNot1}
 use Rattle.messagepack.specs.Document.{Document, Entries}
 use Rattle.values.specs.Parts.{textOf}
+use Rattle.utf8.specs.Ascii.{ascii}
 use Rattle.fields.specs.Types.{FieldType, Rows, plain, last, row, look, Has, Fits}
 use Rattle.fields.specs.Tests.{isThere, have, fitting}
 use Rattle.fields.specs.Table.{named}
@@ -24,7 +25,7 @@ valueOf (suc i) (row k q t rows) es = valueOf i rows es
 unfoldable pub fieldAt : ℕ → Entries → Option Document
 fieldAt i es = valueOf i named es
 
--- the type of row i; no document has that of no row
+-- the type of row i, and past the last row a type that no document has
 unfoldable pub typeIn : ℕ → Rows → FieldType
 typeIn i last = plain 0
 typeIn zero (row k q t rows) = t
@@ -73,9 +74,9 @@ abbrev pub textIn : Option Document → List ℕ
 textIn (some x) = textOf x
 textIn nothing = []
 
--- the text of mmtfVersion, field 0
+-- the text of mmtfVersion
 abbrev pub versionOf : Entries → List ℕ
-versionOf es = textIn (fieldAt 0 es)
+versionOf es = textIn (look (ascii "mmtfVersion") es)
 
 -- the major version is 1: the text begins with "1." and a digit
 pub record VersionOne (t : List ℕ) : Type 0 where
@@ -85,7 +86,7 @@ pub record VersionOne (t : List ℕ) : Type 0 where
   pub low : 0x30 ≤ digit
   pub high : digit ≤ 0x39
 
--- the same as a test
+-- is the major version 1?
 unfoldable pub isVersionOne : List ℕ → Bool
 isVersionOne t = eqb (getD t 0 0) 0x31 && (eqb (getD t 1 0) 0x2e && (leb 0x30 (getD t 2 0) && leb (getD t 2 0) 0x39))
 

@@ -1,16 +1,16 @@
 -- What the functions inside say of whatever stands at a place. For the code inside. No lemma stands here. Assumes nothing.
 use mathlib.Core.Path.{_≡_}
-use mathlib.Core.Bool.{Bool, true, false, cond, _&&_}
+use mathlib.Core.Bool.{Bool, true, false, cond, _&&_, _||_}
 use mathlib.Core.List.{List}
 use mathlib.Core.Option.{Option, some, none as nothing}
 use Prim.Native.Nat.{ℕ, _+_, _<_}
 use lib.Bits.{bitOr}
-use lib.Dec.{eqb, leb, ltb}
+use lib.Dec.{eqb, leb}
 use lib.ListN.{length, getD, replicate}
-use Rattle.heads.specs.Table.{leadTable}
 use Rattle.heads.specs.declared.Kind.{Kind}
-use Rattle.messagepack.specs.Document.{Document, Documents, Entries, count, size}
-use Rattle.values.specs.Places.{At, AtAll, AtEntries}
+use Rattle.messagepack.specs.Document.{Document, Entries}
+use Rattle.values.specs.Places.{At}
+use Rattle.values.specs.Walked.{Walked, WalkedAll, WalkedEntries}
 use Rattle.fields.specs.Types.{Rows}
 use Rattle.fields.specs.Table.{named, fieldCount}
 use Rattle.fields.specs.Tests.{all, fitting}
@@ -36,27 +36,31 @@ numberOf Kind.Map = 6
 numberOf Kind.Outside = 0
 numberOf Kind.Missing = 0
 
+-- has a value of a kind a body after its head: is it a string or a binary?
+abbrev pub hasBody : ℕ → Bool
+hasBody kind = eqb kind 3 || eqb kind 4
+
 -- where a value of a kind that holds no others ends, if it is of the kind that is wanted: its head holds n and ends at p, in a file of some length
 abbrev pub plainEnd : ℕ → ℕ → ℕ → ℕ → ℕ → Typed
 plainEnd length kind wanted n p =
-    cond (eqb kind wanted) (cond (ltb kind 3) (Typed.Ends p) (cond (leb (p + n) length) (Typed.Ends (p + n)) Typed.Wrong)) Typed.Wrong
+    cond (eqb kind wanted) (cond (hasBody kind) (cond (leb (p + n) length) (Typed.Ends (p + n)) Typed.Wrong) (Typed.Ends p)) Typed.Wrong
 
 -- of the document at a place: where it ends, if it passes a test
 pub record ValueSays (leads s : List ℕ) (f : Document → Bool) (at : ℕ) (r : Typed) : Type 0 where
-  pub says : leads ≡ leadTable → (x : Document) (e : ℕ) → At s at x e → r ≡ endsIf (f x) e
+  pub says : Walked leads s at (λ x e. r ≡ endsIf (f x) e)
 
 -- of the n values of an array from a place on: where they end, if all pass
 pub record ItemsSay (leads s : List ℕ) (f : Document → Bool) (n at : ℕ) (r : Typed) : Type 0 where
-  pub says : leads ≡ leadTable → (ds : Documents) (e : ℕ) → AtAll s at ds e → count ds ≡ n → r ≡ endsIf (all f ds) e
+  pub says : WalkedAll leads s n at (λ ds e. r ≡ endsIf (all f ds) e)
 
 -- of the n entries of a map from a place on, when a set of rows has been seen before: where they end, if each named key has its type and all
 -- required ones have been seen
 pub record EntriesSay (leads s : List ℕ) (rows : Rows) (seen n at : ℕ) (r : Typed) : Type 0 where
-  pub says : leads ≡ leadTable → (es : Entries) (e : ℕ) → AtEntries s at es e → size es ≡ n → r ≡ endsIf (fitting rows es && covered rows (bitOr seen (setOf (present rows es)))) e
+  pub says : WalkedEntries leads s n at (λ es e. r ≡ endsIf (fitting rows es && covered rows (bitOr seen (setOf (present rows es)))) e)
 
 -- of the document at a place: where it ends, and whether it has the type of row i of the named fields
 pub record RowSays (leads s : List ℕ) (i at : ℕ) (e : ℕ) (b : Bool) : Type 0 where
-  pub says : leads ≡ leadTable → (x : Document) (f : ℕ) → At s at x f → (e ≡ f) × (b ≡ rowTest i named x)
+  pub says : Walked leads s at (λ x f. (e ≡ f) × (b ≡ rowTest i named x))
 
 -- a place after the rest of the entries: that of the value they have, or the one from before
 pub data PlaceFrom (s : List ℕ) (p : ℕ) : Option Document → ℕ → Type 0 where
@@ -70,9 +74,9 @@ pub record NotedFrom (s : List ℕ) (places : List ℕ) (presence : ℕ) (typed 
   pub present : r .presence ≡ bitOr presence (setOf (present named es))
   pub fit : r .typed ≡ (typed && fitting named es)
 
--- the same of the n entries from a place on
+-- what is noted in the end of the n entries from a place on, when some has been noted before
 pub record NoteSays (leads s : List ℕ) (places : List ℕ) (presence : ℕ) (typed : Bool) (n at : ℕ) (r : Fields) : Type 0 where
-  pub says : leads ≡ leadTable → (es : Entries) (e : ℕ) → AtEntries s at es e → size es ≡ n → NotedFrom s places presence typed es r
+  pub says : WalkedEntries leads s n at (λ es e. NotedFrom s places presence typed es r)
 
 -- no places
 abbrev pub noPlaces : List ℕ

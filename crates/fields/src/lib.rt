@@ -1,27 +1,29 @@
 // The named fields of a file: one pass over the entries of its outer map that notes where each field's value stands and whether it has its
 // type, with the set of those that are present; and the refusals 12, 13 and 24. The types stand in one table of bytes, made once for a pass
-// and lent. Values, arrays and maps are gone through by functions that call each other, the levels left falling.
+// and lent. Values, arrays and maps are gone through by functions that call each other, the levels left falling. Each function takes any bytes
+// and any place, and promises a meaning for a file that has been walked (`Walked.antt` of values).
 ghost use mathlib.Core.Path.{_≡_};
 ghost use mathlib.Core.Bool.{true, false, _&&_};
 ghost use mathlib.Core.List.{List};
 ghost use Prim.Native.Nat.{ℕ, _+_, _*_, _≤_, _<_};
 ghost use lib.ListN.{length, take, drop, set};
-ghost use Rattle.heads.specs.Table.{leadTable};
-ghost use Rattle.messagepack.specs.Document.{Document, Entries, size};
 ghost use Rattle.messagepack.specs.Equal.{equal};
-ghost use Rattle.values.specs.Places.{At, AtEntries};
+ghost use Rattle.values.specs.Walked.{Walked, WalkedEntries, WalkedBy};
 ghost use Rattle.fields.specs.Types.{FieldType, plain};
 ghost use Rattle.fields.specs.Table.{fieldCount};
 ghost use Rattle.fields.specs.Tests.{typed};
 ghost use Rattle.fields.specs.Fields.{fieldTypeOf, isVersionOne, fieldsNumber};
 ghost use Rattle.fields.specs.Noted.{Noted};
 ghost use Rattle.fields.specs.Numbers.{typeTable, cellOf, nameOf, rowsFrom, typeOf, findRow, rowTest, build, covered, marked, lacking, distinctNames};
-ghost use Rattle.fields.specs.Steps.{numberOf, plainEnd, ValueSays, ItemsSay, EntriesSay, RowSays, noPlaces};
+ghost use Rattle.fields.specs.Steps.{numberOf, hasBody, plainEnd, ValueSays, ItemsSay, EntriesSay, RowSays, noPlaces};
 use heads::Head;
 use heads::Kind;
 
 // How many fields are named.
 pub const FIELD_COUNT: usize = 39;
+
+// The number of mmtfVersion among the named fields.
+const MMTF_VERSION: usize = 0;
 
 // What a pass over a file's entries notes of the named fields: where each one's value stands, 0 where it is absent; the set of those present,
 // a bit for each; whether each of them has its type.
@@ -45,7 +47,7 @@ pub struct Judged {
 
 // What is noted of the count entries of a file from a place on. A value of the wrong type is stepped over, since 12 comes before 13.
 pub fn note(leads: &[u8; 256], file: &[u8], count: usize, at: usize) -> Fields
-    ensures { λ r. ⌜ (now (leads .entry) ≡ leadTable → (es : Entries) (e : ℕ) → AtEntries (now (file .entry)) at es e → size es ≡ count → Noted (now (file .entry)) es r) ⌝ }
+    ensures { λ r. ⌜ WalkedEntries (now (leads .entry)) (now (file .entry)) count at (λ es e. Noted (now (file .entry)) es r) ⌝ }
 {
     let types = types();
     let mut places = no_places();
@@ -75,7 +77,7 @@ pub fn note(leads: &[u8; 256], file: &[u8], count: usize, at: usize) -> Fields
 
 // The refusal of a file by what is noted of its fields: 12, 13, 24, or 0.
 pub fn refusal_of(leads: &[u8; 256], file: &[u8], fields: Fields) -> u8
-    ensures { λ r. ⌜ (now (leads .entry) ≡ leadTable → (es : Entries) → Noted (now (file .entry)) es fields → r ≡ fieldsNumber es) ⌝ }
+    ensures { λ r. ⌜ WalkedBy (now (leads .entry)) (λ es. Noted (now (file .entry)) es fields) (λ es. r ≡ fieldsNumber es) ⌝ }
 {
     let types = types();
     let whole = all_seen(&types, fields.presence, FIRST_FIELD, FIELD_COUNT);
@@ -86,7 +88,7 @@ pub fn refusal_of(leads: &[u8; 256], file: &[u8], fields: Fields) -> u8
     if !right {
         return refusal::FIELD_TYPE;
     }
-    let version = values::text_at(leads, file, fields.places[0]);
+    let version = values::text_at(leads, file, fields.places[MMTF_VERSION]);
     let a = version.at;
     let m = version.count;
     if !is_version_one(file, a, m) {
@@ -97,7 +99,7 @@ pub fn refusal_of(leads: &[u8; 256], file: &[u8], fields: Fields) -> u8
 
 // Has the value at a place the type of a named field? Where there is no such field, no value has.
 pub fn is_typed(leads: &[u8; 256], file: &[u8], at: usize, field: usize) -> bool
-    ensures { λ r. ⌜ (now (leads .entry) ≡ leadTable → (x : Document) (e : ℕ) → At (now (file .entry)) at x e → r ≡ typed (fieldTypeOf field) x) ⌝ }
+    ensures { λ r. ⌜ Walked (now (leads .entry)) (now (file .entry)) at (λ x e. r ≡ typed (fieldTypeOf field) x) ⌝ }
 {
     if FIELD_COUNT <= field {
         return false;
@@ -351,7 +353,7 @@ fn plain_items(leads: &[u8; 256], file: &[u8], count: usize, at: usize, wanted: 
     plain_each(leads, file, count, at, wanted)
 }
 
-// The same, value by value.
+// The count values of an array from a place on, each of a kind, one after another.
 fn plain_each(leads: &[u8; 256], file: &[u8], count: usize, at: usize, wanted: usize) -> Typed
     requires { ⌜ wanted ≤ 4 ⌝ }
     ensures { λ r. ⌜ ItemsSay (now (leads .entry)) (now (file .entry)) (typed (plain wanted)) count at r ⌝ }
@@ -429,7 +431,7 @@ fn plain_end(file: &[u8], kind: usize, wanted: usize, n: usize, p: usize) -> Typ
     if kind != wanted {
         return Typed::Wrong;
     }
-    if kind < 3 {
+    if !has_body(kind) {
         return Typed::Ends(p);
     }
     if file.len() < p {
@@ -439,6 +441,13 @@ fn plain_end(file: &[u8], kind: usize, wanted: usize, n: usize, p: usize) -> Typ
         return Typed::Wrong;
     }
     Typed::Ends(p + n)
+}
+
+// Has a value of a kind a body after its head: is it a string or a binary?
+fn has_body(kind: usize) -> bool
+    ensures { λ r. ⌜ r ≡ hasBody kind ⌝ }
+{
+    kind == 3 || kind == 4
 }
 
 // The number of a kind.

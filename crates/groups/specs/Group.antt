@@ -55,24 +55,24 @@ ordersRight orders = allBetween (pos 1) (pos 4) (listIn orders)
 abbrev pub atomsOf : Document → ℕ
 atomsOf x = count (itemsIn (under "atomNameList" x))
 
--- its bond indices and orders, if there are any
+-- the bond indices and orders of a group type, if there are any
 abbrev pub bondAtomsOf : Document → Option (List ℤ)
 bondAtomsOf x = integersIn (under "bondAtomList" x)
 
 abbrev pub bondOrdersOf : Document → Option (List ℤ)
 bondOrdersOf x = integersIn (under "bondOrderList" x)
 
--- how many bonds it has
+-- how many bonds a group type has
 abbrev pub bondsOf : Document → ℕ
 bondsOf x = pairs (bondAtomsOf x)
 
--- its three lists are equally long, and its bonds agree
+-- the three lists of a group type are equally long, and its bonds agree
 abbrev pub listsAgree : Document → Bool
 listsAgree x =
     eqb (count (itemsIn (under "formalChargeList" x))) (atomsOf x)
     && (eqb (count (itemsIn (under "elementList" x))) (atomsOf x) && bondsAgree (bondAtomsOf x) (bondOrdersOf x))
 
--- its bond indices are inside its atoms
+-- the bond indices of a group type are inside its atoms
 abbrev pub bondsInside : Document → Bool
 bondsInside x = allBelow (atomsOf x) (listIn (bondAtomsOf x))
 

@@ -1,19 +1,21 @@
 -- What the functions inside this crate say of a group type at a place. No lemma stands here. Assumes nothing.
 use mathlib.Core.Path.{_≡_}
 use mathlib.Core.Bool.{Bool, true, false, cond, _&&_}
-use mathlib.Core.List.{List, [], _∷_}
+use mathlib.Core.List.{List}
 use mathlib.Core.Option.{Option, some, none as nothing}
-use Prim.Native.Nat.{ℕ, zero, suc, _*_, _%_, _≤_, _<_}
-use lib.Dec.{eqb}
+use Prim.Native.Nat.{ℕ, zero, suc, _*_, _%_}
+use lib.Dec.{eqb, leb}
 use lib.IntN.{ℤ, pos, negsuc}
-use Rattle.refusal.specs.Table.{accepted, tooManyGroupTypes}
-use Rattle.messagepack.specs.Document.{Document, Documents, Entries, none, item, count}
+use Rattle.refusal.specs.Table.{accepted}
+use Rattle.messagepack.specs.Document.{Document, Entries, count}
+use Rattle.messagepack.specs.Limits.{integerLimit}
 use Rattle.messagepack.specs.Equal.{equal}
 use Rattle.fields.specs.Types.{look}
 use Rattle.utf8.specs.Ascii.{ascii}
-use Rattle.fields.specs.Noted.{PlaceSays}
-use Rattle.survey.specs.Cells.{typeLimit}
-use Rattle.groups.specs.Group.{under, itemsIn, atomsOf, bondsOf, groupNumber, groupsNumber}
+use Rattle.values.specs.Parts.{entriesOf}
+use Rattle.values.specs.Places.{PlaceSays}
+use Rattle.values.specs.Walked.{WalkedBy}
+use Rattle.groups.specs.Group.{under, itemsIn, atomsOf, bondsOf, groupNumber}
 use Rattle.groups.specs.declared.Places.{Places}
 use Rattle.groups.specs.declared.Found.{Found}
 use Rattle.groups.specs.declared.Group.{Group}
@@ -47,7 +49,7 @@ noted key value r =
       orders = cond (equal key (ascii "bondOrderList")) value (r .orders);
     }
 
--- how many values an array has that is there
+-- whether an array is there, and how many values it has, 0 where it is not
 abbrev pub listOf : Option Document → l.List
 listOf (some x) = record { there = true; count = count (itemsIn (some x)) }
 listOf nothing = record { there = false; count = 0 }
@@ -57,10 +59,14 @@ abbrev pub agrees : Bool → ℕ → Bool → ℕ → Bool
 agrees hasBonds bonds hasOrders orders =
     cond hasBonds (eqb (bonds % 2) 0 && cond hasOrders (eqb (orders * 2) bonds) true) (cond hasOrders false true)
 
--- the last index of a table of n entries, -1 where there is none
+-- the last index of a table of n entries that an integer can hold, -1 where there is none
 abbrev pub lastIndex : ℕ → ℤ
 lastIndex zero = negsuc 0
-lastIndex (suc n) = pos n
+lastIndex (suc n) = pos (cond (leb n integerLimit) n integerLimit)
+
+-- a promise on a walked file by a group type whose lists stand at places
+abbrev pub WalkedLists : List ℕ → List ℕ → Places → (Document → Type 0) → Type 0
+WalkedLists leads file places P = WalkedBy leads (λ x. PlacesIn file (entriesOf x) places) P
 
 -- the lengths of a group type's lists
 pub record Counted (x : Document) (atoms charges elements : ℕ) (bonds orders : l.List) : Type 0 where
@@ -76,16 +82,3 @@ pub record GroupSays (x : Document) (e : ℕ) (r : Group) : Type 0 where
   pub atoms : r .refusal ≡ accepted → r .atoms ≡ atomsOf x
   pub bonds : r .refusal ≡ accepted → r .bonds ≡ bondsOf x
   pub ends : r .end ≡ e
-
--- a table after group types: it begins with a number of each type that rule 5 passes, up to the first that it refuses; beyond it is as before
-unfoldable pub tableOf : (Document → ℕ) → Documents → List ℕ → List ℕ
-tableOf f none old = old
-tableOf f (item x types) [] = []
-tableOf f (item x types) (o ∷ old) = cond (eqb (groupNumber x) accepted) (f x ∷ tableOf f types old) (o ∷ old)
-
--- the answer for group types: rule 5's number, and what the tables of atoms and bonds hold; 23 for too many types, with the tables as before
-pub record Tables (types : Documents) (old-atoms old-bonds atoms bonds : List ℕ) (r : ℕ) : Type 0 where
-  pub number : count types ≤ typeLimit → r ≡ groupsNumber types
-  pub atoms-are : count types ≤ typeLimit → atoms ≡ tableOf atomsOf types old-atoms
-  pub bonds-are : count types ≤ typeLimit → bonds ≡ tableOf bondsOf types old-bonds
-  pub many : typeLimit < count types → (r ≡ tooManyGroupTypes) × (atoms ≡ old-atoms) × (bonds ≡ old-bonds)

@@ -1,21 +1,14 @@
-// Group types at places of a file: their atoms and bonds, and rule 5 of paper 01, "Counts that must agree", for each in turn. One pass over a
-// type's entries notes where its lists stand.
+// A group type at a place of a file: its atoms and bonds, and rule 5 of paper 01, "Counts that must agree". One pass over its entries notes
+// where its lists stand. Each function takes any bytes and any place, and promises a meaning for a file that has been walked.
 ghost use mathlib.Core.Path.{_≡_};
 ghost use mathlib.Core.Bool.{cond};
-ghost use mathlib.Core.List.{List};
-ghost use mathlib.Core.Option.{Option};
-ghost use Prim.Native.Nat.{ℕ, _+_, _-_, _*_, _/_, _%_, _≤_, _<_};
+ghost use Prim.Native.Nat.{_+_, _-_, _*_, _/_, _%_, _≤_, _<_};
 ghost use lib.ListN.{length};
-ghost use Rattle.heads.specs.Table.{leadTable};
-ghost use Rattle.messagepack.specs.Limits.{fileLimit};
-ghost use Rattle.messagepack.specs.Document.{Document, Documents, Entries, count, size};
-ghost use Rattle.values.specs.Parts.{itemsOf, entriesOf};
-ghost use Rattle.values.specs.Places.{At, AtAll, AtEntries};
-ghost use Rattle.survey.specs.Cells.{typeLimit, allBelow};
-ghost use Rattle.fields.specs.Noted.{PlaceSays};
+ghost use Rattle.values.specs.Parts.{entriesOf};
+ghost use Rattle.values.specs.Walked.{Short, Walked, WalkedEntries, WalkedPlace, WalkedOver};
+ghost use Rattle.survey.specs.Cells.{allBelow};
 ghost use Rattle.groups.specs.Group.{integersIn, listIn, ordersRight, groupNumber};
-ghost use Rattle.groups.specs.Steps.{PlacesIn, noted, agrees, listOf, lastIndex, Counted, GroupSays, Tables, FoundIn, noLists};
-ghost use Rattle.values.specs.Standing.{Standing};
+ghost use Rattle.groups.specs.Steps.{noted, agrees, listOf, lastIndex, WalkedLists, Counted, GroupSays, FoundIn, noLists};
 use heads::Head;
 use heads::Kind;
 
@@ -48,53 +41,9 @@ pub struct List {
     pub count: usize,
 }
 
-// The refusal by rule 5 of the first group type of the array at a place that has one, or 0 with the atoms and bonds of each type in the tables.
-pub fn groups(
-    leads: &[u8; 256],
-    file: &[u8],
-    at: usize,
-    atoms: &mut [u32; survey::TYPE_LIMIT],
-    bonds: &mut [u32; survey::TYPE_LIMIT],
-) -> u8
-    ensures { λ r. ⌜ (now (leads .entry) ≡ leadTable → length (now (file .entry)) ≤ fileLimit → length (now (atoms .entry)) ≡ typeLimit → length (now (bonds .entry)) ≡ typeLimit → (x : Document) (e : ℕ) → At (now (file .entry)) at x e → Tables (itemsOf x) (now (atoms .entry)) (now (bonds .entry)) (now (atoms .exit)) (now (bonds .exit)) r) ⌝ }
-{
-    let part = values::items_at(leads, file, at);
-    if survey::TYPE_LIMIT < part.count {
-        return refusal::TOO_MANY_GROUP_TYPES;
-    }
-    groups_from(leads, file, part.count, part.at, atoms, bonds)
-}
-
-// The same of n group types from a place on.
-fn groups_from(
-    leads: &[u8; 256],
-    file: &[u8],
-    n: usize,
-    at: usize,
-    atoms: &mut [u32; survey::TYPE_LIMIT],
-    bonds: &mut [u32; survey::TYPE_LIMIT],
-) -> u8
-    requires { ⌜ n ≤ typeLimit ⌝ }
-    ensures { λ r. ⌜ (now (leads .entry) ≡ leadTable → length (now (file .entry)) ≤ fileLimit → length (now (atoms .entry)) ≡ typeLimit → length (now (bonds .entry)) ≡ typeLimit → (ds : Documents) (e : ℕ) → AtAll (now (file .entry)) at ds e → count ds ≡ n → Tables ds (now (atoms .entry)) (now (bonds .entry)) (now (atoms .exit)) (now (bonds .exit)) r) ⌝ }
-{
-    let mut i: usize = 0;
-    let mut p = at;
-    while i < n {
-        let group = group_at(leads, file, p);
-        if group.refusal != refusal::ACCEPTED {
-            return group.refusal;
-        }
-        atoms[i] = group.atoms;
-        bonds[i] = group.bonds;
-        p = group.end;
-        i += 1;
-    }
-    refusal::ACCEPTED
-}
-
-// The group type at a place.
-fn group_at(leads: &[u8; 256], file: &[u8], at: usize) -> Group
-    ensures { λ r. ⌜ (now (leads .entry) ≡ leadTable → length (now (file .entry)) ≤ fileLimit → (x : Document) (e : ℕ) → At (now (file .entry)) at x e → GroupSays x e r) ⌝ }
+// The group type at a place: its refusal by rule 5, its atoms and bonds, and its end.
+pub fn group_at(leads: &[u8; 256], file: &[u8], at: usize) -> Group
+    ensures { λ r. ⌜ (Short (now (file .entry)) → Walked (now (leads .entry)) (now (file .entry)) at (λ x e. GroupSays x e r)) ⌝ }
 {
     let found = places_at(leads, file, at);
     let places = found.places;
@@ -123,7 +72,7 @@ fn judge(
     bonds: List,
     orders: List,
 ) -> u8
-    ensures { λ r. ⌜ (now (leads .entry) ≡ leadTable → (x : Document) → PlacesIn (now (file .entry)) (entriesOf x) places → Counted x atoms charges elements bonds orders → atoms ≤ fileLimit → r ≡ groupNumber x) ⌝ }
+    ensures { λ r. ⌜ WalkedLists (now (leads .entry)) (now (file .entry)) places (λ x. Counted x atoms charges elements bonds orders → r ≡ groupNumber x) ⌝ }
 {
     if charges != atoms {
         return refusal::COUNTS_DISAGREE;
@@ -167,7 +116,7 @@ pub fn lists_agree(bonded: bool, bonds: usize, ordered: bool, orders: usize) -> 
 
 // Whether the integers of the array at a place are indices of a table of n entries; a place 0 has none.
 pub fn inside(leads: &[u8; 256], file: &[u8], at: usize, n: usize) -> bool
-    ensures { λ r. ⌜ (now (leads .entry) ≡ leadTable → (o : Option Document) → PlaceSays (now (file .entry)) at o → n ≤ fileLimit → r ≡ allBelow n (listIn (integersIn o))) ⌝ }
+    ensures { λ r. ⌜ WalkedPlace (now (leads .entry)) (now (file .entry)) at (λ o. r ≡ allBelow n (listIn (integersIn o))) ⌝ }
 {
     if at == 0 {
         return true;
@@ -175,22 +124,22 @@ pub fn inside(leads: &[u8; 256], file: &[u8], at: usize, n: usize) -> bool
     lists::all_between(leads, file, at, 0, last_index(n))
 }
 
-// The last index of a table of n entries, -1 where there is none.
+// The last index of a table of n entries that an integer can hold, -1 where there is none.
 pub fn last_index(n: usize) -> i32
-    ensures { λ r. ⌜ (n ≤ 2147483647 → r ≡ lastIndex n) ⌝ }
+    ensures { λ r. ⌜ r ≡ lastIndex n ⌝ }
 {
     if n == 0 {
         return -1;
     }
-    if 2147483647 < n {
-        return 0;
+    if messagepack::INTEGER_LIMIT < n {
+        return 2147483647;
     }
     (n - 1) as i32
 }
 
 // Whether the integers of the array at a place are 1 to 4; a place 0 has none.
 fn in_orders(leads: &[u8; 256], file: &[u8], at: usize) -> bool
-    ensures { λ r. ⌜ (now (leads .entry) ≡ leadTable → (o : Option Document) → PlaceSays (now (file .entry)) at o → r ≡ ordersRight (integersIn o)) ⌝ }
+    ensures { λ r. ⌜ WalkedPlace (now (leads .entry)) (now (file .entry)) at (λ o. r ≡ ordersRight (integersIn o)) ⌝ }
 {
     if at == 0 {
         return true;
@@ -201,7 +150,7 @@ fn in_orders(leads: &[u8; 256], file: &[u8], at: usize) -> bool
 // How many values the array at a place has; a place 0 has none.
 pub fn list_at(leads: &[u8; 256], file: &[u8], at: usize) -> List
     ensures few { λ r. ⌜ r .count ≤ length (now (file .entry)) ⌝ }
-    ensures is { λ r. ⌜ (now (leads .entry) ≡ leadTable → (o : Option Document) → PlaceSays (now (file .entry)) at o → r ≡ listOf o) ⌝ }
+    ensures is { λ r. ⌜ WalkedPlace (now (leads .entry)) (now (file .entry)) at (λ o. r ≡ listOf o) ⌝ }
 {
     if at == 0 {
         return List {
@@ -217,7 +166,7 @@ pub fn list_at(leads: &[u8; 256], file: &[u8], at: usize) -> List
 
 // Where the lists of the group type at a place stand, and where it ends; a value that is no map has none.
 fn places_at(leads: &[u8; 256], file: &[u8], at: usize) -> Found
-    ensures { λ r. ⌜ (now (leads .entry) ≡ leadTable → (x : Document) (e : ℕ) → At (now (file .entry)) at x e → FoundIn (now (file .entry)) (entriesOf x) e r) ⌝ }
+    ensures { λ r. ⌜ Walked (now (leads .entry)) (now (file .entry)) at (λ x e. FoundIn (now (file .entry)) (entriesOf x) e r) ⌝ }
 {
     let Head::At(n, p) = heads::head_at(leads, file, at) else {
         return no_lists(leads, file, at);
@@ -235,9 +184,9 @@ fn places_at(leads: &[u8; 256], file: &[u8], at: usize) -> Found
     }
 }
 
-// The same of a value that is no map.
+// No lists, and where the value at a place, which is no map, ends.
 fn no_lists(leads: &[u8; 256], file: &[u8], at: usize) -> Found
-    ensures { λ r. ⌜ (r .places ≡ noLists) × (now (leads .entry) ≡ leadTable → (e : ℕ) → Standing (now (file .entry)) 1 at e → r .end ≡ e) ⌝ }
+    ensures { λ r. ⌜ (r .places ≡ noLists) × WalkedOver (now (leads .entry)) (now (file .entry)) at (λ e. r .end ≡ e) ⌝ }
 {
     let end = values::skip(leads, file, at);
     let places = Places {
@@ -255,7 +204,7 @@ fn no_lists(leads: &[u8; 256], file: &[u8], at: usize) -> Found
 
 // Where the lists of a group type with n entries from a place on stand, and where these end.
 fn places_from(leads: &[u8; 256], file: &[u8], n: usize, at: usize) -> Found
-    ensures { λ r. ⌜ (now (leads .entry) ≡ leadTable → (es : Entries) (e : ℕ) → AtEntries (now (file .entry)) at es e → size es ≡ n → FoundIn (now (file .entry)) es e r) ⌝ }
+    ensures { λ r. ⌜ WalkedEntries (now (leads .entry)) (now (file .entry)) n at (λ es e. FoundIn (now (file .entry)) es e r) ⌝ }
 {
     let mut places = Places {
         charges: 0,

@@ -11,6 +11,6 @@ use Rattle.groups.specs.Group.{under, itemsIn, integersIn, listIn}
 abbrev pub chainsInside : ℕ → Document → Bool
 chainsInside n x = allBelow n (listIn (integersIn (under "chainIndexList" x)))
 
--- those of an assembly's transforms
+-- the chains that the transforms of an assembly list are inside n chains
 abbrev pub transformsInside : ℕ → Document → Bool
 transformsInside n x = all (chainsInside n) (itemsIn (under "transformList" x))

@@ -1,20 +1,14 @@
 // Rule 11 of paper 01, "Counts that must agree": whether the chains that entities and transforms list are inside the chains. Each function takes
-// any bytes and any place, and says what it answers for whatever document stands there; a place 0 has none.
+// any bytes and any place, and promises a meaning for a file that has been walked; a place 0 has no document.
 ghost use mathlib.Core.Path.{_≡_};
-ghost use mathlib.Core.Option.{Option};
-ghost use Prim.Native.Nat.{ℕ, _≤_};
-ghost use Rattle.heads.specs.Table.{leadTable};
-ghost use Rattle.messagepack.specs.Limits.{fileLimit};
-ghost use Rattle.messagepack.specs.Document.{Document, Documents, count};
-ghost use Rattle.values.specs.Places.{At, AtAll};
+ghost use Rattle.values.specs.Walked.{Walked, WalkedAll, WalkedPlace};
 ghost use Rattle.fields.specs.Tests.{all};
-ghost use Rattle.fields.specs.Noted.{PlaceSays};
 ghost use Rattle.groups.specs.Group.{itemsIn};
 ghost use Rattle.indices.specs.Indices.{chainsInside, transformsInside};
 
 // Whether each map of the array at a place, an entity or a transform, lists indices of chains only.
 pub fn all_inside(leads: &[u8; 256], file: &[u8], at: usize, chains: usize) -> bool
-    ensures { λ r. ⌜ (now (leads .entry) ≡ leadTable → chains ≤ fileLimit → (o : Option Document) → PlaceSays (now (file .entry)) at o → r ≡ all (chainsInside chains) (itemsIn o)) ⌝ }
+    ensures { λ r. ⌜ WalkedPlace (now (leads .entry)) (now (file .entry)) at (λ o. r ≡ all (chainsInside chains) (itemsIn o)) ⌝ }
 {
     if at == 0 {
         return true;
@@ -23,9 +17,9 @@ pub fn all_inside(leads: &[u8; 256], file: &[u8], at: usize, chains: usize) -> b
     inside_from(leads, file, part.count, part.at, chains)
 }
 
-// The same of n maps from a place on.
+// Whether each of n maps from a place on lists indices of chains only.
 fn inside_from(leads: &[u8; 256], file: &[u8], n: usize, at: usize, chains: usize) -> bool
-    ensures { λ r. ⌜ (now (leads .entry) ≡ leadTable → chains ≤ fileLimit → (ds : Documents) (e : ℕ) → AtAll (now (file .entry)) at ds e → count ds ≡ n → r ≡ all (chainsInside chains) ds) ⌝ }
+    ensures { λ r. ⌜ WalkedAll (now (leads .entry)) (now (file .entry)) n at (λ ds e. r ≡ all (chainsInside chains) ds) ⌝ }
 {
     let mut left = n;
     let mut p = at;
@@ -41,7 +35,7 @@ fn inside_from(leads: &[u8; 256], file: &[u8], n: usize, at: usize, chains: usiz
 
 // Whether the map at a place lists indices of chains only.
 fn chains_inside(leads: &[u8; 256], file: &[u8], at: usize, chains: usize) -> bool
-    ensures { λ r. ⌜ (now (leads .entry) ≡ leadTable → chains ≤ fileLimit → (x : Document) (e : ℕ) → At (now (file .entry)) at x e → r ≡ chainsInside chains x) ⌝ }
+    ensures { λ r. ⌜ Walked (now (leads .entry)) (now (file .entry)) at (λ x e. r ≡ chainsInside chains x) ⌝ }
 {
     let list = keys::find(leads, file, at, b"chainIndexList");
     groups::inside(leads, file, list, chains)
@@ -49,7 +43,7 @@ fn chains_inside(leads: &[u8; 256], file: &[u8], at: usize, chains: usize) -> bo
 
 // Whether the transforms of each assembly of the array at a place list indices of chains only.
 pub fn assemblies_inside(leads: &[u8; 256], file: &[u8], at: usize, chains: usize) -> bool
-    ensures { λ r. ⌜ (now (leads .entry) ≡ leadTable → chains ≤ fileLimit → (o : Option Document) → PlaceSays (now (file .entry)) at o → r ≡ all (transformsInside chains) (itemsIn o)) ⌝ }
+    ensures { λ r. ⌜ WalkedPlace (now (leads .entry)) (now (file .entry)) at (λ o. r ≡ all (transformsInside chains) (itemsIn o)) ⌝ }
 {
     if at == 0 {
         return true;
@@ -58,9 +52,9 @@ pub fn assemblies_inside(leads: &[u8; 256], file: &[u8], at: usize, chains: usiz
     assemblies_from(leads, file, part.count, part.at, chains)
 }
 
-// The same of n assemblies from a place on.
+// Whether the transforms of each of n assemblies from a place on list indices of chains only.
 fn assemblies_from(leads: &[u8; 256], file: &[u8], n: usize, at: usize, chains: usize) -> bool
-    ensures { λ r. ⌜ (now (leads .entry) ≡ leadTable → chains ≤ fileLimit → (ds : Documents) (e : ℕ) → AtAll (now (file .entry)) at ds e → count ds ≡ n → r ≡ all (transformsInside chains) ds) ⌝ }
+    ensures { λ r. ⌜ WalkedAll (now (leads .entry)) (now (file .entry)) n at (λ ds e. r ≡ all (transformsInside chains) ds) ⌝ }
 {
     let mut left = n;
     let mut p = at;
@@ -76,7 +70,7 @@ fn assemblies_from(leads: &[u8; 256], file: &[u8], n: usize, at: usize, chains: 
 
 // Whether the transforms of the assembly at a place list indices of chains only.
 fn transforms_inside(leads: &[u8; 256], file: &[u8], at: usize, chains: usize) -> bool
-    ensures { λ r. ⌜ (now (leads .entry) ≡ leadTable → chains ≤ fileLimit → (x : Document) (e : ℕ) → At (now (file .entry)) at x e → r ≡ transformsInside chains x) ⌝ }
+    ensures { λ r. ⌜ Walked (now (leads .entry)) (now (file .entry)) at (λ x e. r ≡ transformsInside chains x) ⌝ }
 {
     let transforms = keys::find(leads, file, at, b"transformList");
     all_inside(leads, file, transforms, chains)

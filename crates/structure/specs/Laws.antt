@@ -5,3 +5,4 @@ pub mod Accepted
 pub mod Steps
 pub mod Summary
 pub mod Worked
+pub mod Tables

@@ -1,5 +1,6 @@
--- The verdict on a file: `Accepted`, and `Summary`. `Steps` is for the code inside.
+-- The verdict on a file: `Accepted`, and `Summary`. The paper's worked lines: `Worked`. `Steps` is for the code inside.
 pub mod Accepted
 pub mod Summary
+pub mod Worked
 pub mod Steps
 pub mod Laws

@@ -7,12 +7,15 @@ use Prim.Native.Nat.{ℕ, suc, _+_, _/_, _≤_}
 use lib.Dec.{eqb, leb}
 use lib.IntN.{ℤ, pos, natAbs}
 use Rattle.refusal.specs.Table.{accepted, countsDisagree, indexOutside, valueOutside}
-use Rattle.messagepack.specs.Document.{Entries, count}
+use Rattle.messagepack.specs.Document.{Document, Documents, Entries, none, item, count}
+use Rattle.values.specs.Walked.{Short, WalkedAll, WalkedBy}
 use Rattle.fields.specs.Types.{Has}
 use Rattle.fields.specs.Table.{named}
+use Rattle.fields.specs.Noted.{Noted}
+use Rattle.fields.specs.declared.Fields.{Fields}
 use Rattle.survey.specs.Cells.{between}
 use Rattle.survey.specs.declared.Sums.{Sums}
-use Rattle.groups.specs.Group.{groupsNumber}
+use Rattle.groups.specs.Group.{groupNumber, groupsNumber}
 use Rattle.groups.specs.Steps.{agrees}
 use Rattle.groups.specs.declared.List as list
 use Rattle.counts.specs.Columns.{columns, AllRight}
@@ -21,11 +24,30 @@ use Rattle.counts.specs.Steps.{PlacesOf}
 use Rattle.structure.specs.declared.Counts.{Counts}
 use Rattle.structure.specs.declared.Summary.{Summary}
 
--- the places of the named fields, where the required ones are there and the columns decode
+-- the places of the named fields of a file within the limit, where the required ones are there and the columns decode
 pub record Facts (s : List ℕ) (es : Entries) (places : List ℕ) : Type 0 where
   pub places-of : PlacesOf s es places
   pub has : Has named es
   pub right : AllRight columns es
+  pub short : Short s
+
+-- a promise on a walked file by its entries, of which these facts are known
+abbrev pub WalkedFacts : List ℕ → List ℕ → List ℕ → (Entries → Type 0) → Type 0
+WalkedFacts leads file places P = WalkedBy leads (λ es. Facts file es places) P
+
+-- a promise on a walked file within the limit by its entries, of which the named fields are noted
+abbrev pub WalkedNotes : List ℕ → List ℕ → Fields → (Entries → Type 0) → Type 0
+WalkedNotes leads file noted P = Short file → WalkedBy leads (λ es. Noted file es noted) P
+
+-- a promise on a walked file within the limit by the n group types that stand from a place on
+abbrev pub WalkedTypes : List ℕ → List ℕ → ℕ → ℕ → (Documents → Type 0) → Type 0
+WalkedTypes leads file n at P = Short file → WalkedAll leads file n at (λ types e. P types)
+
+-- a table after group types: it begins with a number of each type that rule 5 passes, up to the first that it refuses; beyond it is as before
+unfoldable pub tableOf : (Document → ℕ) → Documents → List ℕ → List ℕ
+tableOf f none old = old
+tableOf f (item x types) [] = []
+tableOf f (item x types) (o ∷ old) = cond (eqb (groupNumber x) accepted) (f x ∷ tableOf f types old) (o ∷ old)
 
 -- an integer as a count: one above the limit where it is out of range
 abbrev pub countOf : ℤ → ℕ
@@ -39,7 +61,7 @@ pub record CountsIn (es : Entries) (c : Counts) : Type 0 where
   pub chains : c .chains ≡ countOf (integer "numChains" es)
   pub models : c .models ≡ countOf (integer "numModels" es)
 
--- the same where all are in range
+-- the five num fields as counts, of which the atoms are within the limit
 pub record CountsAre (es : Entries) (c : Counts) : Type 0 where
   pub bonds : c .bonds ≡ natural "numBonds" es
   pub atoms : c .atoms ≡ natural "numAtoms" es
@@ -47,7 +69,10 @@ pub record CountsAre (es : Entries) (c : Counts) : Type 0 where
   pub chains : c .chains ≡ natural "numChains" es
   pub models : c .models ≡ natural "numModels" es
   pub few-atoms : c .atoms ≤ countLimit
-  pub few-chains : c .chains ≤ countLimit
+
+-- a promise on a walked file whose num fields are in range
+abbrev pub WalkedCounts : List ℕ → List ℕ → List ℕ → Counts → (Entries → Type 0) → Type 0
+WalkedCounts leads file places counts P = WalkedFacts leads file places (λ es. CountsAre es counts → P es)
 
 -- counts at most one above the limit, as all are that are read
 pub record Small (c : Counts) : Type 0 where

@@ -3,21 +3,19 @@
 // column, and the rules of counts.
 ghost use mathlib.Core.Path.{_≡_};
 ghost use mathlib.Core.Logic.{_↔_};
-ghost use Prim.Native.Nat.{ℕ, suc, _+_, _≤_};
+ghost use Prim.Native.Nat.{suc, _+_, _≤_};
 ghost use lib.Dec.{eqb};
 ghost use lib.ListN.{length};
-ghost use Rattle.heads.specs.Table.{leadTable};
-ghost use Rattle.messagepack.specs.Limits.{fileLimit};
-ghost use Rattle.messagepack.specs.Document.{Document, Entries};
 ghost use Rattle.values.specs.Parts.{integerOf};
-ghost use Rattle.values.specs.Places.{At};
-ghost use Rattle.fields.specs.Noted.{Noted};
+ghost use Rattle.values.specs.Walked.{Walked};
 ghost use Rattle.survey.specs.Cells.{typeLimit};
+ghost use Rattle.groups.specs.Group.{atomsOf, bondsOf, groupsNumber};
 ghost use Rattle.counts.specs.Counts.{countLimit, countsNumber, outerInside, outerRight, valuesRight, indicesInside};
 ghost use Rattle.counts.specs.Counts.{unless as unlessHeld};
 ghost use Rattle.structure.specs.Accepted.{Accepted, entriesNumber, verdictOf};
 ghost use Rattle.structure.specs.Summary.{refused, said, summaryOf};
-ghost use Rattle.structure.specs.Steps.{Facts, countOf, CountsIn, CountsAre, Small, counted, countsFit, chainsFit, typeCount, chainsNumber, totalsNumber, groupsPart, valuesPart};
+ghost use Rattle.structure.specs.Steps.{WalkedNotes, WalkedFacts, WalkedCounts, WalkedTypes, countOf, CountsIn, Small, counted, countsFit};
+ghost use Rattle.structure.specs.Steps.{chainsFit, typeCount, chainsNumber, tableOf, totalsNumber, groupsPart, valuesPart};
 use columns::Kind;
 use columns::Wanted;
 use fields::Fields;
@@ -104,7 +102,7 @@ pub fn summary_of(file: &[u8]) -> Summary
 
 // What is said of a container by what is noted of its fields.
 fn document_summary(leads: &[u8; 256], file: &[u8], noted: Fields) -> Summary
-    ensures { λ r. ⌜ (now (leads .entry) ≡ leadTable → length (now (file .entry)) ≤ fileLimit → (es : Entries) → Noted (now (file .entry)) es noted → r ≡ said (entriesNumber es) es) ⌝ }
+    ensures { λ r. ⌜ WalkedNotes (now (leads .entry)) (now (file .entry)) noted (λ es. r ≡ said (entriesNumber es) es) ⌝ }
 {
     let number = document_refusal(leads, file, noted);
     if number != refusal::ACCEPTED {
@@ -148,7 +146,7 @@ fn accepted_with(counts: Counts, presence: u64) -> Summary
 
 // The refusal of a container's document by what is noted of its fields: 12 to 24, or 0.
 fn document_refusal(leads: &[u8; 256], file: &[u8], noted: Fields) -> u8
-    ensures { λ r. ⌜ (now (leads .entry) ≡ leadTable → length (now (file .entry)) ≤ fileLimit → (es : Entries) → Noted (now (file .entry)) es noted → r ≡ entriesNumber es) ⌝ }
+    ensures { λ r. ⌜ WalkedNotes (now (leads .entry)) (now (file .entry)) noted (λ es. r ≡ entriesNumber es) ⌝ }
 {
     let number = fields::refusal_of(leads, file, noted);
     if number != refusal::ACCEPTED {
@@ -164,7 +162,7 @@ fn document_refusal(leads: &[u8; 256], file: &[u8], noted: Fields) -> u8
 
 // The refusal by the rules of counts, 20 to 23, or 0.
 fn counts_refusal(leads: &[u8; 256], file: &[u8], places: &[usize; 39]) -> u8
-    ensures { λ r. ⌜ (now (leads .entry) ≡ leadTable → length (now (file .entry)) ≤ fileLimit → (es : Entries) → Facts (now (file .entry)) es (now (places .entry)) → r ≡ countsNumber es) ⌝ }
+    ensures { λ r. ⌜ WalkedFacts (now (leads .entry)) (now (file .entry)) (now (places .entry)) (λ es. r ≡ countsNumber es) ⌝ }
 {
     let types = groups::list_at(leads, file, places[GROUP_LIST]).count;
     if survey::TYPE_LIMIT < types {
@@ -185,7 +183,7 @@ fn counts_refusal(leads: &[u8; 256], file: &[u8], places: &[usize; 39]) -> u8
     ) {
         return refusal::COUNTS_DISAGREE;
     }
-    let number = groups_refusal(leads, file, places, types, counts);
+    let number = groups_refusal(leads, file, places, counts);
     if number != refusal::ACCEPTED {
         return number;
     }
@@ -194,7 +192,7 @@ fn counts_refusal(leads: &[u8; 256], file: &[u8], places: &[usize; 39]) -> u8
 
 // Rules 2 and 3: the num fields and the entries of chainsPerModel and groupsPerChain.
 fn chains_refusal(leads: &[u8; 256], file: &[u8], places: &[usize; 39], counts: Counts) -> u8
-    ensures { λ r. ⌜ (now (leads .entry) ≡ leadTable → length (now (file .entry)) ≤ fileLimit → (es : Entries) → Facts (now (file .entry)) es (now (places .entry)) → CountsIn es counts → r ≡ chainsNumber es) ⌝ }
+    ensures { λ r. ⌜ WalkedFacts (now (leads .entry)) (now (file .entry)) (now (places .entry)) (λ es. CountsIn es counts → r ≡ chainsNumber es) ⌝ }
 {
     if !counts_fit(counts) {
         return refusal::VALUE_OUTSIDE;
@@ -242,7 +240,7 @@ fn chains_agree(counts: Counts, models: usize, chains: u64, ends: usize, groups:
 // The five num fields at their places.
 fn counts_at(leads: &[u8; 256], file: &[u8], places: &[usize; 39]) -> Counts
     ensures small { λ r. ⌜ Small r ⌝ }
-    ensures fields { λ r. ⌜ (now (leads .entry) ≡ leadTable → (es : Entries) → Facts (now (file .entry)) es (now (places .entry)) → CountsIn es r) ⌝ }
+    ensures fields { λ r. ⌜ WalkedFacts (now (leads .entry)) (now (file .entry)) (now (places .entry)) (λ es. CountsIn es r) ⌝ }
 {
     Counts {
         bonds: count_at(leads, file, places[NUM_BONDS]),
@@ -256,7 +254,7 @@ fn counts_at(leads: &[u8; 256], file: &[u8], places: &[usize; 39]) -> Counts
 // The integer at a place as a count; one above the limit where it is out of range.
 fn count_at(leads: &[u8; 256], file: &[u8], at: usize) -> usize
     ensures small { λ r. ⌜ r ≤ suc countLimit ⌝ }
-    ensures integer { λ r. ⌜ (now (leads .entry) ≡ leadTable → (x : Document) (e : ℕ) → At (now (file .entry)) at x e → r ≡ countOf (integerOf x)) ⌝ }
+    ensures integer { λ r. ⌜ Walked (now (leads .entry)) (now (file .entry)) at (λ x e. r ≡ countOf (integerOf x)) ⌝ }
 {
     as_count(values::integer_at(leads, file, at))
 }
@@ -295,31 +293,22 @@ fn counts_fit(counts: Counts) -> bool
 }
 
 // Rules 5 to 8: each group type, the groups that are of them, and the atoms and bonds that these add up to.
-fn groups_refusal(
-    leads: &[u8; 256],
-    file: &[u8],
-    places: &[usize; 39],
-    types: usize,
-    counts: Counts,
-) -> u8
-    ensures { λ r. ⌜ (now (leads .entry) ≡ leadTable → length (now (file .entry)) ≤ fileLimit → (es : Entries) → Facts (now (file .entry)) es (now (places .entry)) → CountsAre es counts → types ≡ typeCount es → types ≤ typeLimit → r ≡ groupsPart es) ⌝ }
+fn groups_refusal(leads: &[u8; 256], file: &[u8], places: &[usize; 39], counts: Counts) -> u8
+    ensures { λ r. ⌜ WalkedCounts (now (leads .entry)) (now (file .entry)) (now (places .entry)) counts (λ es. typeCount es ≤ typeLimit → r ≡ groupsPart es) ⌝ }
 {
+    let list = values::items_at(leads, file, places[GROUP_LIST]);
+    let n = list.count;
+    if survey::TYPE_LIMIT < n {
+        return refusal::TOO_MANY_GROUP_TYPES;
+    }
     let mut atoms = no_entries();
     let mut bonds = no_entries();
-    let number = groups::groups(leads, file, places[GROUP_LIST], &mut atoms, &mut bonds);
+    let number = fill_tables(leads, file, n, list.at, &mut atoms, &mut bonds);
     if number != refusal::ACCEPTED {
         return number;
     }
     let int32 = Wanted::Only(Kind::Int32);
-    let sums = counts::totals(
-        leads,
-        file,
-        places[GROUP_TYPE_LIST],
-        int32,
-        types,
-        &atoms,
-        &bonds,
-    );
+    let sums = counts::totals(leads, file, places[GROUP_TYPE_LIST], n, &atoms, &bonds);
     let outer = counts::list_at(leads, file, places[BOND_ATOM_LIST], int32);
     let orders = counts::list_at(
         leads,
@@ -328,6 +317,35 @@ fn groups_refusal(
         Wanted::Only(Kind::Int8),
     );
     totals_refusal(sums, outer, orders, counts)
+}
+
+// Rule 5 for n group types from a place on: the refusal of the first that has one, or 0 with the atoms and bonds of each type in the tables.
+fn fill_tables(
+    leads: &[u8; 256],
+    file: &[u8],
+    n: usize,
+    at: usize,
+    atoms: &mut [u32; survey::TYPE_LIMIT],
+    bonds: &mut [u32; survey::TYPE_LIMIT],
+) -> u8
+    requires { ⌜ (n ≤ typeLimit) × (length (now atoms) ≡ typeLimit) × (length (now bonds) ≡ typeLimit) ⌝ }
+    ensures number { λ r. ⌜ WalkedTypes (now (leads .entry)) (now (file .entry)) n at (λ ts. r ≡ groupsNumber ts) ⌝ }
+    ensures atoms { λ r. ⌜ WalkedTypes (now (leads .entry)) (now (file .entry)) n at (λ ts. now (atoms .exit) ≡ tableOf atomsOf ts (now (atoms .entry))) ⌝ }
+    ensures bonds { λ r. ⌜ WalkedTypes (now (leads .entry)) (now (file .entry)) n at (λ ts. now (bonds .exit) ≡ tableOf bondsOf ts (now (bonds .entry))) ⌝ }
+{
+    let mut i: usize = 0;
+    let mut p = at;
+    while i < n {
+        let group = groups::group_at(leads, file, p);
+        if group.refusal != refusal::ACCEPTED {
+            return group.refusal;
+        }
+        atoms[i] = group.atoms;
+        bonds[i] = group.bonds;
+        p = group.end;
+        i += 1;
+    }
+    refusal::ACCEPTED
 }
 
 // A table of group types with nothing in it.
@@ -374,7 +392,7 @@ fn wide(x: usize) -> u64
 
 // Rules 9 to 11: the bonds outside, the listed values, and the chains that entities and transforms list.
 fn values_refusal(leads: &[u8; 256], file: &[u8], places: &[usize; 39], counts: Counts) -> u8
-    ensures { λ r. ⌜ (now (leads .entry) ≡ leadTable → (es : Entries) → Facts (now (file .entry)) es (now (places .entry)) → CountsAre es counts → r ≡ valuesPart es) ⌝ }
+    ensures { λ r. ⌜ WalkedCounts (now (leads .entry)) (now (file .entry)) (now (places .entry)) counts (λ es. r ≡ valuesPart es) ⌝ }
 {
     if !bonds_inside(leads, file, places, counts) {
         return refusal::INDEX_OUTSIDE;
@@ -393,16 +411,16 @@ fn values_refusal(leads: &[u8; 256], file: &[u8], places: &[usize; 39], counts: 
 
 // Rule 9: whether the bonds outside are between atoms that there are.
 fn bonds_inside(leads: &[u8; 256], file: &[u8], places: &[usize; 39], counts: Counts) -> bool
-    ensures { λ r. ⌜ (now (leads .entry) ≡ leadTable → (es : Entries) → Facts (now (file .entry)) es (now (places .entry)) → CountsAre es counts → r ≡ outerInside es) ⌝ }
+    ensures { λ r. ⌜ WalkedCounts (now (leads .entry)) (now (file .entry)) (now (places .entry)) counts (λ es. r ≡ outerInside es) ⌝ }
 {
     let int32 = Wanted::Only(Kind::Int32);
     let last = groups::last_index(counts.atoms);
     counts::all_between(leads, file, places[BOND_ATOM_LIST], int32, 0, last)
 }
 
-// Rule 9: whether their orders are 1 to 4.
+// Rule 9: whether the outer bond orders are 1 to 4.
 fn orders_right(leads: &[u8; 256], file: &[u8], places: &[usize; 39]) -> bool
-    ensures { λ r. ⌜ (now (leads .entry) ≡ leadTable → (es : Entries) → Facts (now (file .entry)) es (now (places .entry)) → r ≡ outerRight es) ⌝ }
+    ensures { λ r. ⌜ WalkedFacts (now (leads .entry)) (now (file .entry)) (now (places .entry)) (λ es. r ≡ outerRight es) ⌝ }
 {
     let int8 = Wanted::Only(Kind::Int8);
     counts::all_between(leads, file, places[BOND_ORDER_LIST], int8, 1, 4)
@@ -410,7 +428,7 @@ fn orders_right(leads: &[u8; 256], file: &[u8], places: &[usize; 39]) -> bool
 
 // Rule 10: whether secStructList and sequenceIdList have listed values only.
 fn values_right(leads: &[u8; 256], file: &[u8], places: &[usize; 39]) -> bool
-    ensures { λ r. ⌜ (now (leads .entry) ≡ leadTable → (es : Entries) → Facts (now (file .entry)) es (now (places .entry)) → r ≡ valuesRight es) ⌝ }
+    ensures { λ r. ⌜ WalkedFacts (now (leads .entry)) (now (file .entry)) (now (places .entry)) (λ es. r ≡ valuesRight es) ⌝ }
 {
     let int8 = Wanted::Only(Kind::Int8);
     let int32 = Wanted::Only(Kind::Int32);
@@ -422,7 +440,7 @@ fn values_right(leads: &[u8; 256], file: &[u8], places: &[usize; 39]) -> bool
 
 // Rule 11: whether entities and transforms list chains that there are.
 fn chains_inside(leads: &[u8; 256], file: &[u8], places: &[usize; 39], counts: Counts) -> bool
-    ensures { λ r. ⌜ (now (leads .entry) ≡ leadTable → (es : Entries) → Facts (now (file .entry)) es (now (places .entry)) → CountsAre es counts → r ≡ indicesInside es) ⌝ }
+    ensures { λ r. ⌜ WalkedCounts (now (leads .entry)) (now (file .entry)) (now (places .entry)) counts (λ es. r ≡ indicesInside es) ⌝ }
 {
     if !indices::all_inside(leads, file, places[ENTITY_LIST], counts.chains) {
         return false;

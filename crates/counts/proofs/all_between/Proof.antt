@@ -5,10 +5,11 @@ use native.Mathlib.Omega.{arith}
 use lib.IntN.{ℤ}
 use mathlib.Core.List.{List}
 use mir.Syntax.{w32}
+use mir.Val.{toZ, ofZ}
 use mir.Facts.{toZ-ofZ}
-use Rattle.survey.specs.Cells.{allBetween}
+use Rattle.survey.specs.Cells.{cellsPass, between, allBetween}
 use Rattle.groups.specs.Group.{listIn}
-use Rattle.groups.specs.Laws.Group.{place-none}
+use Rattle.values.specs.Laws.Places.{place-none}
 use Rattle.counts.specs.Columns.{cellsIn}
 use Rattle.counts.specs.Laws.Columns.{read-cells, none-between}
 use borrow.Author.Needs.{needs}
@@ -27,8 +28,8 @@ part-all-between-end c = omega (arith, c .before .text-at .ensures .0)
 returns-2 : tie.Need-returns-2
 returns-2 c =
     λ t o p r.
-    read-cells p (c .before .before .before .before .if1 .left) (c .before .before .before .text-at .result) (λ x e a. c .before .before .before .text-at .ensures .1 t x e a) (c .before .before .before .before .before .before .args .wanted) r (λ (xs : List ℤ). c .all-between .result ≡ allBetween (c .before .before .before .before .before .before .args .low) (c .before .before .before .before .before .before .args .high) xs)
-    (λ k m xs d. c .all-between .ensures k m xs d ∙ ap₂ (λ (l h : ℤ). allBetween l h xs) (toZ-ofZ {w = w32} (c .before .before .before .before .before .before .fits .low)) (toZ-ofZ {w = w32} (c .before .before .before .before .before .before .fits .high)))
+    read-cells p (c .before .before .before .before .if1 .left) (c .before .before .before .text-at .result) (λ x e a. c .before .before .before .text-at .ensures .1 .1 t x e a) (c .before .before .before .before .before .before .args .wanted) r (λ (xs : List ℤ). c .all-between .result ≡ allBetween (c .before .before .before .before .before .before .args .low) (c .before .before .before .before .before .before .args .high) xs)
+    (λ k m xs d. c .all-between .ensures ∙ ap (cellsPass (between (toZ w32 (ofZ w32 (c .before .before .before .before .before .before .args .low))) (toZ w32 (ofZ w32 (c .before .before .before .before .before .before .args .high))))) d ∙ ap₂ (λ (l h : ℤ). allBetween l h xs) (toZ-ofZ {w = w32} (c .before .before .before .before .before .before .fits .low)) (toZ-ofZ {w = w32} (c .before .before .before .before .before .before .fits .high)))
 
 pub all-between-spec : {M : Type 1} → statement M
 all-between-spec =

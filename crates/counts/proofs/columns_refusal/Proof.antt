@@ -3,10 +3,8 @@ use mathlib.Core.Path.{_≡_, refl, sym, ap, _∙_}
 use Prim.Native.Nat.{ℕ, _+_, _-_}
 use native.Mathlib.Omega.{arith}
 use lib.ListN.{getD, drop}
-use Rattle.heads.specs.Table.{leadTable}
-use Rattle.messagepack.specs.Document.{Entries}
 use Rattle.counts.specs.Columns.{columns, columnsNumber, numberOf}
-use Rattle.counts.specs.Steps.{PlacesOf, refusalOf, fieldNumbers}
+use Rattle.counts.specs.Steps.{WalkedFields, refusalOf, fieldNumbers}
 use Rattle.fields.specs.Fields.{fieldAt}
 use Rattle.groups.specs.Group.{orElse}
 use Rattle.counts.specs.Laws.Columns.{number-next, number-end, number-is, or-zero, or-first}
@@ -15,7 +13,7 @@ use Rattle.counts.proofs.columns_refusal.Statement.{statement}
 use Rattle.counts.proofs.columns_refusal.Tie as tie
 
 abbrev Inv-loop : tie.InvT-loop
-Inv-loop leads file places i₀ i = leads ≡ leadTable → (es : Entries) → PlacesOf file es places → columnsNumber es ≡ numberOf (drop i columns) es
+Inv-loop leads file places i₀ i = WalkedFields leads file places (λ es. columnsNumber es ≡ numberOf (drop i columns) es)
 
 abbrev μ-loop : tie.MeasureT-loop
 μ-loop leads file places i₀ i = 16 - i

@@ -5,18 +5,16 @@ use Prim.Native.Nat.{ℕ, _+_, _-_}
 use native.Mathlib.Omega.{arith}
 use borrow.Author.Tests.{not-true, not-false}
 use lib.ListN.{getD, drop}
-use Rattle.heads.specs.Table.{leadTable}
-use Rattle.messagepack.specs.Document.{Entries}
 use Rattle.fields.specs.Fields.{fieldAt}
-use Rattle.counts.specs.Columns.{columns, AllRight, allLong, longPer}
-use Rattle.counts.specs.Steps.{PlacesOf, fieldNumbers, kindNumbers, kindFrom, perFrom}
+use Rattle.counts.specs.Columns.{columns, allLong, longPer}
+use Rattle.counts.specs.Steps.{WalkedColumns, fieldNumbers, kindNumbers, kindFrom, perFrom}
 use Rattle.counts.specs.Laws.Columns.{right-at, long-next, long-end}
 use borrow.Author.Needs.{needs}
 use Rattle.counts.proofs.lengths_agree.Statement.{statement}
 use Rattle.counts.proofs.lengths_agree.Tie as tie
 
 abbrev Inv-loop : tie.InvT-loop
-Inv-loop leads file places atoms groups chains i₀ i = leads ≡ leadTable → (es : Entries) → PlacesOf file es places → AllRight columns es → allLong columns atoms groups chains es ≡ allLong (drop i columns) atoms groups chains es
+Inv-loop leads file places atoms groups chains i₀ i = WalkedColumns leads file places (λ es. allLong columns atoms groups chains es ≡ allLong (drop i columns) atoms groups chains es)
 
 abbrev μ-loop : tie.MeasureT-loop
 μ-loop leads file places atoms groups chains i₀ i = 16 - i

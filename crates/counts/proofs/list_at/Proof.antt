@@ -4,7 +4,7 @@ use mathlib.Core.Bool.{true}
 use Prim.Native.Nat.{ℕ, _-_}
 use native.Mathlib.Omega.{arith}
 use Rattle.counts.specs.Steps.{listOf}
-use Rattle.groups.specs.Laws.Group.{place-none}
+use Rattle.values.specs.Laws.Places.{place-none}
 use Rattle.groups.specs.declared.List as list
 use Rattle.counts.specs.Laws.Columns.{read-length}
 use borrow.Author.Needs.{needs}
@@ -21,7 +21,7 @@ part-stated-length-end : tie.Need-part-stated-length-end
 part-stated-length-end c = omega (arith, c .before .text-at .ensures .0)
 
 returns-2 : tie.Need-returns-2
-returns-2 c = λ t o p r. ap (λ (n : ℕ). record { there = true; count = n }) (c .stated-length .ensures) ∙ read-length p (c .before .before .before .before .if1 .left) (c .before .before .before .text-at .result) (λ x e a. c .before .before .before .text-at .ensures .1 t x e a) (c .before .before .before .before .before .before .args .wanted) r
+returns-2 c = λ t o p r. ap (λ (n : ℕ). record { there = true; count = n }) (c .stated-length .ensures) ∙ read-length p (c .before .before .before .before .if1 .left) (c .before .before .before .text-at .result) (λ x e a. c .before .before .before .text-at .ensures .1 .1 t x e a) (c .before .before .before .before .before .before .args .wanted) r
 
 pub list-at-spec : {M : Type 1} → statement M
 list-at-spec =

@@ -3,7 +3,7 @@ use mathlib.Core.Path.{sym, ap, _∙_}
 use Prim.Native.Nat.{_-_}
 use native.Mathlib.Omega.{arith}
 use Rattle.counts.specs.Steps.{refusalOf}
-use Rattle.groups.specs.Laws.Group.{place-none}
+use Rattle.values.specs.Laws.Places.{place-none}
 use Rattle.counts.specs.Laws.Columns.{read-refused, read-good}
 use borrow.Author.Needs.{needs}
 use Rattle.counts.proofs.refusal_at.Statement.{statement}
@@ -19,10 +19,10 @@ part-check-end : tie.Need-part-check-end
 part-check-end c = omega (arith, c .before .text-at .ensures .0)
 
 returns-2 : tie.Need-returns-2
-returns-2 c = λ t o p. read-good p (c .before .before .before .before .before .before .if1 .left) (c .before .before .before .before .before .text-at .result) (λ x e a. c .before .before .before .before .before .text-at .ensures .1 t x e a) (c .before .before .before .before .before .before .before .before .args .wanted) _ _ (sym (c .before .before .check .ensures) ∙ c .enum-told .given .1)
+returns-2 c = λ t o p. read-good p (c .before .before .before .before .before .before .if1 .left) (c .before .before .before .before .before .text-at .result) (λ x e a. c .before .before .before .before .before .text-at .ensures .1 .1 t x e a) (c .before .before .before .before .before .before .before .before .args .wanted) _ _ (sym (c .before .before .check .ensures) ∙ c .enum-told .given .1)
 
 returns-3 : tie.Need-returns-3
-returns-3 c = λ t o p. read-refused p (c .before .before .before .before .before .before .before .if1 .left) (c .before .before .before .before .before .before .text-at .result) (λ x e a. c .before .before .before .before .before .before .text-at .ensures .1 t x e a) (c .before .before .before .before .before .before .before .before .before .args .wanted) _ (sym (c .before .before .before .check .ensures) ∙ c .before .number .given .1)
+returns-3 c = λ t o p. read-refused p (c .before .before .before .before .before .before .before .if1 .left) (c .before .before .before .before .before .before .text-at .result) (λ x e a. c .before .before .before .before .before .before .text-at .ensures .1 .1 t x e a) (c .before .before .before .before .before .before .before .before .before .args .wanted) _ (sym (c .before .before .before .check .ensures) ∙ c .before .number .given .1)
 
 pub refusal-at-spec : {M : Type 1} → statement M
 refusal-at-spec =

@@ -16,22 +16,21 @@ use Rattle.refusal.specs.Table.{accepted}
 use Rattle.numbers.specs.BigEndian.{unsignedAt}
 use Rattle.messagepack.specs.Document.{Document, Entries}
 use Rattle.values.specs.Parts.{textOf}
-use Rattle.values.specs.Places.{At, TextAt}
+use Rattle.values.specs.Places.{At, TextAt, PlaceSays}
 use Rattle.values.specs.declared.Part.{Part}
 use Rattle.fields.specs.Table.{named, fieldCount}
 use Rattle.fields.specs.Fields.{valueOf, fieldAt}
-use Rattle.fields.specs.Noted.{PlaceSays}
 use Rattle.columns.specs.declared.Kind.{Kind}
 use Rattle.columns.specs.declared.Wanted.{Wanted}
-use Rattle.columns.specs.declared.Wanted.the-variants.{Real, Any}
+use Rattle.columns.specs.declared.Wanted.the-variants.{Real}
 use Rattle.columns.specs.Decode.{refused, column, decode}
 use Rattle.survey.specs.Field.{fieldColumn, checkedOf}
 use Rattle.survey.specs.declared.Checked.the-variants.{Good, Refused}
-use Rattle.survey.specs.Laws.Field.{checked-refusal, checked-column, fieldColumn-stated, fieldColumn-any}
+use Rattle.survey.specs.Laws.Field.{checked-refusal, checked-column, fieldColumn-stated, fieldColumn-decode}
 use Rattle.survey.specs.Cells.{allPass, allBetween}
 use Rattle.groups.specs.Group.{orElse, listIn}
 use Rattle.groups.specs.declared.List as list
-use Rattle.groups.specs.Laws.Group.{Stands, place-some}
+use Rattle.values.specs.Laws.Places.{Stands, place-some}
 use Rattle.counts.specs.Columns.{field, Column, Per, atom, bond, columns, columnOf, decoded, refusalIn, ColumnRight, AllRight, columnNumber, numberOf, cellsOf, cellsIn, lengthIn, isLong, longPer, allLong}
 use Rattle.counts.specs.Steps.{fieldNumbers, kindNumbers, perNumbers, kindFrom, perFrom, columnAt, refusalOf, listOf, Right}
 
@@ -157,10 +156,10 @@ module _ {s : List ℕ} {at : ℕ} {o : Option Document} (p : PlaceSays s at o) 
         ap (λ (n : ℕ). record { there = true; count = n }) (ap (λ (t : List ℕ). unsignedAt 4 t 4) bytes ∙ sym l) ∙ sym (ap (listOf w) (stands .is))
 
     -- its cells
-    pub read-cells : (P : List ℤ → Type 0) → ((k : Kind) (m : ℕ) (xs : List ℤ) → decode Any (take (part .at + part .count - part .at) (drop (part .at) s)) ≡ column k m xs → P xs) → P (listIn (cellsIn w o))
+    pub read-cells : (P : List ℤ → Type 0) → ((k : Kind) (m : ℕ) (xs : List ℤ) → decode w (take (part .at + part .count - part .at) (drop (part .at) s)) ≡ column k m xs → P xs) → P (listIn (cellsIn w o))
     read-cells P f =
         let c : fieldColumn w (textOf (stands .x)) ≡ column (here .k) (here .m) (here .cells) = here .is in
-        let d : decode Any (take (part .at + part .count - part .at) (drop (part .at) s)) ≡ column (here .k) (here .m) (here .cells) = ap (decode Any) bytes ∙ fieldColumn-any w (textOf (stands .x)) (here .k) (here .m) (here .cells) c in
+        let d : decode w (take (part .at + part .count - part .at) (drop (part .at) s)) ≡ column (here .k) (here .m) (here .cells) = ap (decode w) bytes ∙ fieldColumn-decode w (textOf (stands .x)) (here .k) (here .m) (here .cells) c in
         subst P (sym (ap (λ (z : Option Document). listIn (cellsIn w z)) (stands .is) ∙ ap cellsOf c)) (f (here .k) (here .m) (here .cells) d)
 
 -- lengths

@@ -112,7 +112,7 @@ entries-typed-returns t c =
     let a = c .before .before .before .before .before .before .before .before .args in
     let l = c .before .before .before .before .before .before .loop in
     let rows = rowsFrom (typeOf (a .depth)) (a .n) (a .first) in
-    l .inv Typed.Wrong (entries-wrong (a .leads .now) (a .file .now) rows (c .before .before .before .before .before .before .before .before .pre .1 .1 .1 .1) (l .left) (l .p) (l .seen) _ (c .before .before .before .before .before .loop-test .taken) (record { says = c .before .before .before .before .text-at .ensures .1 }) (c .before .before .before .row-of .ensures (typeOf (a .depth))) (c .before .before .row-typed .ensures) (c .enum-told .given .1))
+    l .inv Typed.Wrong (entries-wrong (a .leads .now) (a .file .now) rows (c .before .before .before .before .before .before .before .before .pre .1 .1 .1 .1) (l .left) (l .p) (l .seen) _ (c .before .before .before .before .before .loop-test .taken) (record { says = c .before .before .before .before .text-at .ensures .1 .1 }) (c .before .before .before .row-of .ensures (typeOf (a .depth))) (c .before .before .row-typed .ensures) (c .enum-told .given .1))
 
 entries-typed-mark-requires : (t : ℕ) → entries-typed-lts.Need-mark-requires (entries-typed-claims t) (entries-typed-at t) entries-typed.Post entries-typed-Inv-loop entries-typed-μ-loop
 entries-typed-mark-requires t c κs = c .before .before .before .before .before .before .before .before .before .pre .1 .1 .1 .0
@@ -122,7 +122,7 @@ entries-typed-loop-again t c =
     let a = c .before .before .before .before .before .before .before .before .before .before .args in
     let l = c .before .before .before .before .before .before .before .before .loop in
     let rows = rowsFrom (typeOf (a .depth)) (a .n) (a .first) in
-    λ r h. l .inv r (entries-next (a .leads .now) (a .file .now) rows (c .before .before .before .before .before .before .before .before .before .before .pre .1 .1 .1 .1) (l .left) (l .p) (l .seen) _ (c .before .before .before .before .before .before .before .loop-test .taken) (record { says = c .before .before .before .before .before .before .text-at .ensures .1 }) (c .before .before .before .before .before .row-of .ensures (typeOf (a .depth))) (c .before .before .before .before .row-typed .ensures) _ _ (c .before .before .e .given .1) (c .mark .ensures ∙ ap (λ (z : ℕ). marked z (l .seen) (c .before .before .before .before .before .row-of .result)) (sym (rows-count (typeOf (a .depth)) (a .n) (a .first)))) h)
+    λ r h. l .inv r (entries-next (a .leads .now) (a .file .now) rows (c .before .before .before .before .before .before .before .before .before .before .pre .1 .1 .1 .1) (l .left) (l .p) (l .seen) _ (c .before .before .before .before .before .before .before .loop-test .taken) (record { says = c .before .before .before .before .before .before .text-at .ensures .1 .1 }) (c .before .before .before .before .before .row-of .ensures (typeOf (a .depth))) (c .before .before .before .before .row-typed .ensures) _ _ (c .before .before .e .given .1) (c .mark .ensures ∙ ap (λ (z : ℕ). marked z (l .seen) (c .before .before .before .before .before .row-of .result)) (sym (rows-count (typeOf (a .depth)) (a .n) (a .first)))) h)
 
 entries-typed-all-seen-requires : (t : ℕ) → entries-typed-lts.Need-all-seen-requires (entries-typed-claims t) (entries-typed-at t) entries-typed.Post entries-typed-Inv-loop entries-typed-μ-loop
 entries-typed-all-seen-requires t c κs = (c .before .before .before .pre .1 .0, (c .before .before .before .pre .1 .1 .0, c .before .before .before .pre .1 .1 .1 .0))

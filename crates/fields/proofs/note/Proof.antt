@@ -43,7 +43,7 @@ loop-again c =
     let l = c .before .before .before .before .before .before .before .before .before .before .loop in
     let key = c .before .before .before .before .before .before .before .before .text-at .result in
     let i = c .before .before .before .before .before .before .row-of .result in
-    (l .inv .0, (ap length (c .before .before .put-place .ensures) ∙ length-set (l .places) i (key .at + key .count) ∙ l .inv .1 .0, λ r h. l .inv .1 .1 r (note-next (a .leads .now) (a .file .now) (l .places) (l .presence) (l .typed) (l .left) (l .p) i (c .before .before .before .before .judge .result .end) (c .before .before .before .before .judge .result .typed) (c .before .before .before .before .before .before .before .before .before .loop-test .taken) (l .inv .1 .0) (record { says = c .before .before .before .before .before .before .before .before .text-at .ensures .1 }) (c .before .before .before .before .before .before .row-of .ensures) (c .before .before .before .before .judge .ensures) (c .before .before .put-place .ensures) (c .before .mark .ensures) (c .both .ensures) h)))
+    (l .inv .0, (ap length (c .before .before .put-place .ensures) ∙ length-set (l .places) i (key .at + key .count) ∙ l .inv .1 .0, λ r h. l .inv .1 .1 r (note-next (a .leads .now) (a .file .now) (l .places) (l .presence) (l .typed) (l .left) (l .p) i (c .before .before .before .before .judge .result .end) (c .before .before .before .before .judge .result .typed) (c .before .before .before .before .before .before .before .before .before .loop-test .taken) (l .inv .1 .0) (record { says = c .before .before .before .before .before .before .before .before .text-at .ensures .1 .1 }) (c .before .before .before .before .before .before .row-of .ensures) (c .before .before .before .before .judge .ensures) (c .before .before .put-place .ensures) (c .before .mark .ensures) (c .both .ensures) h)))
 
 returns : tie.Need-returns Inv-loop μ-loop
 returns c =

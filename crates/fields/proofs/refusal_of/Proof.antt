@@ -18,13 +18,13 @@ returns-3 : tie.Need-returns-3
 returns-3 c =
     λ l es m.
     let h = sym (seen-have m (c .before .before .before .before .before .before .all-seen .ensures (typeOf typeDepth))) ∙ not-false _ (c .before .before .before .before .before .if1 .left) in
-    sym (fields-version es h (sym (m .typed) ∙ not-false _ (c .before .before .before .before .if2 .left)) (ap isVersionOne (sym (version-read m h (c .before .before .text-at .ensures .1 l))) ∙ sym (c .before .is-version-one .ensures) ∙ not-true _ (c .if3 .taken)))
+    sym (fields-version es h (sym (m .typed) ∙ not-false _ (c .before .before .before .before .if2 .left)) (ap isVersionOne (sym (version-read m h (c .before .before .text-at .ensures .1 .1 l))) ∙ sym (c .before .is-version-one .ensures) ∙ not-true _ (c .if3 .taken)))
 
 returns-4 : tie.Need-returns-4
 returns-4 c =
     λ l es m.
     let h = sym (seen-have m (c .before .before .before .before .before .before .all-seen .ensures (typeOf typeDepth))) ∙ not-false _ (c .before .before .before .before .before .if1 .left) in
-    sym (fields-right es h (sym (m .typed) ∙ not-false _ (c .before .before .before .before .if2 .left)) (ap isVersionOne (sym (version-read m h (c .before .before .text-at .ensures .1 l))) ∙ sym (c .before .is-version-one .ensures) ∙ not-false _ (c .if3 .left)))
+    sym (fields-right es h (sym (m .typed) ∙ not-false _ (c .before .before .before .before .if2 .left)) (ap isVersionOne (sym (version-read m h (c .before .before .text-at .ensures .1 .1 l))) ∙ sym (c .before .is-version-one .ensures) ∙ not-false _ (c .if3 .left)))
 
 pub refusal-of-spec : {M : Type 1} → statement M
 refusal-of-spec =

@@ -15,15 +15,16 @@ use Rattle.refusal.specs.Table.{accepted, fieldMissing, fieldType, versionNot1}
 use Rattle.heads.specs.Table.{leadTable}
 use Rattle.messagepack.specs.Document.{Document, Entries, empty, entry, size}
 use Rattle.messagepack.specs.Rules.{NoKey}
-use Rattle.values.specs.Places.{At, AtEntries, TextAt}
+use Rattle.values.specs.Places.{At, AtEntries, TextAt, PlaceSays, gone, there}
 use Rattle.values.specs.Standing.{Standing}
 use Rattle.values.specs.Laws.Places.{at-standing}
 use Rattle.values.specs.declared.Part.{Part}
-use Rattle.fields.specs.Types.{FieldType, Rows}
+use Rattle.utf8.specs.Ascii.{ascii}
+use Rattle.fields.specs.Types.{FieldType, Rows, look}
 use Rattle.fields.specs.Table.{named, fieldCount}
 use Rattle.fields.specs.Tests.{isThere, have, typed, fitting}
 use Rattle.fields.specs.Fields.{fieldAt, fieldTypeOf, valueOf, present, setOf, presenceOf, textIn, versionOf, isVersionOne, fieldsNumber}
-use Rattle.fields.specs.Noted.{PlaceSays, gone, there, Noted}
+use Rattle.fields.specs.Noted.{Noted}
 use Rattle.fields.specs.Numbers.{rowsFrom, typeOf, typeDepth, firstField, findRow, rowTest, covered, marked}
 use Rattle.fields.specs.Steps.{ValueSays, RowSays, PlaceFrom, same, found, NotedFrom, NoteSays, noPlaces}
 use Rattle.fields.specs.declared.Typed.{Typed}
@@ -53,7 +54,7 @@ module _ (i : ℕ) {leads s : List ℕ} {at : ℕ} {v : Typed} (h : ValueSays le
         (over l f (at-standing a), sym (failed (rowTest i (rowsFrom (typeOf typeDepth) fieldCount firstField) x) f (sym is ∙ h .says l x f a)) ∙ row-named i x);
   }
 
--- the same by the field's type
+-- whether a field's value has its type, by that type
 
 pub is-typed : {leads s : List ℕ} {i at e : ℕ} {b : Bool} → RowSays leads s i at e b → i < fieldCount → leads ≡ leadTable → (x : Document) (f : ℕ) → At s at x f → b ≡ typed (fieldTypeOf i) x
 unfolding fieldTypeOf
@@ -146,6 +147,11 @@ note-done h l es e a c =
 
 -- the number by what is noted
 
+-- the code finds mmtfVersion by its row among the named fields, the first
+version-row : (es : Entries) → fieldAt 0 es ≡ look (ascii "mmtfVersion") es
+unfolding fieldAt valueOf named
+version-row es = refl
+
 text-there : {s : List ℕ} {p : ℕ} {o : Option Document} {part : Part} → PlaceSays s p o → ((x : Document) (e : ℕ) → At s p x e → TextAt s x e part) → isThere o ≡ true → take (part .count) (drop (part .at) s) ≡ textIn o
 text-there (there {e = e} {x = x} pos a) t i = t x e a .is
 text-there gone t i = clash i
@@ -157,8 +163,8 @@ module _ {s : List ℕ} {es : Entries} {r : Fields} (m : Noted s es r) where
 
   -- the text of mmtfVersion, which is there
   pub version-read : {part : Part} → have named es ≡ true → ((x : Document) (e : ℕ) → At s (getD (r .places) 0 0) x e → TextAt s x e part) → take (part .count) (drop (part .at) s) ≡ versionOf es
-  unfolding have fieldAt valueOf named
-  version-read {part} h t = text-there (m .places 0 (omega arith)) t (and-left _ _ h)
+  unfolding have named
+  version-read {part} h t = text-there (rw (version-row es) at (m .places 0 (omega arith))) t (and-left _ _ h)
 
 pub fields-missing : (es : Entries) → have named es ≡ false → fieldsNumber es ≡ fieldMissing
 unfolding fieldsNumber

@@ -10,8 +10,7 @@ use lib.Dec.{eqb, leb}
 use lib.ListN.{length, getD, take, drop}
 use lib.Seq.{getD-take, getD-drop}
 use borrow.Author.Tests.{leb-true, eqb-true, eqb-false, lt-ltb, le-ltb}
-use Rattle.heads.specs.Table.{valuesFrom}
-use Rattle.heads.specs.Laws.Table.{rows-at}
+use Rattle.heads.specs.Laws.Table.{rows-at, values-length}
 use Rattle.heads.specs.Laws.Span.{part-length}
 use Rattle.messagepack.specs.Document.{Document}
 use Rattle.messagepack.specs.Equal.{equal}
@@ -42,10 +41,6 @@ unfolding rowCount named
 named-count = refl
 
 -- a row's name, byte by byte
-
-values-length : (f : ℕ → ℕ) (i n : ℕ) → length (valuesFrom f i n) ≡ n
-values-length f i zero = refl
-values-length f i (suc n) = ap suc (values-length f (suc i) n)
 
 name-length : (r : ℕ) → length (nameOf r) ≡ cellOf (rowAt r)
 unfolding nameOf
@@ -260,7 +255,7 @@ unfolding typeOf
 type-is zero c h lt = absurd (omega arith)
 type-is (suc d) c h lt = let e : suc d - 1 ≡ d = omega arith in rw (lt-ltb c typeCount lt, e)
 
--- the same by the numbers that were read
+-- a type by the three numbers that were read of it
 pub type-read : (d c : ℕ) {tag many inside : ℕ} → 0 < d → c < typeCount → tag ≡ tagOf c → many ≡ cellOf (c * 3 + 1) → inside ≡ insideOf c → typeOf d c ≡ build (typeOf (d - 1)) tag (many % 64) inside
 type-read d c h lt t m i = type-is d c h lt ∙ rw (t, m, i)
 

@@ -14,7 +14,7 @@ use Rattle.groups.proofs.group_at.Tie as tie
 
 returns : tie.Need-returns
 returns c =
-    λ t l x e a.
+    λ l t x e a.
     let f = c .before .before .before .before .before .before .before .before .places-at .ensures t x e a in
     let p = f .lists in
     let names = c .before .before .before .before .before .before .list-at .ensures .1 t (under "atomNameList" x) (p .names) in
@@ -27,7 +27,7 @@ returns c =
     let few-bonds = c .before .before .before .list-at4 .ensures .0 in
     let k : Counted x _ _ _ _ _ = record { atoms-are = atoms-are; charges-are = ap (λ (z : lst.List). z .count) charges ∙ list-count (under "formalChargeList" x); elements-are = ap (λ (z : lst.List). z .count) elements ∙ list-count (under "elementList" x); bonds-are = bonds; orders-are = orders } in
     record {
-      number = c .before .judge .ensures t x p k (omega arith);
+      number = c .before .judge .ensures t x p k;
       atoms = λ q. mod-eq-of-lt (omega arith) ∙ atoms-are;
       bonds = λ q. mod-eq-of-lt (omega arith) ∙ ap (λ (z : lst.List). z .count / 2) bonds ∙ sym (pairs-is (under "bondAtomList" x));
       ends = f .ends;

@@ -2,7 +2,8 @@
 use mathlib.Core.Path.{sym, ap, _∙_}
 use Prim.Native.Nat.{_-_}
 use Rattle.groups.specs.Group.{integersIn, ordersRight}
-use Rattle.groups.specs.Laws.Group.{place-none, place-some, none-ordered}
+use Rattle.values.specs.Laws.Places.{place-none, place-some}
+use Rattle.groups.specs.Laws.Group.{none-ordered}
 use borrow.Author.Needs.{needs}
 use Rattle.groups.proofs.in_orders.Statement.{statement}
 use Rattle.groups.proofs.in_orders.Tie as tie

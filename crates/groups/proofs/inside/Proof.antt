@@ -1,7 +1,6 @@
 -- Indices lie between 0 and the last of them.
 use mathlib.Core.Path.{sym, ap, _∙_}
 use Prim.Native.Nat.{_-_}
-use native.Mathlib.Omega.{arith}
 use mir.Syntax.{w32}
 use mir.Facts.{toZ-ofZ}
 use Rattle.values.specs.Parts.{itemsOf}
@@ -9,20 +8,21 @@ use Rattle.lists.specs.Integers.{integersOf}
 use Rattle.survey.specs.Cells.{allBetween, allBelow}
 use Rattle.groups.specs.Group.{listIn, integersIn}
 use lib.IntN.{ℤ, pos}
-use Rattle.groups.specs.Laws.Group.{place-none, place-some, all-below, none-below}
+use Rattle.values.specs.Laws.Places.{place-none, place-some}
+use Rattle.groups.specs.Laws.Group.{all-below, items-keep, none-below}
 use borrow.Author.Needs.{needs}
 use Rattle.groups.proofs.inside.Statement.{statement}
 use Rattle.groups.proofs.inside.Tie as tie
 
 returns : tie.Need-returns
-returns c = λ t o q l. sym (ap (λ z. allBelow (c .before .before .args .n) (listIn (integersIn z))) (place-none q (c .if1 .taken)) ∙ none-below _)
+returns c = λ t o q. sym (ap (λ z. allBelow (c .before .before .args .n) (listIn (integersIn z))) (place-none q (c .if1 .taken)) ∙ none-below _)
 
 returns-2 : tie.Need-returns-2
 returns-2 c =
-    λ t o q l.
+    λ t o q.
     let d = place-some q (c .before .before .if1 .left) in
-    let h = toZ-ofZ {w = w32} (record { sfits = c .before .last-index .ok }) ∙ c .before .last-index .ensures (omega arith) in
-    c .all-between .ensures t (d .x) (d .end) (d .at) ∙ ap (λ (z : ℤ). allBetween (pos 0) z (integersOf (itemsOf (d .x)))) h ∙ sym (ap (λ z. allBelow (c .before .before .before .before .args .n) (listIn (integersIn z))) (d .is) ∙ all-below (c .before .before .before .before .args .n) (integersOf (itemsOf (d .x))))
+    let h = toZ-ofZ {w = w32} (record { sfits = c .before .last-index .ok }) ∙ c .before .last-index .ensures in
+    c .all-between .ensures t (d .x) (d .end) (d .at) ∙ ap (λ (z : ℤ). allBetween (pos 0) z (integersOf (itemsOf (d .x)))) h ∙ sym (ap (λ z. allBelow (c .before .before .before .before .args .n) (listIn (integersIn z))) (d .is) ∙ all-below (c .before .before .before .before .args .n) (itemsOf (d .x)) (items-keep (d .x) (d .at .keeps)))
 
 pub inside-spec : {M : Type 1} → statement M
 inside-spec =

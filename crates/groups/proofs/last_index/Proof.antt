@@ -4,19 +4,19 @@ use Prim.Native.Nat.{_-_}
 use native.Mathlib.Omega.{arith}
 use mir.Syntax.{w32}
 use mir.Facts.{toZ-pos}
-use Rattle.groups.specs.Laws.Group.{last-zero, last-suc}
+use Rattle.groups.specs.Laws.Group.{last-zero, last-suc, last-long}
 use borrow.Author.Needs.{needs}
 use Rattle.groups.proofs.last_index.Statement.{statement}
 use Rattle.groups.proofs.last_index.Tie as tie
 
 returns : tie.Need-returns
-returns c = λ l. sym (last-zero (c .if1 .taken))
+returns c = sym (last-zero (c .if1 .taken))
 
 returns-2 : tie.Need-returns-2
-returns-2 c = λ l. absurd (omega (arith, c .if2 .taken))
+returns-2 c = sym (last-long _ (c .if2 .taken))
 
 returns-3 : tie.Need-returns-3
-returns-3 c = λ l. toZ-pos w32 (omega (arith, c .if2 .left)) ∙ sym (last-suc _ (c .before .if1 .left))
+returns-3 c = toZ-pos w32 (omega (arith, c .if2 .left)) ∙ sym (last-suc _ (c .before .if1 .left) (c .if2 .left))
 
 pub last-index-spec : {M : Type 1} → statement M
 last-index-spec =

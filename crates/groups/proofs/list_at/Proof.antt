@@ -4,7 +4,7 @@ use mathlib.Core.Bool.{true}
 use Prim.Native.Nat.{ℕ, _-_}
 use native.Mathlib.Omega.{arith}
 use Rattle.groups.specs.Steps.{listOf}
-use Rattle.groups.specs.Laws.Group.{place-none, place-some}
+use Rattle.values.specs.Laws.Places.{place-none, place-some}
 use borrow.Author.Needs.{needs}
 use Rattle.groups.proofs.list_at.Statement.{statement}
 use Rattle.groups.proofs.list_at.Tie as tie
@@ -17,7 +17,7 @@ returns-2 c = (
   c .items-at .ensures .0,
   λ t o q.
       let d = place-some q (c .before .if1 .left) in
-      ap (λ (n : ℕ). record { there = true; count = n }) (sym (c .items-at .ensures .1 t (d .x) (d .end) (d .at) .counts)) ∙ sym (ap listOf (d .is)),
+      ap (λ (n : ℕ). record { there = true; count = n }) (sym (c .items-at .ensures .1 .1 t (d .x) (d .end) (d .at) .counts)) ∙ sym (ap listOf (d .is)),
 )
 
 pub list-at-spec : {M : Type 1} → statement M

@@ -1,19 +1,18 @@
 -- The keys are sought all at once, entry by entry.
-use mathlib.Core.Path.{_≡_, sym, subst}
+use mathlib.Core.Path.{sym, subst}
 use Prim.Native.Nat.{ℕ, _-_}
 use native.Mathlib.Omega.{arith}
-use Rattle.heads.specs.Table.{leadTable}
-use Rattle.messagepack.specs.Document.{Entries, size}
 use Rattle.values.specs.Places.{AtEntries}
 use Rattle.values.specs.Laws.Places.{at-standing}
 use Rattle.keys.specs.Laws.Seeking.{Left, turn}
 use Rattle.groups.specs.Laws.Group.{SeekAll, seek-start, seek-turn, seek-end, entries-end}
+use Rattle.values.specs.Walked.{WalkedEntries}
 use borrow.Author.Needs.{needs}
 use Rattle.groups.proofs.places_from.Statement.{statement}
 use Rattle.groups.proofs.places_from.Tie as tie
 
 abbrev Inv-loop : tie.InvT-loop
-Inv-loop leads file n at places₀ left₀ p₀ places left p = leads ≡ leadTable → (es : Entries) (e : ℕ) → AtEntries file at es e → size es ≡ n → (l : Left file p left e) × SeekAll file es (l .rest) places
+Inv-loop leads file n at places₀ left₀ p₀ places left p = WalkedEntries leads file n at (λ es e. (l : Left file p left e) × SeekAll file es (l .rest) places)
 
 abbrev μ-loop : tie.MeasureT-loop
 μ-loop leads file n at places₀ left₀ p₀ places left p = left
@@ -31,7 +30,7 @@ loop-again : tie.Need-loop-again Inv-loop μ-loop
 loop-again c =
     λ t es e a k.
     let i = c .before .before .before .before .before .before .loop .inv t es e a k in
-    let u = turn (i .0) (c .before .before .before .before .before .loop-test .taken) (c .before .before .before .before .text-at .result) (λ x f d. c .before .before .before .before .text-at .ensures .1 t x f d) in
+    let u = turn (i .0) (c .before .before .before .before .before .loop-test .taken) (c .before .before .before .before .text-at .result) (λ x f d. c .before .before .before .before .text-at .ensures .1 .1 t x f d) in
     let end = c .skip .ensures t (u .q) (at-standing (u .value)) in
     (record { rest = u .after; all = subst (λ (j : ℕ). AtEntries (c .before .before .before .before .before .before .before .before .args .file .now) j (u .after) e) (sym end) (u .all); counts = u .counts }, rw (c .before .note .ensures) (seek-turn u (i .1)))
 

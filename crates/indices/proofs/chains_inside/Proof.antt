@@ -5,7 +5,7 @@ use Rattle.indices.proofs.chains_inside.Statement.{statement}
 use Rattle.indices.proofs.chains_inside.Tie as tie
 
 returns : tie.Need-returns
-returns c = λ t l x e a. c .inside .ensures t (under "chainIndexList" x) (c .before .find .ensures t x e a) l
+returns c = λ t x e a. c .inside .ensures t (under "chainIndexList" x) (c .before .find .ensures t x e a)
 
 pub chains-inside-spec : {M : Type 1} → statement M
 chains-inside-spec =

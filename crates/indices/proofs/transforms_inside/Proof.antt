@@ -5,7 +5,7 @@ use Rattle.indices.proofs.transforms_inside.Statement.{statement}
 use Rattle.indices.proofs.transforms_inside.Tie as tie
 
 returns : tie.Need-returns
-returns c = λ t l x e a. c .all-inside .ensures t l (under "transformList" x) (c .before .find .ensures t x e a)
+returns c = λ t x e a. c .all-inside .ensures t (under "transformList" x) (c .before .find .ensures t x e a)
 
 pub transforms-inside-spec : {M : Type 1} → statement M
 transforms-inside-spec =

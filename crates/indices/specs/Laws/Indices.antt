@@ -7,12 +7,11 @@ use mathlib.Core.Option.{Option}
 use Prim.Native.Nat.{ℕ, suc, _-_, _≤_, _<_}
 use native.Mathlib.Omega.{arith}
 use Rattle.messagepack.specs.Document.{Document, Documents, none, item, count}
-use Rattle.values.specs.Places.{AtAll}
+use Rattle.values.specs.Places.{AtAll, PlaceSays}
 use Rattle.fields.specs.Tests.{all}
-use Rattle.fields.specs.Noted.{PlaceSays}
 use Rattle.lists.specs.Laws.Integers.{Next, next-of}
 use Rattle.groups.specs.Group.{itemsIn}
-use Rattle.groups.specs.Laws.Group.{place-none}
+use Rattle.values.specs.Laws.Places.{place-none}
 
 -- a place 0 has no values
 pub none-judged : {s : List ℕ} {p : ℕ} {o : Option Document} (test : Document → Bool) → PlaceSays s p o → p ≡ 0 → true ≡ all test (itemsIn o)

@@ -1,7 +1,6 @@
 -- Entities first, then the transforms of assemblies; both lists are the document's.
 use mathlib.Core.Path.{sym, ap₂, _∙_}
 use Prim.Native.Nat.{ℕ}
-use native.Mathlib.Omega.{arith}
 use lib.Dec.{lit<}
 use mathlib.Core.Option.{Option}
 use borrow.Author.Tests.{not-true, not-false}
@@ -19,7 +18,7 @@ returns : tie.Need-returns
 returns c =
     λ t es f k.
     let entities =
-    c .before .all-inside .ensures t (omega (arith, k .few-chains)) (fieldAt 38 es) (f .places-of .says 38 (lit< tt))
+    c .before .all-inside .ensures t (fieldAt 38 es) (f .places-of .says 38 (lit< tt))
     ∙ ap₂ (λ (h : ℕ) (o : Option Document). all (chainsInside h) (itemsIn o)) (k .chains) (by-name es .entityList) in
     sym (and-first _ _ (sym entities ∙ not-true _ (c .if1 .taken)))
 
@@ -27,10 +26,10 @@ returns-2 : tie.Need-returns-2
 returns-2 c =
     λ t es f k.
     let entities =
-    c .before .before .before .all-inside .ensures t (omega (arith, k .few-chains)) (fieldAt 38 es) (f .places-of .says 38 (lit< tt))
+    c .before .before .before .all-inside .ensures t (fieldAt 38 es) (f .places-of .says 38 (lit< tt))
     ∙ ap₂ (λ (h : ℕ) (o : Option Document). all (chainsInside h) (itemsIn o)) (k .chains) (by-name es .entityList) in
     let assemblies =
-    c .assemblies-inside .ensures t (omega (arith, k .few-chains)) (fieldAt 37 es) (f .places-of .says 37 (lit< tt))
+    c .assemblies-inside .ensures t (fieldAt 37 es) (f .places-of .says 37 (lit< tt))
     ∙ ap₂ (λ (h : ℕ) (o : Option Document). all (transformsInside h) (itemsIn o)) (k .chains) (by-name es .bioAssemblyList) in
     assemblies ∙ sym (and-true _ _ (sym entities ∙ not-false _ (c .before .before .if1 .left)))
 

@@ -14,7 +14,7 @@ returns : tie.Need-returns
 returns c =
     let z : toZ w32 (ofZ w32 (c .before .integer-at .result)) ≡ c .before .integer-at .result = toZ-ofZ {w = w32} (record { sfits = c .before .integer-at .ok }) in
     let n : c .as-count .result ≡ countOf (c .before .integer-at .result) = c .as-count .ensures ∙ ap countOf z in
-    (count-most (c .before .integer-at .result) n, λ t x e a. n ∙ ap countOf (c .before .integer-at .ensures t x e a))
+    (count-most (c .before .integer-at .result) n, λ t x e a. n ∙ ap countOf (c .before .integer-at .ensures .1 t x e a))
 
 pub count-at-spec : {M : Type 1} → statement M
 count-at-spec =

@@ -9,16 +9,16 @@ use Rattle.structure.proofs.document_summary.Tie as tie
 
 returns : tie.Need-returns
 returns c =
-    λ t l es n.
-    let e = c .before .before .document-refusal .ensures t l es n in
+    λ l t es n.
+    let e = c .before .before .document-refusal .ensures l t es n in
     c .refused-with .ensures ∙ ap refused e ∙ sym (said-refused _ es (λ z. c .before .if1 .taken (e ∙ z)))
 
 returns-2 : tie.Need-returns-2
 returns-2 c =
-    λ t l es n.
-    let z = sym (c .before .before .before .before .before .document-refusal .ensures t l es n) ∙ c .before .before .before .before .if1 .left in
+    λ l t es n.
+    let z = sym (c .before .before .before .before .before .document-refusal .ensures l t es n) ∙ c .before .before .before .before .if1 .left in
     let r = entries-exactly es .0 z in
-    let k = c .before .counts-at .ensures .1 t es (record { places-of = record { long = n .long; says = n .places }; has = r .0 .has; right = r .1 }) in
+    let k = c .before .counts-at .ensures .1 t es (record { places-of = record { long = n .long; says = n .places }; has = r .0 .has; right = r .1; short = l }) in
     c .accepted-with .ensures ∙ summary-counted k (r .2) (n .presence) ∙ sym (said-accepted _ es z)
 
 pub document-summary-spec : {M : Type 1} → statement M

@@ -18,17 +18,16 @@ use Rattle.messagepack.specs.Walk.{containerNumber}
 use Rattle.messagepack.specs.Read.{documentOf}
 use Rattle.messagepack.specs.Laws.Unique.{documentOf-is}
 use Rattle.values.specs.Parts.{integerOf, textOf, itemsOf, entriesOf}
-use Rattle.values.specs.Places.{At}
+use Rattle.values.specs.Places.{At, PlaceSays, gone, there}
 use Rattle.fields.specs.Table.{named, fieldCount}
 use Rattle.fields.specs.Fields.{valueOf, fieldAt, requiredIn}
-use Rattle.fields.specs.Noted.{PlaceSays, gone, there}
 use Rattle.fields.specs.Laws.Types.{clash, and-left, and-right}
 use Rattle.fields.specs.Laws.Fields.{field-there}
 use Rattle.columns.specs.declared.Kind.{Kind}
 use Rattle.columns.specs.declared.Kind.the-variants.{Int8, Int32}
 use Rattle.columns.specs.declared.Wanted.the-variants.{Only}
 use Rattle.survey.specs.Field.{isStrings}
-use Rattle.survey.specs.Cells.{allPass, between, allBetween, allBelow, total, TotalsOf, typeLimit}
+use Rattle.survey.specs.Cells.{allPass, between, allBetween, allBelow, total, noSums, sumsOver, typeLimit}
 use Rattle.survey.specs.declared.Sums.{Sums}
 use Rattle.survey.specs.Laws.Field.{length-cells, suits-only, fieldColumn-suits}
 use Rattle.lists.specs.Integers.{integersOf, noneNegative, sum, summed}
@@ -37,7 +36,7 @@ use Rattle.lists.specs.Laws.Integers.{length-integers}
 use Rattle.groups.specs.Group.{itemsIn, integersIn, listIn, bondsAgree, pairs, atomsOf, bondsOf, groupsNumber, orElse, each}
 use Rattle.groups.specs.Steps.{agrees, listOf as groupList}
 use Rattle.groups.specs.declared.List as list
-use Rattle.groups.specs.Laws.Group.{Stands, place-some}
+use Rattle.values.specs.Laws.Places.{Stands, place-some}
 use Rattle.counts.specs.Columns.{field, decoded, cellsOf, cellsIn, lengthIn}
 use Rattle.counts.specs.Counts.{countLimit, integerIn, integer, integers, cells, groupTypes, groupCells, outerBonds, outerOrders, fewTypes, numbersRight, chainsAgree, lengthsAgree, groupsInside, atomsAgree, bondsTotal, outerInside, outerRight, valuesRight, indicesInside, unless, countsNumber}
 use Rattle.counts.specs.Steps.{listOf, Right}
@@ -115,7 +114,6 @@ module _ {es : Entries} {c : Counts} (k : CountsIn es c) where
         chains = k .chains ∙ count-natural (integer "numChains" es) (rw (← k .chains) (q .3));
         models = k .models ∙ count-natural (integer "numModels" es) (rw (← k .models) (q .4));
         few-atoms = leb-true (c .atoms) countLimit (q .1);
-        few-chains = leb-true (c .chains) countLimit (q .3);
       }
 
 -- sums
@@ -221,17 +219,22 @@ total-like n a b h [] e = refl
 total-like n a b h (pos i ∷ xs) e = ap₂ _+_ (h i (ltb-true i n (and-left (ltb i n) (allBelow n xs) e))) (total-like n a b h xs (and-right (ltb i n) (allBelow n xs) e))
 total-like n a b h (negsuc i ∷ xs) e = clash e
 
-pub totals-are : (es : Entries) (c : Counts) (sums : Sums) (outer orders : list.List) (atoms bonds : List ℕ) → CountsAre es c → TotalsOf (typeCount es) atoms bonds (groupCells es) sums → ((i : ℕ) → i < typeCount es → getD atoms i 0 ≡ getD (each atomsOf (groupTypes es)) i 0) → ((i : ℕ) → i < typeCount es → getD bonds i 0 ≡ getD (each bondsOf (groupTypes es)) i 0) → outer .count / 2 ≡ pairs (outerBonds es) → agrees (outer .there) (outer .count) (orders .there) (orders .count) ≡ bondsAgree (outerBonds es) (outerOrders es) → totalsNumber sums outer orders c ≡ totalsPart es
-totals-are es c sums outer orders atoms bonds k t ha hb p g = go (sums .inside) refl
+pub totals-are : (es : Entries) (c : Counts) (sums : Sums) (outer orders : list.List) (atoms bonds : List ℕ) → CountsAre es c → sums ≡ sumsOver (typeCount es) atoms bonds (groupCells es) → ((i : ℕ) → i < typeCount es → getD atoms i 0 ≡ getD (each atomsOf (groupTypes es)) i 0) → ((i : ℕ) → i < typeCount es → getD bonds i 0 ≡ getD (each bondsOf (groupTypes es)) i 0) → outer .count / 2 ≡ pairs (outerBonds es) → agrees (outer .there) (outer .count) (orders .there) (orders .count) ≡ bondsAgree (outerBonds es) (outerOrders es) → totalsNumber sums outer orders c ≡ totalsPart es
+totals-are es c sums outer orders atoms bonds k t ha hb p g = go (allBelow (typeCount es) (groupCells es)) refl
   where
-    go : (b : Bool) → sums .inside ≡ b → totalsNumber sums outer orders c ≡ totalsPart es
-    go false e = let i : groupsInside es ≡ false = sym (t .0) ∙ e in rw (e, i)
-    go true e =
-        let i : groupsInside es ≡ true = sym (t .0) ∙ e in
-        let s = t .1 e in
-        let x : sums .atoms ≡ total (each atomsOf (groupTypes es)) (groupCells es) = s .0 ∙ total-like (typeCount es) atoms (each atomsOf (groupTypes es)) ha (groupCells es) i in
-        let y : sums .bonds ≡ total (each bondsOf (groupTypes es)) (groupCells es) = s .1 ∙ total-like (typeCount es) bonds (each bondsOf (groupTypes es)) hb (groupCells es) i in
-        rw (e, i, x, y, p, g, k .atoms, k .bonds)
+    go : (b : Bool) → allBelow (typeCount es) (groupCells es) ≡ b → totalsNumber sums outer orders c ≡ totalsPart es
+    go false i =
+        let s : sums ≡ noSums = t ∙ rw i in
+        let e : sums .inside ≡ false = ap (λ (x : Sums). x .inside) s in
+        let j : groupsInside es ≡ false = i in
+        rw (e, j)
+    go true i =
+        let s : sums ≡ record { inside = true; atoms = total atoms (groupCells es); bonds = total bonds (groupCells es) } = t ∙ rw i in
+        let e : sums .inside ≡ true = ap (λ (x : Sums). x .inside) s in
+        let j : groupsInside es ≡ true = i in
+        let x : sums .atoms ≡ total (each atomsOf (groupTypes es)) (groupCells es) = ap (λ (x : Sums). x .atoms) s ∙ total-like (typeCount es) atoms (each atomsOf (groupTypes es)) ha (groupCells es) i in
+        let y : sums .bonds ≡ total (each bondsOf (groupTypes es)) (groupCells es) = ap (λ (x : Sums). x .bonds) s ∙ total-like (typeCount es) bonds (each bondsOf (groupTypes es)) hb (groupCells es) i in
+        rw (e, j, x, y, p, g, k .atoms, k .bonds)
 
 pub groups-fine : (es : Entries) → groupsNumber (groupTypes es) ≡ accepted → totalsPart es ≡ groupsPart es
 groups-fine es z = sym (ap (λ (n : ℕ). orElse n (orElse (totalsPart es) accepted)) z ∙ or-none (totalsPart es))
