@@ -1,5 +1,7 @@
--- The receipt of a file (paper 01, "Views and the receipt"; demand 3), stated twice: from documents outwards (`ReceiptOf`) and by the summary of the
--- file check (`receiptBy`); what writing it answers, and what it leaves in the buffer. No lemma stands here: the laws are in Laws/File.antt. Assumes nothing.
+-- The receipt of a file (paper 01, "Views and the receipt"; demand 3), stated twice: by what the file is (`ReceiptOf`), and by the summary of the
+-- file check (`receiptBy`). `ReceiptOf` states the receipt of an accepted file outwards from its document; that of a refused file shows the file's
+-- own number, `verdictOf`, which is defined by the order of the refusals. Then what writing a receipt answers, and what it leaves in the buffer.
+-- No lemma stands here: the laws are in Laws/File.antt. Assumes nothing.
 use mathlib.Core.Bool.{cond}
 use mathlib.Core.List.{List, _++_}
 use Prim.Native.Nat.{ℕ}
@@ -35,7 +37,7 @@ receiptBy station job s =
       units = unitsOf (s .verdict);
     }
 
--- the receipt of a file: of an accepted one with verdict 0, the counts and fields of its document and one unit; of any other with its verdict,
+-- the receipt of a file: of an accepted one with verdict 0, the counts and fields of its document and one unit; of any other with its own number,
 -- zeros and no unit
 pub data ReceiptOf (station job : ℕ) (file : List ℕ) : Receipt → Type 0 where
   accepts : (a : Accepted file) → ReceiptOf station job file (receiptBy station job (acceptedSummary (a .entries)))

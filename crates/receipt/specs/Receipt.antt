@@ -41,13 +41,13 @@ within low high n = leb low n && leb n high
 abbrev pub numbered : ℕ → ℕ → Bool
 numbered station job = within 1 stationLimit station && within 1 jobLimit job
 
--- with verdict 0 the five counts are 0 to 16,777,216, fields 16 to 39, units 1
+-- after a verdict of 0: counts up to the limit, as many fields as a file can have, and one unit
 abbrev pub acceptedRight : Receipt → Bool
 acceptedRight r =
     (leb (r .models) countLimit && (leb (r .chains) countLimit && (leb (r .groups) countLimit && (leb (r .atoms) countLimit && leb (r .bonds) countLimit))))
     && (within fieldsLeast fieldsMost (r .fields) && eqb (r .units) 1)
 
--- with any other verdict the seven lines after it are 0
+-- after any other verdict: zeros
 abbrev pub refusedRight : Receipt → Bool
 refusedRight r =
     (eqb (r .models) 0 && (eqb (r .chains) 0 && (eqb (r .groups) 0 && (eqb (r .atoms) 0 && eqb (r .bonds) 0))))

@@ -6,10 +6,11 @@ ghost use Prim.Native.Nat.{ℕ};
 ghost use lib.ListN.{length, set, take, replicate};
 ghost use lib.Seq.{sets};
 ghost use Rattle.text.specs.Put.{Put};
-ghost use Rattle.receipt.specs.Receipt.{within, numbered, acceptedRight, refusedRight, allowed, line, written, Reads};
+ghost use Rattle.receipt.specs.Receipt.{within, numbered, acceptedRight, refusedRight, allowed, line, written};
 ghost use Rattle.structure.specs.Summary.{summaryOf};
 ghost use Rattle.receipt.specs.File.{unitsOf, receiptBy, Receipted, told, left};
-ghost use Rattle.receipt.specs.Steps.{shifted, numbersIn, receiptFrom, countsLines, firstLines, lastLines};
+ghost use Rattle.receipt.specs.Reading.{shifted, numbersIn, receiptFrom, readingOf};
+ghost use Rattle.receipt.specs.Steps.{countsLines, firstLines, lastLines};
 
 // The last station, job and verdict, the most atoms or other counts, and the fewest and the most fields.
 pub const STATION_LIMIT: u32 = 99;
@@ -102,7 +103,7 @@ fn units_of(verdict: u8) -> u32
 
 // Reads a receipt: its numbers exactly if the bytes are a receipt, else 29.
 pub fn read(bytes: &[u8]) -> Reading
-    ensures { λ r. ⌜ Reads (now (bytes .entry)) r ⌝ }
+    ensures { λ r. ⌜ r ≡ readingOf (now (bytes .entry)) ⌝ }
 {
     if ROOM < bytes.len() {
         return Reading::Refused(refusal::RECEIPT_MALFORMED);

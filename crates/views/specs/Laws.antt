@@ -1,4 +1,5 @@
 -- What is proved of the definitions of `views`.
 pub mod Shown
+pub mod Search
 pub mod View
 pub mod Unique

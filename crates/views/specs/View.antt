@@ -1,5 +1,6 @@
 -- A view by name: the part of a file that shows an outer key's value (paper 01, "Views and the receipt").
--- Stated from documents outwards: an entry and its writing, with what stands before and after it. No lemma stands here. Assumes nothing.
+-- Stated from documents outwards: an entry and its writing, with what stands before and after it. The place and the part are given by the
+-- definitions of Place.antt. No lemma stands here. Assumes nothing.
 use mathlib.Core.Path.{_≡_}
 use mathlib.Core.Bool.{Bool, false, cond, _||_}
 use mathlib.Core.List.{List, [], _++_}
@@ -63,7 +64,7 @@ unfoldable pub viewNumber : List ℕ → List ℕ → ℕ
 viewNumber file name =
     cond (eqb (containerNumber file) accepted) (cond (hasKey name (entriesOf (documentOf file))) accepted noSuchField) (containerNumber file)
 
--- what a call answers: the place of the part, or the refusal
+-- the place of the part, or the refusal where there is none
 pub data Placed (file name : List ℕ) : Place → Type 0 where
   placed : (v : Viewable file name) → Placed file name (Place.At (startOf v) (length (shown (v .x) (v .w))))
   refused : {n : ℕ} → 0 < n → n ≡ viewNumber file name → (Viewable file name → ⊥) → Placed file name (Place.Refused n)

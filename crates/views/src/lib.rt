@@ -4,9 +4,10 @@ ghost use mathlib.Core.Logic.{_↔_};
 ghost use Prim.Native.Nat.{ℕ, _-_};
 ghost use Rattle.heads.specs.Table.{leadTable};
 ghost use Rattle.heads.specs.Head.{headAt};
-ghost use Rattle.views.specs.View.{Viewable, viewNumber, Placed, Viewed};
 ghost use Rattle.values.specs.Standing.{Standing};
-ghost use Rattle.views.specs.Shown.{isText, bodyPlace, ShowsAt, Looking};
+ghost use Rattle.views.specs.View.{Viewable, viewNumber};
+ghost use Rattle.views.specs.Place.{isText, bodyPlace, entryPlace, placeOf, partOf};
+ghost use Rattle.views.specs.Shown.{ShowsAt, Ahead};
 ghost use Rattle.views.specs.declared.Place.{Place};
 use heads::Head;
 use heads::Kind;
@@ -19,7 +20,7 @@ pub enum Place {
 
 // The part of the file that shows the outer key's value; empty on refusal.
 pub fn view<'a>(file: &'a [u8], name: &[u8]) -> &'a [u8]
-    ensures { λ r. ⌜ Viewed (now (file .entry)) (now (name .entry)) (now r) ⌝ }
+    ensures { λ r. ⌜ now r ≡ partOf (now (file .entry)) (now (name .entry)) ⌝ }
 {
     match find(file, name) {
         Place::At(start, length) => &file[start..start + length],
@@ -40,7 +41,7 @@ pub fn view_refusal(file: &[u8], name: &[u8]) -> u8
 
 // The place of the part in the file, or the refusal.
 pub fn find(file: &[u8], name: &[u8]) -> Place
-    ensures { λ r. ⌜ Placed (now (file .entry)) (now (name .entry)) r ⌝ }
+    ensures { λ r. ⌜ r ≡ placeOf (now (file .entry)) (now (name .entry)) ⌝ }
 {
     let number = messagepack::container(file);
     if number != refusal::ACCEPTED {
@@ -55,8 +56,8 @@ pub fn find(file: &[u8], name: &[u8]) -> Place
 
 // The n entries from a place on: the one with the name.
 fn entry(leads: &[u8; 256], file: &[u8], name: &[u8], n: usize, at: usize) -> Place
-    requires { ⌜ (now leads ≡ leadTable) × Looking (now file) (now name) n at ⌝ }
-    ensures { λ r. ⌜ Placed (now (file .entry)) (now (name .entry)) r ⌝ }
+    requires { ⌜ (now leads ≡ leadTable) × Ahead (now file) n at ⌝ }
+    ensures { λ r. ⌜ r ≡ entryPlace (now (file .entry)) (now (name .entry)) n at ⌝ }
 {
     let mut left = n;
     let mut p = at;

@@ -7,7 +7,7 @@ use native.Mathlib.Omega.{arith}
 use lib.ListN.{length, drop, length-set}
 use lib.Seq.{sets}
 use borrow.Author.Needs.{needs}
-use Rattle.receipt.specs.Steps.{numbersIn}
+use Rattle.receipt.specs.Reading.{numbersIn}
 use Rattle.receipt.specs.Laws.Numbers.{store-end, store-byte, numbers-none}
 use Rattle.receipt.proofs.numbers_in.Statement.{statement}
 use Rattle.receipt.proofs.numbers_in.Tie as tie

@@ -205,7 +205,7 @@ page-text {old} {new} {next} {r} station job s e l p =
     let page = page-holds r l p in
     (page .0 ∙ ap (λ (x : Receipt). length (written x)) e, page .1 ∙ ap written e)
 
--- the same bytes put into the buffer
+-- the text of the receipt, put into the buffer
 pub buffer-left : {buffer new page : List ℕ} {next : ℕ} (station job : ℕ) (s : List ℕ) → numbered station job ≡ true → length (receiptText station job s) ≤ length buffer
     → page ≡ receiptText station job s → Put buffer 0 page new next → new ≡ left station job s buffer
 buffer-left {buffer} {new} {page} {next} station job s h l e p =

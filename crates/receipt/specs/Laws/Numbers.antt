@@ -6,15 +6,15 @@ use mathlib.Core.List.{List, [], _∷_, _++_, append-assoc}
 use Prim.Native.Nat.{ℕ, zero, suc, _+_, _*_, _-_, _/_, _%_, _<_, _≤_}
 use native.Mathlib.Omega.{arith}
 use native.Mathlib.Numerals.{add-one}
-use lib.Dec.{ltb}
-use lib.ListN.{length, getD, set, drop, drop-of-length-le}
+use lib.Dec.{ltb, lit<}
+use lib.ListN.{length, getD, set, drop, replicate, drop-of-length-le}
 use lib.Seq.{drop-cons, sets}
 use borrow.Author.Tests.{eq-eqb, ne-eqb, le-leb, lt-leb, lt-ltb, le-ltb, ltb-true, ltb-false}
 use Rattle.fields.specs.Laws.Types.{and-left, and-right}
 use Rattle.text.specs.Decimal.{glyph, decimal}
 use Rattle.text.specs.Laws.Decimal.{decimal-one, decimal-more}
 use Rattle.receipt.specs.Receipt.{line}
-use Rattle.receipt.specs.Steps.{shifted, numbersIn}
+use Rattle.receipt.specs.Reading.{shifted, numbersIn, receiptFrom}
 
 -- one digit more
 
@@ -48,7 +48,7 @@ pub numbers-none : (s : List ℕ) (i n : ℕ) → length s ≤ i → numbersIn (
 unfolding numbersIn
 numbers-none s i n h = rw (drop-of-length-le s h)
 
--- what is left, stored from a line on, is the same after a line's end and after another byte
+-- what is left, stored from a line on, does not change at a line's end, nor at another byte
 
 pub store-end : (s ns ms t : List ℕ) (i at n line m : ℕ) → i < length s → getD s i 0 ≡ 10 → ms ≡ set ns at n → line ≡ at + 1 → m ≡ 0
     → sets ns at (numbersIn (drop i s) n) ≡ t → sets ms line (numbersIn (drop (i + 1) s) m) ≡ t
@@ -59,6 +59,38 @@ store-end s ns ms t i at n line m h e a b z q =
 pub store-byte : (s ns ms t : List ℕ) (i at n line m : ℕ) → i < length s → (getD s i 0 ≡ 10 → ⊥) → ms ≡ ns → line ≡ at → m ≡ shifted n (getD s i 0)
     → sets ns at (numbersIn (drop i s) n) ≡ t → sets ms line (numbersIn (drop (i + 1) s) m) ≡ t
 store-byte s ns ms t i at n line m h e a b z q = rw (a, b, z, ← numbers-byte s i n h e) q
+
+-- ten numbers stored over zeros are the first ten
+
+sets-after : (x : ℕ) (l ns : List ℕ) (i : ℕ) → sets (x ∷ l) (suc i) ns ≡ x ∷ sets l i ns
+sets-after x l [] i = refl
+sets-after x l (n ∷ ns) i = sets-after x (set l i n) ns (suc i)
+
+getD-zeros : (k i : ℕ) → _≡_ {A = ℕ} (getD (replicate k 0) i 0) 0
+getD-zeros zero i = refl
+getD-zeros (suc k) zero = refl
+getD-zeros (suc k) (suc i) = getD-zeros k i
+
+getD-stored : (k : ℕ) (ns : List ℕ) (i : ℕ) → i < k → getD (sets (replicate k 0) 0 ns) i 0 ≡ getD ns i 0
+getD-stored zero ns i h = absurd (omega arith)
+getD-stored (suc k) [] i h = getD-zeros (suc k) i
+getD-stored (suc k) (n ∷ ns) zero h = ap (λ (l : List ℕ). getD l 0 0) (sets-after n (replicate k 0) ns 0)
+getD-stored (suc k) (n ∷ ns) (suc i) h = ap (λ (l : List ℕ). getD l (suc i) 0) (sets-after n (replicate k 0) ns 0) ∙ getD-stored k ns i (omega arith)
+
+pub first-ten : (ns : List ℕ) → receiptFrom (sets (replicate 10 0) 0 ns) ≡ receiptFrom ns
+first-ten ns =
+    rw (
+      getD-stored 10 ns 0 (lit< tt),
+      getD-stored 10 ns 1 (lit< tt),
+      getD-stored 10 ns 2 (lit< tt),
+      getD-stored 10 ns 3 (lit< tt),
+      getD-stored 10 ns 4 (lit< tt),
+      getD-stored 10 ns 5 (lit< tt),
+      getD-stored 10 ns 6 (lit< tt),
+      getD-stored 10 ns 7 (lit< tt),
+      getD-stored 10 ns 8 (lit< tt),
+      getD-stored 10 ns 9 (lit< tt),
+    )
 
 -- a line is read as its number
 

@@ -1,8 +1,9 @@
--- Reading: what is written is read back, so that no bytes are two receipts and no bytes have two answers; and the cases of reading.
+-- Reading: what is written is read back, so that no bytes are two receipts and no bytes have two answers; the definition gives the one there is.
 -- Assumes nothing.
-use mathlib.Core.Path.{_≡_, refl, sym, ap, _∙_}
-use mathlib.Core.Bool.{true, false}
+use mathlib.Core.Path.{_≡_, refl, sym, ap, subst, _∙_}
+use mathlib.Core.Bool.{Bool, true, false, cond, _&&_}
 use mathlib.Core.List.{List, [], _∷_, _++_, append-assoc, append-nil}
+use mathlib.Core.Logic.{_↔_}
 use Prim.Native.Nat.{ℕ, _<_}
 use Prim.Native.String as Text
 use native.Mathlib.Omega.{arith}
@@ -17,9 +18,9 @@ use Rattle.receipt.specs.declared.Receipt.{Receipt}
 use Rattle.receipt.specs.declared.Reading.{Reading}
 use Rattle.receipt.specs.declared.Reading.the-variants.{Numbers, Refused}
 use Rattle.receipt.specs.Receipt.{allowed, numbersOf, namedLine, written, IsReceipt, Reads, is, none}
-use Rattle.receipt.specs.Steps.{numbersIn, receiptFrom, readFrom}
+use Rattle.receipt.specs.Reading.{numbersIn, receiptFrom, readFrom, readingOf}
 use Rattle.receipt.specs.Laws.Rules.{Small, AllSmall, allowed-small, written-most}
-use Rattle.receipt.specs.Laws.Numbers.{plain, numbers-line}
+use Rattle.receipt.specs.Laws.Numbers.{plain, numbers-line, first-ten}
 
 -- a line before others that are read already
 before : (name : Text.String) (n : ℕ) (rest ns : List ℕ) → plain (ascii name) ≡ true → Small n → numbersIn rest 0 ≡ ns → numbersIn (namedLine name n ++ rest) 0 ≡ n ∷ ns
@@ -50,13 +51,10 @@ numbers-written r s =
     (before "fields" (r .fields) _ _ refl (s .fields)
     (before "units" (r .units) _ _ refl (s .units) nothing-read)))))))))
 
-from-numbers : (r : Receipt) → receiptFrom (sets (replicate 10 0) 0 (numbersOf r)) ≡ r
-from-numbers r = refl
-
 -- what is written is read back
 pub read-written : (r : Receipt) → allowed r ≡ true → readFrom (written r) ≡ r
 unfolding readFrom
-read-written r h = ap (λ (ns : List ℕ). receiptFrom (sets (replicate 10 0) 0 ns)) (numbers-written r (allowed-small r h)) ∙ from-numbers r
+read-written r h = ap receiptFrom (numbers-written r (allowed-small r h))
 
 pub read-receipt : {bytes : List ℕ} {r : Receipt} → IsReceipt bytes r → readFrom bytes ≡ r
 read-receipt {bytes} {r} i = ap readFrom (i .text) ∙ read-written r (i .rules)
@@ -72,17 +70,42 @@ one-reading (is {r} i) (none n) = absurd (n r i)
 one-reading (none n) (is {r} j) = absurd (n r j)
 one-reading (none m) (none n) = refl
 
+-- the definition gives the answer: the numbers of the receipt that the bytes are, or 29 where they are none
+pub readingOf-is : (bytes : List ℕ) → Reads bytes (readingOf bytes)
+unfolding readingOf
+readingOf-is bytes = go (allowed (readFrom bytes)) refl (equal (written (readFrom bytes)) bytes) refl
+  where
+    go : (a : Bool) → allowed (readFrom bytes) ≡ a → (b : Bool) → equal (written (readFrom bytes)) bytes ≡ b → Reads bytes (cond (a && b) (Numbers (readFrom bytes)) (Refused receiptMalformed))
+    go true e true f = is record { rules = e; text = sym (equal-true (written (readFrom bytes)) bytes f) }
+    go true e false f = none (λ r i. false-equal (written (readFrom bytes)) bytes f (ap written (read-receipt i) ∙ sym (i .text)))
+    go false e b f = none (λ r i. clash (sym e ∙ ap allowed (read-receipt i) ∙ i .rules))
+
+-- so the numbers are read exactly when the bytes are their receipt
+pub reading-exactly : (bytes : List ℕ) (r : Receipt) → (readingOf bytes ≡ Numbers r) ↔ IsReceipt bytes r
+reading-exactly bytes r = ((λ e. read-is (subst (Reads bytes) e (readingOf-is bytes))), (λ i. one-reading (readingOf-is bytes) (is i)))
+  where
+    read-is : Reads bytes (Numbers r) → IsReceipt bytes r
+    read-is (is i) = i
+
 -- the cases of reading
 
-pub reads-long : (bytes : List ℕ) → 176 < length bytes → Reads bytes (Refused receiptMalformed)
-reads-long bytes h = none (λ r i. let l = written-most r in let e = ap length (i .text) in omega arith)
+pub reading-long : (bytes : List ℕ) → 176 < length bytes → Refused receiptMalformed ≡ readingOf bytes
+reading-long bytes h = one-reading (none (λ r i. let l = written-most r in let e = ap length (i .text) in omega arith)) (readingOf-is bytes)
 
-module _ (bytes : List ℕ) (r : Receipt) (e : r ≡ readFrom bytes) where
-  pub reads-broken : allowed r ≡ false → Reads bytes (Refused receiptMalformed)
-  reads-broken h = none (λ s i. clash (sym h ∙ ap allowed (e ∙ read-receipt i) ∙ i .rules))
+module _ (bytes ns : List ℕ) (r : Receipt) (stored : ns ≡ sets (replicate 10 0) 0 (numbersIn bytes 0)) (from : r ≡ receiptFrom ns) where
+  read-here : readFrom bytes ≡ r
+  unfolding readFrom
+  read-here = sym (from ∙ ap receiptFrom stored ∙ first-ten (numbersIn bytes 0))
 
-  pub reads-other : (page : List ℕ) → page ≡ written r → equal page bytes ≡ false → Reads bytes (Refused receiptMalformed)
-  reads-other page p h = none (λ s i. false-equal page bytes h (p ∙ ap written (e ∙ read-receipt i) ∙ sym (i .text)))
+  pub reading-broken : allowed r ≡ false → Refused receiptMalformed ≡ readingOf bytes
+  unfolding readingOf
+  reading-broken h = rw (read-here, h)
 
-  pub reads-is : (page : List ℕ) → page ≡ written r → equal page bytes ≡ true → allowed r ≡ true → Reads bytes (Numbers r)
-  reads-is page p h a = is record { rules = a; text = sym (equal-true page bytes h) ∙ p }
+  module _ (page : List ℕ) (a : allowed r ≡ true) (p : page ≡ written r) where
+    pub reading-other : equal page bytes ≡ false → Refused receiptMalformed ≡ readingOf bytes
+    unfolding readingOf
+    reading-other h = rw (read-here, a, ← p, h)
+
+    pub reading-same : equal page bytes ≡ true → Numbers r ≡ readingOf bytes
+    unfolding readingOf
+    reading-same h = rw (read-here, a, ← p, h)

@@ -1,7 +1,7 @@
 -- Each case of the head is a case of the definition.
 use mathlib.Core.Path.{sym, ap, _∙_}
 use borrow.Author.Needs.{needs}
-use Rattle.views.specs.Shown.{bodyPlace}
+use Rattle.views.specs.Place.{bodyPlace}
 use Rattle.views.proofs.body.Statement.{statement}
 use Rattle.views.proofs.body.Tie as tie
 

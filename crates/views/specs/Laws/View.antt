@@ -1,23 +1,21 @@
--- Views: the search for a key among the outer entries, and what its end says.
+-- Views: the place and the part that the definitions give are those of the name's value, in every file.
 -- Assumes nothing.
 use mathlib.Core.Path.{_≡_, refl, sym, ap, subst, _∙_}
 use mathlib.Core.Bool.{Bool, true, false, cond, _||_}
 use mathlib.Core.List.{List, [], _++_, append-assoc, append-nil}
 use mathlib.Core.Logic.{_↔_}
-use Prim.Native.Nat.{ℕ, suc, _+_, _-_, _<_, _≤_}
+use Prim.Native.Nat.{ℕ, zero, suc, _+_, _-_, _<_, _≤_}
 use native.Mathlib.Omega.{arith}
-use native.Mathlib.Nat.{add-zero, zero-add, suc-add}
-use lib.Dec.{lit<}
+use native.Mathlib.Nat.{add-zero, zero-add, suc-add, pos-of-ne-zero}
+use lib.Dec.{eqb, lit<}
 use lib.ListN.{length, take, drop, length-append}
 use lib.Seq.{drop-at, take-at, drop-drop, drop-append-le}
-use borrow.Author.Tests.{eq-eqb, ne-eqb}
+use borrow.Author.Tests.{eq-eqb, ne-eqb, eqb-true, eqb-false}
 use Rattle.refusal.specs.Table.{accepted, noSuchField}
 use Rattle.numbers.specs.BigEndian.{Bytes}
-use Rattle.heads.specs.Head.{HeadOf, headAt}
+use Rattle.heads.specs.Head.{HeadOf}
 use Rattle.heads.specs.declared.Kind.{Kind}
-use Rattle.heads.specs.declared.Head.{Head}
-use Rattle.heads.specs.Laws.Span.{follows, holds, fits}
-use Rattle.heads.specs.Laws.Head.{Told, head-told}
+use Rattle.heads.specs.Laws.Span.{follows}
 use Rattle.messagepack.specs.Document.{Document, Entries, integer, float, string, binary, array, map, empty, entry, size, TextOf, Writes, WritesEntries}
 use Rattle.messagepack.specs.Rules.{Container}
 use Rattle.messagepack.specs.Equal.{equal}
@@ -27,7 +25,9 @@ use Rattle.messagepack.specs.Laws.Keys.{equal-true, equal-refl}
 use Rattle.messagepack.specs.Laws.Unique.{no-two-documents, documentOf-is}
 use Rattle.messagepack.specs.Laws.Container.{container-exactly}
 use Rattle.views.specs.View.{EntryIn, shown, Viewable, startOf, hasKey, viewNumber, Placed, placed, refused, Viewed, viewed, nothing}
-use Rattle.views.specs.Shown.{Looking}
+use Rattle.views.specs.Place.{entryPlace, placeOf, placeNumber, partAt, partOf}
+use Rattle.views.specs.Shown.{shownPlace, Ahead}
+use Rattle.views.specs.Laws.Search.{Outer, outer-of, Next, next-of, next-shown, next-other, entry-last, place-refused, place-container}
 use Rattle.views.specs.declared.Place.{Place}
 
 -- entries after entries
@@ -107,43 +107,31 @@ has-entry {s} {name} v =
     or-true false = refl
 
 -- a file that shows the name has the number 0
-pub viewable-zero : {s name : List ℕ} → Bytes s → Viewable s name → viewNumber s name ≡ 0
+viewable-zero : {s name : List ℕ} → Bytes s → Viewable s name → viewNumber s name ≡ 0
 viewable-zero {s} {name} bytes v = number-is (v .container) bytes name ∙ rw (has-entry v)
 
 -- a file that is no container has its number
-pub refused-number : (s name : List ℕ) → (containerNumber s ≡ 0 → ⊥) → containerNumber s ≡ viewNumber s name
+refused-number : (s name : List ℕ) → (containerNumber s ≡ 0 → ⊥) → containerNumber s ≡ viewNumber s name
 unfolding viewNumber
 refused-number s name h = rw (ne-eqb (containerNumber s) accepted h)
 
--- the search
+-- The search for a name, and what its end says
 
--- the search begins after the outer map's head
-pub looking-first : {s : List ℕ} (name : List ℕ) {n p : ℕ} → Container s → headAt s 0 ≡ Head.At n p → Looking s name n p
-unfolding Writes WritesEntries hasKey size
-looking-first {s} name {n} {p} c g =
-    let wr = c .writes in
-    let t : Told s 0 Kind.Map (size (c .entries)) (0 + length (wr .h)) = head-told s 0 (wr .v) (wr .head) (wr .is) in
-    let q : headAt s 0 ≡ Head.At (size (c .entries)) (0 + length (wr .h)) = t .head in
-    let m : size (c .entries) ≡ n = cc in
-    let i : p ≡ 0 + length (wr .h) = cc in
-    let d : drop p s ≡ wr .v = ap (λ (k : ℕ). drop k s) i ∙ follows s 0 (wr .h) (wr .v) (wr .is) in
-    record {
-      container = c;
-      before = empty;
-      after = c .entries;
-      h = wr .h;
-      u = [];
-      head = rw (zero-add (size (c .entries))) (wr .head);
-      earlier = refl;
-      others = refl;
-      later = rw d (wr .body);
-      is = wr .is ∙ ap (λ (x : List ℕ). wr .h ++ x) (sym d);
-      place = i ∙ zero-add (length (wr .h)) ∙ sym (add-zero (length (wr .h)));
-      counts = m;
-    }
+-- a search in a container: the entries before a place have other keys, and those from there on are ahead
+record Looking (s name : List ℕ) (left p : ℕ) : Type 0 where
+  container : Container s
+  before : Entries
+  h : List ℕ
+  u : List ℕ
+  head : HeadOf Kind.Map (size before + left) h
+  earlier : WritesEntries before u
+  others : hasKey name before ≡ false
+  is : s ≡ h ++ (u ++ drop p s)
+  place : p ≡ length h + length u
+  ahead : Ahead s left p
 
 -- nothing is left: there is no such key
-module _ {s name : List ℕ} {p : ℕ} (l : Looking s name 0 p) where
+module _ {s name : List ℕ} {left p : ℕ} (bytes : Bytes s) (l : Looking s name left p) (z : left ≡ 0) where
   last-entries : (es : Entries) → size es ≡ 0 → WritesEntries es (drop p s) → drop p s ≡ []
   unfolding size WritesEntries
   last-entries empty e wr = wr
@@ -151,121 +139,93 @@ module _ {s name : List ℕ} {p : ℕ} (l : Looking s name 0 p) where
 
   all-before : l .container .entries ≡ l .before
   all-before =
-      let z : size (l .before) ≡ size (l .before) + size (l .after) = rw (l .counts) (sym (add-zero (size (l .before)))) in
       same-entries (l .container) (l .before)
-      (writes-map (l .before) (l .h) (l .u) s (rw z (l .head)) (l .earlier)
-      (l .is ∙ ap (λ (x : List ℕ). l .h ++ x) (ap (λ (x : List ℕ). l .u ++ x) (last-entries (l .after) (l .counts) (l .later)) ∙ append-nil (l .u))))
+      (writes-map (l .before) (l .h) (l .u) s (rw (z, add-zero (size (l .before))) at (l .head)) (l .earlier)
+      (l .is ∙ ap (λ (x : List ℕ). l .h ++ x) (ap (λ (x : List ℕ). l .u ++ x) (last-entries (l .ahead .entries) (l .ahead .counts ∙ z) (l .ahead .writes)) ∙ append-nil (l .u))))
 
-  pub looking-last : Bytes s → Placed s name (Place.Refused noSuchField)
-  looking-last bytes =
+  looking-last : Placed s name (Place.Refused noSuchField)
+  looking-last =
       let none : hasKey name (l .container .entries) ≡ false = rw all-before (l .others) in
-      refused {n = noSuchField} (lit< tt) (sym (number-is (l .container) bytes name ∙ rw none))
-      (λ v. let t : viewNumber s name ≡ 0 = viewable-zero bytes v in let f : viewNumber s name ≡ noSuchField = number-is (l .container) bytes name ∙ rw none in omega arith)
+      let number : viewNumber s name ≡ noSuchField = number-is (l .container) bytes name ∙ rw none in
+      refused {n = noSuchField} (lit< tt) (sym number) (λ v. let t : viewNumber s name ≡ 0 = viewable-zero bytes v in omega arith)
 
--- the next entry: its key is read, its value stands after it; it is the one, or the search goes on after it
-pub record Next (s name : List ℕ) (left p : ℕ) : Type 0 where
-  pub k : List ℕ
-  pub x : Document
-  pub w : List ℕ
-  pub v : List ℕ
-  pub from : ℕ
-  pub key : headAt s p ≡ Head.At (length k) from
-  pub fits : from + length k ≤ length s
-  pub text : take (length k) (drop from s) ≡ k
-  pub writes : Writes x w
-  pub value : drop (from + length k) s ≡ w ++ v
-  pub found : equal k name ≡ true → Placed s name (Place.At (from + length k + (length w - length (shown x w))) (length (shown x w)))
-  pub others : equal k name ≡ false → Looking s name (left - 1) (from + length k + length w)
+-- the next entry is the one, or the search goes on after it
+module _ {s name : List ℕ} {left p : ℕ} (l : Looking s name left p) (n : Next s left p) (pos : 0 < left) where
+  whole : s ≡ l .h ++ (l .u ++ (n .a ++ (n .w ++ n .v)))
+  whole = l .is ∙ ap (λ (y : List ℕ). l .h ++ (l .u ++ y)) (n .is)
 
-module _ {s name : List ℕ} {left p : ℕ} (l : Looking s name left p) where
-  entry-next : (es : Entries) → size es ≡ left → WritesEntries es (drop p s) → HeadOf Kind.Map (size (l .before) + size es) (l .h) → 0 < left → Next s name left p
-  unfolding size WritesEntries hasKey
-  entry-next empty e wr hd pos = absurd (omega arith)
-  entry-next (entry k x es) e wr hd pos =
-      let t : drop p s ≡ wr .key .h ++ (k ++ (wr .u ++ wr .v)) = wr .is ∙ ap (λ (y : List ℕ). y ++ (wr .u ++ wr .v)) (wr .key .is) ∙ append-assoc (wr .key .h) k (wr .u ++ wr .v) in
-      let g = head-told s p (k ++ (wr .u ++ wr .v)) (wr .key .head) t in
-      let from : ℕ = p + length (wr .key .h) in
-      let f : drop from s ≡ k ++ (wr .u ++ wr .v) = follows s p (wr .key .h) (k ++ (wr .u ++ wr .v)) t in
-      let la : length (wr .a) ≡ length (wr .key .h) + length k = ap length (wr .key .is) ∙ length-append (wr .key .h) k in
-      let pos-h : 0 < length (wr .key .h) = (let q = ap length (wr .key .head .is) in omega arith) in
-      let inside : p + length (wr .a) ≤ length s = fits s p (wr .a) (wr .u ++ wr .v) (omega arith) (wr .is) in
-      let d : drop (from + length k) s ≡ wr .u ++ wr .v = follows s from k (wr .u ++ wr .v) f in
-      let d2 : drop (from + length k + length (wr .u)) s ≡ wr .v = follows s (from + length k) (wr .u) (wr .v) d in
-      let whole : s ≡ l .h ++ (l .u ++ (wr .a ++ (wr .u ++ wr .v))) = l .is ∙ ap (λ (y : List ℕ). l .h ++ (l .u ++ y)) (wr .is) in
-      record {
-        k = k;
-        x = x;
-        w = wr .u;
-        v = wr .v;
-        from = from;
-        key = g .head;
-        fits = omega arith;
-        text = holds s from k (wr .u ++ wr .v) f;
-        writes = wr .first;
-        value = d;
-        found = λ b.
-            let view : Viewable s name = record {
-              container = l .container;
-              x = x;
-              w = wr .u;
-              entry-is = record {
-                before = l .before;
-                after = es;
-                h = l .h;
-                u = l .u;
-                a = wr .a;
-                v = wr .v;
-                head = hd;
-                earlier = l .earlier;
-                key = subst (λ (y : List ℕ). TextOf Kind.Str y (wr .a)) (equal-true k name b) (wr .key);
-                value = wr .first;
-                later = wr .rest;
-                is = whole;
-              };
-            } in
-            let e : from + length k + (length (wr .u) - length (shown x (wr .u))) ≡ startOf view = omega (arith, l .place, la) in
-            subst (λ (i : ℕ). Placed s name (Place.At i (length (shown x (wr .u))))) (sym e) (placed view);
-        others = λ b. record {
-          container = l .container;
-          before = join (l .before) (entry k x empty);
-          after = es;
+  looking-here : equal (n .k) name ≡ true → Placed s name (shownPlace (n .from + length (n .k)) (n .x) (n .w))
+  looking-here b =
+      let count : size (l .before) + left ≡ size (l .before) + suc (size (n .others .entries)) = (let m = n .others .counts in omega arith) in
+      let view : Viewable s name = record {
+        container = l .container;
+        x = n .x;
+        w = n .w;
+        entry-is = record {
+          before = l .before;
+          after = n .others .entries;
           h = l .h;
-          u = l .u ++ (wr .a ++ wr .u);
-          head = subst (λ (n : ℕ). HeadOf Kind.Map n (l .h)) (counted es k x) hd;
-          earlier = writes-join (l .before) (entry k x empty) (l .u) (wr .a ++ wr .u) (l .earlier) (single k (wr .a) (wr .u) x (wr .key) (wr .first));
-          others = rw (hasKey-join name (l .before) (entry k x empty), l .others, b);
-          later = rw d2 (wr .rest);
-          is = whole ∙ ap (λ (y : List ℕ). l .h ++ y) (sym (append-assoc (l .u) (wr .a ++ wr .u) (wr .v) ∙ ap (λ (y : List ℕ). l .u ++ y) (append-assoc (wr .a) (wr .u) (wr .v)))) ∙ ap (λ (y : List ℕ). l .h ++ ((l .u ++ (wr .a ++ wr .u)) ++ y)) (sym d2);
-          place = rw (length-append (l .u) (wr .a ++ wr .u), length-append (wr .a) (wr .u)) (omega (arith, l .place, la));
-          counts = omega arith;
+          u = l .u;
+          a = n .a;
+          v = n .v;
+          head = subst (λ (m : ℕ). HeadOf Kind.Map m (l .h)) count (l .head);
+          earlier = l .earlier;
+          key = subst (λ (y : List ℕ). TextOf Kind.Str y (n .a)) (equal-true (n .k) name b) (n .text);
+          value = n .writes;
+          later = subst (WritesEntries (n .others .entries)) (n .rest) (n .others .writes);
+          is = whole;
         };
+      } in
+      let e : n .from + length (n .k) + (length (n .w) - length (shown (n .x) (n .w))) ≡ startOf view = omega (arith, l .place, n .start) in
+      subst (λ (i : ℕ). Placed s name (Place.At i (length (shown (n .x) (n .w))))) (sym e) (placed view)
+
+  looking-on : equal (n .k) name ≡ false → Looking s name (left - 1) (n .from + length (n .k) + length (n .w))
+  unfolding size hasKey
+  looking-on b =
+      let count : size (l .before) + left ≡ size (join (l .before) (entry (n .k) (n .x) empty)) + (left - 1) = rw (size-join (l .before) (entry (n .k) (n .x) empty)) (omega arith) in
+      record {
+        container = l .container;
+        before = join (l .before) (entry (n .k) (n .x) empty);
+        h = l .h;
+        u = l .u ++ (n .a ++ n .w);
+        head = subst (λ (m : ℕ). HeadOf Kind.Map m (l .h)) count (l .head);
+        earlier = writes-join (l .before) (entry (n .k) (n .x) empty) (l .u) (n .a ++ n .w) (l .earlier) (single (n .k) (n .a) (n .w) (n .x) (n .text) (n .writes));
+        others = rw (hasKey-join name (l .before) (entry (n .k) (n .x) empty), l .others, b);
+        is = whole ∙ ap (λ (y : List ℕ). l .h ++ y) (sym (append-assoc (l .u) (n .a ++ n .w) (n .v) ∙ ap (λ (y : List ℕ). l .u ++ y) (append-assoc (n .a) (n .w) (n .v)))) ∙ ap (λ (y : List ℕ). l .h ++ ((l .u ++ (n .a ++ n .w)) ++ y)) (sym (n .rest));
+        place = rw (length-append (l .u) (n .a ++ n .w), length-append (n .a) (n .w)) (omega (arith, l .place, n .start));
+        ahead = n .others;
       }
-    where
-      counted : (es : Entries) (k : List ℕ) (x : Document) → size (l .before) + suc (size es) ≡ size (join (l .before) (entry k x empty)) + size es
-      counted es k x = rw (size-join (l .before) (entry k x empty)) (omega arith)
 
-  pub looking-next : 0 < left → Next s name left p
-  looking-next pos = entry-next (l .after) (l .counts) (l .later) (l .head) pos
+-- what the search finds is the place of the part
+looking-found : {s name : List ℕ} → Bytes s → (m left p : ℕ) → left ≡ m → Looking s name left p → Placed s name (entryPlace s name left p)
+looking-found {s} {name} bytes zero left p e l = subst (Placed s name) (entry-last s name left p e) (looking-last bytes l e)
+looking-found {s} {name} bytes (suc m) left p e l = go (equal (n .k) name) refl (looking-found bytes m)
+  where
+    pos : 0 < left
+    pos = omega arith
 
--- the head that was read is the next key's, and what was compared is the key
-pub next-read : {s name : List ℕ} {left p m a : ℕ} (n : Next s name left p) → headAt s p ≡ Head.At m a → (m ≡ length (n .k)) × (a ≡ n .from)
-next-read n g = let h = n .key in (cc, cc)
+    n : Next s left p
+    n = next-of (l .ahead) pos
 
-pub next-there : {s name : List ℕ} {left p : ℕ} → Next s name left p → headAt s p ≡ Head.Cut → ⊥
-next-there n g = let h = n .key in let z : _≡_ {A = ℕ} 0 1 = cc in omega arith
+    go : (b : Bool) → equal (n .k) name ≡ b → ((k q : ℕ) → k ≡ m → Looking s name k q → Placed s name (entryPlace s name k q)) → Placed s name (entryPlace s name left p)
+    go true h more = subst (Placed s name) (sym (next-shown n name pos h)) (looking-here l n pos h)
+    go false h more = subst (Placed s name) (sym (next-other n name pos h)) (more (left - 1) (n .from + length (n .k) + length (n .w)) (omega arith) (looking-on l n pos h))
 
-pub next-same : {s name : List ℕ} {left p : ℕ} (n : Next s name left p) (a m : ℕ) {b : Bool} → m ≡ length (n .k) → a ≡ n .from → equal (take (a + m - a) (drop a s)) name ≡ b → equal (n .k) name ≡ b
-next-same {s} {name} n a m {b} i j h =
-    let l : a + m - a ≡ length (n .k) = omega arith in
-    rw (n .text) at (rw (l, j) at h)
-
--- the outer map's head is there
-pub container-head : {s : List ℕ} → Container s → headAt s 0 ≡ Head.Cut → ⊥
-unfolding Writes
-container-head {s} c g =
-    let t : headAt s 0 ≡ Head.At (size (c .entries)) (0 + length (c .writes .h)) = head-told s 0 (c .writes .v) (c .writes .head) (c .writes .is) .head in
-    let z : _≡_ {A = ℕ} 0 1 = cc in
-    omega arith
+-- the search begins after the outer map's head
+looking-first : {s : List ℕ} (name : List ℕ) (c : Container s) (o : Outer s (c .entries)) → Looking s name (size (c .entries)) (length (o .h))
+unfolding WritesEntries hasKey size
+looking-first name c o = record {
+  container = c;
+  before = empty;
+  h = o .h;
+  u = [];
+  head = rw (zero-add (size (c .entries))) (o .head);
+  earlier = refl;
+  others = refl;
+  is = o .is;
+  place = sym (add-zero (length (o .h)));
+  ahead = o .ahead;
+}
 
 -- the part of a place
 
@@ -307,37 +267,44 @@ module _ {s name : List ℕ} (v : Viewable s name) where
 
 -- a part is inside the file, and is what is shown
 
-at-fits : {s name : List ℕ} {i n : ℕ} → Placed s name (Place.At i n) → i + n ≤ length s
-at-fits (placed v) = part-fits v
+placed-fits : {s name : List ℕ} {i n : ℕ} → Placed s name (Place.At i n) → i + n ≤ length s
+placed-fits (placed v) = part-fits v
 
-at-shows : {s name : List ℕ} {i n : ℕ} → Placed s name (Place.At i n) → Viewed s name (take n (drop i s))
-at-shows {s} {name} (placed v) =
+placed-part : {s name : List ℕ} {p : Place} → Placed s name p → Viewed s name (partAt s p)
+placed-part {s} {name} (placed v) =
     subst (Viewed s name) (sym (ap (take (length (shown (v .x) (v .w)))) (part-rest v) ∙ take-at (shown (v .x) (v .w)) (v .entry-is .v) (length (shown (v .x) (v .w))) refl)) (viewed v)
+placed-part (refused pos q none) = nothing none
 
-at-viewable : {s name : List ℕ} {i n : ℕ} → Placed s name (Place.At i n) → Viewable s name
-at-viewable (placed v) = v
+placed-number : {s name : List ℕ} {p : Place} → Bytes s → Placed s name p → (placeNumber p ≡ viewNumber s name) × ((placeNumber p ≡ 0) ↔ Viewable s name)
+placed-number bytes (placed v) = (sym (viewable-zero bytes v), ((λ z. v), (λ w. refl)))
+placed-number bytes (refused pos q none) = (q, ((λ z. absurd (omega arith)), (λ v. absurd (none v))))
 
-module _ {s name : List ℕ} {p : Place} (x : Placed s name p) where
-  pub placed-fits : {i n : ℕ} → p ≡ Place.At i n → i + n ≤ length s
-  placed-fits e = at-fits (subst (Placed s name) e x)
+-- What the definitions give
 
-  pub placed-shows : {i n : ℕ} → p ≡ Place.At i n → Viewed s name (take n (drop i s))
-  placed-shows e = at-shows (subst (Placed s name) e x)
-
-  -- the number that goes with a place
-  pub placed-number : {i n : ℕ} → Bytes s → p ≡ Place.At i n → (0 ≡ viewNumber s name) × (_≡_ {A = ℕ} 0 0 ↔ Viewable s name)
-  placed-number bytes e =
-      let v : Viewable s name = at-viewable (subst (Placed s name) e x) in
-      (sym (viewable-zero bytes v), ((λ z. v), (λ w. refl)))
-
-  pub refused-nothing : {n : ℕ} → p ≡ Place.Refused n → Viewed s name []
-  refused-nothing {n} e = go (subst (Placed s name) e x)
+module _ (file name : List ℕ) (bytes : Bytes file) where
+  -- the place is that of the part, or the refusal
+  pub placeOf-is : Placed file name (placeOf file name)
+  placeOf-is = go (eqb (containerNumber file) accepted) refl
     where
-      go : Placed s name (Place.Refused n) → Viewed s name []
-      go (refused pos q none) = nothing none
+      go : (b : Bool) → eqb (containerNumber file) accepted ≡ b → Placed file name (placeOf file name)
+      go true e =
+          let z = eqb-true (containerNumber file) accepted e in
+          let c = container-exactly file bytes .0 z in
+          let o = outer-of c in
+          subst (Placed file name) (sym (place-container file name z (o .there))) (looking-found bytes (size (c .entries)) (size (c .entries)) (length (o .h)) refl (looking-first name c o))
+      go false e =
+          let z = eqb-false (containerNumber file) accepted e in
+          subst (Placed file name) (place-refused file name z) (refused (pos-of-ne-zero z) (refused-number file name z) (λ v. z (container-exactly file bytes .1 (v .container))))
 
-  pub refused-exactly : {n : ℕ} → p ≡ Place.Refused n → (n ≡ viewNumber s name) × ((n ≡ 0) ↔ Viewable s name)
-  refused-exactly {n} e = go (subst (Placed s name) e x)
-    where
-      go : Placed s name (Place.Refused n) → (n ≡ viewNumber s name) × ((n ≡ 0) ↔ Viewable s name)
-      go (refused pos q none) = (q, ((λ z. absurd (omega arith)), (λ v. absurd (none v))))
+  -- the part is what is shown under the name
+  pub partOf-is : Viewed file name (partOf file name)
+  unfolding partOf
+  partOf-is = placed-part placeOf-is
+
+  -- the part is inside the file
+  pub placeOf-fits : {i n : ℕ} → placeOf file name ≡ Place.At i n → i + n ≤ length file
+  placeOf-fits e = placed-fits (subst (Placed file name) e placeOf-is)
+
+  -- the number of the place is that of the view, which is 0 exactly when the file shows the name
+  pub placeOf-number : {p : Place} → placeOf file name ≡ p → (placeNumber p ≡ viewNumber file name) × ((placeNumber p ≡ 0) ↔ Viewable file name)
+  placeOf-number e = placed-number bytes (subst (Placed file name) e placeOf-is)

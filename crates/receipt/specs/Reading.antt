@@ -1,0 +1,47 @@
+-- What bytes are read as, by a definition: the numbers at the ends of the lines, if they keep the rules and their text is the bytes; else 29. So
+-- nothing but a receipt is read, whatever numbers are tried; that every receipt is read is `readingOf-is` of Laws/Reading.antt. No lemma stands
+-- here. Assumes nothing.
+use mathlib.Core.Bool.{cond, _&&_}
+use mathlib.Core.List.{List, [], _∷_}
+use Prim.Native.Nat.{ℕ, _+_, _*_, _-_}
+use lib.Dec.{eqb, ltb, leb}
+use lib.ListN.{getD}
+use Rattle.refusal.specs.Table.{receiptMalformed}
+use Rattle.messagepack.specs.Equal.{equal}
+use Rattle.receipt.specs.Receipt.{allowed, written}
+use Rattle.receipt.specs.declared.Receipt.{Receipt}
+use Rattle.receipt.specs.declared.Reading.{Reading}
+use Rattle.receipt.specs.declared.Reading.the-variants.{Numbers, Refused}
+
+-- a number with one digit more; as it was where the byte is no digit, or the number has nine digits already
+unfoldable pub shifted : ℕ → ℕ → ℕ
+shifted n b = cond (leb 48 b && (leb b 57 && ltb n 100000000)) (n * 10 + (b - 48)) n
+
+-- the numbers at the ends of lines, where n has been read of the first
+unfoldable pub numbersIn : List ℕ → ℕ → List ℕ
+numbersIn [] n = []
+numbersIn (b ∷ bytes) n = cond (eqb b 0x0a) (n ∷ numbersIn bytes 0) (numbersIn bytes (shifted n b))
+
+-- the first ten numbers as a receipt's, with 0 for each that is not there
+abbrev pub receiptFrom : List ℕ → Receipt
+receiptFrom ns = record {
+  station = getD ns 0 0;
+  job = getD ns 1 0;
+  verdict = getD ns 2 0;
+  models = getD ns 3 0;
+  chains = getD ns 4 0;
+  groups = getD ns 5 0;
+  atoms = getD ns 6 0;
+  bonds = getD ns 7 0;
+  fields = getD ns 8 0;
+  units = getD ns 9 0;
+}
+
+-- the only receipt that the bytes can be
+unfoldable pub readFrom : List ℕ → Receipt
+readFrom bytes = receiptFrom (numbersIn bytes 0)
+
+-- the numbers at the ends of the lines, if they keep the rules and their text is the bytes; else 29
+unfoldable pub readingOf : List ℕ → Reading
+readingOf bytes =
+    cond (allowed (readFrom bytes) && equal (written (readFrom bytes)) bytes) (Numbers (readFrom bytes)) (Refused receiptMalformed)
