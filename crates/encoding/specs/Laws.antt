@@ -1,4 +1,4 @@
 -- What is proved of the definitions of `encoding`.
 pub mod Plan
 pub mod Calls
-pub mod RoundTrip
+pub mod Demand

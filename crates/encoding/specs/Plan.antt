@@ -16,9 +16,9 @@ use Rattle.columns.specs.declared.Kind.the-variants as kind
 use Rattle.columns.specs.declared.Wanted.{Wanted}
 use Rattle.columns.specs.declared.Codec.{Codec}
 use Rattle.columns.specs.declared.Codec.the-variants.{Known, Unknown}
-use Rattle.columns.specs.Table.{codecOf, suits, lengthLimit, parameterOk}
+use Rattle.columns.specs.Table.{codecOf, suits, lengthLimit, parameterOk, used}
 use Rattle.columns.specs.Header.{headerBytes}
-use Rattle.columns.specs.Encode.{results, wholeResults, written, payloadOf, Encoding, refused, bytes}
+use Rattle.columns.specs.Encode.{results, wholeResults, payloadOf, Encoding, refused, bytes}
 use Rattle.writers.specs.declared.Placed.{Placed}
 use Rattle.writers.specs.declared.Placed.the-variants.{Bytes, NotAllowed, NoRoom}
 use Rattle.writers.specs.Placed.{over}
@@ -32,7 +32,7 @@ abbrev pub planBy : Wanted → ℕ → ℕ → Codec → Plan
 planBy w m e Unknown = plan.Refused codecUnknown
 planBy w m e (Known k f d p) =
     cond (suits w k)
-    (cond (parameterOk p m && (wholeResults f m e && leb (results f m e) lengthLimit)) (plan.Good f d (results f m e) (written p m)) (plan.Refused headerRange))
+    (cond (parameterOk p m && (wholeResults f m e && leb (results f m e) lengthLimit)) (plan.Good f d (results f m e) (used p m)) (plan.Refused headerRange))
     (plan.Refused codecUnknown)
 
 unfoldable pub planOf : Wanted → ℕ → ℕ → ℕ → Plan

@@ -2,17 +2,16 @@
 // 15, 16, 18 and 25 in this order. Every call is total: where it refuses, it changes nothing.
 ghost use mathlib.Core.Path.{_≡_};
 ghost use mathlib.Core.Bool.{true};
-ghost use mathlib.Core.List.{map};
 ghost use Prim.Native.Nat.{_≤_};
 ghost use lib.ListN.{length};
-ghost use lib.IntN.{pos};
 ghost use mir.Syntax.{w32};
-ghost use mir.Val.{toZ, ofZ};
+ghost use mir.Val.{ofZ};
 ghost use Rattle.codecs.specs.Payload.{allowed};
 ghost use Rattle.columns.specs.Header.{headerBytes};
-ghost use Rattle.columns.specs.Encode.{results, wholeResults, written, payloadOf, encode};
+ghost use Rattle.columns.specs.Encode.{results, wholeResults, payloadOf, encode};
 ghost use Rattle.writers.specs.Placed.{over, placed, laid};
 ghost use Rattle.encoding.specs.Calls.{told, left};
+ghost use Rattle.encoding.specs.Demand.{encoderSays, encoderLeaves};
 ghost use Rattle.encoding.specs.Plan.{planOf, NumberKind, NumberForm, finished, headed, Holds};
 use codecs::Form;
 use columns::Codec;
@@ -38,32 +37,32 @@ pub enum Plan {
 
 // A column of 32-bit numbers.
 pub fn encode_int32(codec: i32, values: &[i32], buffer: &mut [u8]) -> Encoded
-    ensures answer { λ r. ⌜ r ≡ told (encode (Wanted.Only Kind.Int32) (ofZ w32 codec) 0 (now (values .entry))) (length (now (buffer .entry))) ⌝ }
-    ensures buffer { λ r. ⌜ now (buffer .exit) ≡ left (encode (Wanted.Only Kind.Int32) (ofZ w32 codec) 0 (now (values .entry))) (now (buffer .entry)) ⌝ }
+    ensures answer { λ r. ⌜ r ≡ encoderSays Kind.Int32 (ofZ w32 codec) 0 (now (values .entry)) (length (now (buffer .entry))) ⌝ }
+    ensures buffer { λ r. ⌜ now (buffer .exit) ≡ encoderLeaves Kind.Int32 (ofZ w32 codec) 0 (now (values .entry)) (now (buffer .entry)) ⌝ }
 {
     encode_numbers(Kind::Int32, codec, 0, values, buffer)
 }
 
 // A column of 16-bit numbers.
 pub fn encode_int16(codec: i32, values: &[i32], buffer: &mut [u8]) -> Encoded
-    ensures answer { λ r. ⌜ r ≡ told (encode (Wanted.Only Kind.Int16) (ofZ w32 codec) 0 (now (values .entry))) (length (now (buffer .entry))) ⌝ }
-    ensures buffer { λ r. ⌜ now (buffer .exit) ≡ left (encode (Wanted.Only Kind.Int16) (ofZ w32 codec) 0 (now (values .entry))) (now (buffer .entry)) ⌝ }
+    ensures answer { λ r. ⌜ r ≡ encoderSays Kind.Int16 (ofZ w32 codec) 0 (now (values .entry)) (length (now (buffer .entry))) ⌝ }
+    ensures buffer { λ r. ⌜ now (buffer .exit) ≡ encoderLeaves Kind.Int16 (ofZ w32 codec) 0 (now (values .entry)) (now (buffer .entry)) ⌝ }
 {
     encode_numbers(Kind::Int16, codec, 0, values, buffer)
 }
 
 // A column of 8-bit numbers.
 pub fn encode_int8(codec: i32, values: &[i32], buffer: &mut [u8]) -> Encoded
-    ensures answer { λ r. ⌜ r ≡ told (encode (Wanted.Only Kind.Int8) (ofZ w32 codec) 0 (now (values .entry))) (length (now (buffer .entry))) ⌝ }
-    ensures buffer { λ r. ⌜ now (buffer .exit) ≡ left (encode (Wanted.Only Kind.Int8) (ofZ w32 codec) 0 (now (values .entry))) (now (buffer .entry)) ⌝ }
+    ensures answer { λ r. ⌜ r ≡ encoderSays Kind.Int8 (ofZ w32 codec) 0 (now (values .entry)) (length (now (buffer .entry))) ⌝ }
+    ensures buffer { λ r. ⌜ now (buffer .exit) ≡ encoderLeaves Kind.Int8 (ofZ w32 codec) 0 (now (values .entry)) (now (buffer .entry)) ⌝ }
 {
     encode_numbers(Kind::Int8, codec, 0, values, buffer)
 }
 
 // A column of integers and their divisor.
 pub fn encode_fixed_point(codec: i32, divisor: i32, values: &[i32], buffer: &mut [u8]) -> Encoded
-    ensures answer { λ r. ⌜ r ≡ told (encode (Wanted.Only Kind.FixedPoint) (ofZ w32 codec) (ofZ w32 divisor) (now (values .entry))) (length (now (buffer .entry))) ⌝ }
-    ensures buffer { λ r. ⌜ now (buffer .exit) ≡ left (encode (Wanted.Only Kind.FixedPoint) (ofZ w32 codec) (ofZ w32 divisor) (now (values .entry))) (now (buffer .entry)) ⌝ }
+    ensures answer { λ r. ⌜ r ≡ encoderSays Kind.FixedPoint (ofZ w32 codec) (ofZ w32 divisor) (now (values .entry)) (length (now (buffer .entry))) ⌝ }
+    ensures buffer { λ r. ⌜ now (buffer .exit) ≡ encoderLeaves Kind.FixedPoint (ofZ w32 codec) (ofZ w32 divisor) (now (values .entry)) (now (buffer .entry)) ⌝ }
 {
     encode_numbers(
         Kind::FixedPoint,
@@ -76,8 +75,8 @@ pub fn encode_fixed_point(codec: i32, divisor: i32, values: &[i32], buffer: &mut
 
 // A column of characters.
 pub fn encode_chars(codec: i32, values: &[u8], buffer: &mut [u8]) -> Encoded
-    ensures answer { λ r. ⌜ r ≡ told (encode (Wanted.Only Kind.Chars) (ofZ w32 codec) 0 (map pos (now (values .entry)))) (length (now (buffer .entry))) ⌝ }
-    ensures buffer { λ r. ⌜ now (buffer .exit) ≡ left (encode (Wanted.Only Kind.Chars) (ofZ w32 codec) 0 (map pos (now (values .entry)))) (now (buffer .entry)) ⌝ }
+    ensures answer { λ r. ⌜ r ≡ encoderSays Kind.Chars (ofZ w32 codec) 0 (now (values .entry)) (length (now (buffer .entry))) ⌝ }
+    ensures buffer { λ r. ⌜ now (buffer .exit) ≡ encoderLeaves Kind.Chars (ofZ w32 codec) 0 (now (values .entry)) (now (buffer .entry)) ⌝ }
 {
     let number = numbers::to_u32(codec);
     match make_plan(number, 0, values.len(), Wanted::Only(Kind::Chars)) {
@@ -91,8 +90,8 @@ pub fn encode_chars(codec: i32, values: &[u8], buffer: &mut [u8]) -> Encoded
 
 // A column of strings of `size` bytes each, one after the other.
 pub fn encode_strings(codec: i32, size: i32, names: &[u8], buffer: &mut [u8]) -> Encoded
-    ensures answer { λ r. ⌜ r ≡ told (encode (Wanted.Only Kind.Strings) (ofZ w32 codec) (ofZ w32 size) (map pos (now (names .entry)))) (length (now (buffer .entry))) ⌝ }
-    ensures buffer { λ r. ⌜ now (buffer .exit) ≡ left (encode (Wanted.Only Kind.Strings) (ofZ w32 codec) (ofZ w32 size) (map pos (now (names .entry)))) (now (buffer .entry)) ⌝ }
+    ensures answer { λ r. ⌜ r ≡ encoderSays Kind.Strings (ofZ w32 codec) (ofZ w32 size) (now (names .entry)) (length (now (buffer .entry))) ⌝ }
+    ensures buffer { λ r. ⌜ now (buffer .exit) ≡ encoderLeaves Kind.Strings (ofZ w32 codec) (ofZ w32 size) (now (names .entry)) (now (buffer .entry)) ⌝ }
 {
     let number = numbers::to_u32(codec);
     let bytes = numbers::to_u32(size);
@@ -107,8 +106,8 @@ pub fn encode_strings(codec: i32, size: i32, names: &[u8], buffer: &mut [u8]) ->
 
 // A column of floats, by their bits.
 pub fn encode_float32(codec: i32, bits: &[u32], buffer: &mut [u8]) -> Encoded
-    ensures answer { λ r. ⌜ r ≡ told (encode (Wanted.Only Kind.Float32) (ofZ w32 codec) 0 (map (toZ w32) (now (bits .entry)))) (length (now (buffer .entry))) ⌝ }
-    ensures buffer { λ r. ⌜ now (buffer .exit) ≡ left (encode (Wanted.Only Kind.Float32) (ofZ w32 codec) 0 (map (toZ w32) (now (bits .entry)))) (now (buffer .entry)) ⌝ }
+    ensures answer { λ r. ⌜ r ≡ encoderSays Kind.Float32 (ofZ w32 codec) 0 (now (bits .entry)) (length (now (buffer .entry))) ⌝ }
+    ensures buffer { λ r. ⌜ now (buffer .exit) ≡ encoderLeaves Kind.Float32 (ofZ w32 codec) 0 (now (bits .entry)) (now (buffer .entry)) ⌝ }
 {
     let number = numbers::to_u32(codec);
     match make_plan(number, 0, bits.len(), Wanted::Only(Kind::Float32)) {
@@ -182,7 +181,7 @@ fn make_plan(codec: u32, parameter: u32, elements: usize, wanted: Wanted) -> Pla
             if (columns::LENGTH_LIMIT as usize) < n {
                 return Plan::Refused(refusal::HEADER_RANGE);
             }
-            Plan::Good(form, delta, n as u32, stored(p, parameter))
+            Plan::Good(form, delta, n as u32, columns::used_parameter(p, parameter))
         }
     }
 }
@@ -218,17 +217,6 @@ fn whole_results(form: Form, parameter: usize, elements: usize) -> bool
             }
             elements % parameter == 0
         }
-    }
-}
-
-// The parameter as it is written.
-fn stored(parameter: Parameter, value: u32) -> u32
-    ensures { λ r. ⌜ r ≡ written parameter value ⌝ }
-{
-    match parameter {
-        Parameter::Unused => 0,
-        Parameter::Divisor => value,
-        Parameter::NameSize => value,
     }
 }
 

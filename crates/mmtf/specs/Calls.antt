@@ -1,14 +1,13 @@
 -- What a C call answers and leaves in its out parameters. No lemma stands here. Assumes nothing.
-use mathlib.Core.Path.{_≡_}
 use mathlib.Core.Bool.{cond}
 use mathlib.Core.List.{List}
-use Prim.Native.Nat.{ℕ, _<_}
+use Prim.Native.Nat.{ℕ}
 use lib.Dec.{eqb}
-use lib.ListN.{length}
 use lib.IntN.{ℤ, pos}
 use lib.Ieee.{Float}
-use Rattle.refusal.specs.Table.{accepted, receiptMalformed}
-use Rattle.views.specs.View.{shown, Viewable, startOf, viewNumber}
+use Rattle.refusal.specs.Table.{accepted}
+use Rattle.views.specs.declared.Place.{Place}
+use Rattle.views.specs.declared.Place.the-variants as place
 use Rattle.decoding.specs.declared.Decoded.{Decoded}
 use Rattle.decoding.specs.declared.Decoded.the-variants as decoded
 use Rattle.decoding.specs.declared.Fixed.{Fixed}
@@ -19,15 +18,20 @@ use Rattle.cells.specs.declared.Cell.{Cell}
 use Rattle.cells.specs.declared.Cell.the-variants as cell
 use Rattle.encoding.specs.declared.Encoded.{Encoded}
 use Rattle.encoding.specs.declared.Encoded.the-variants as encoded
-use Rattle.receipt.specs.Receipt.{numbersOf, IsReceipt}
-use Rattle.receipt.specs.declared.Receipt.{Receipt}
+use Rattle.receipt.specs.Receipt.{numbersOf}
+use Rattle.receipt.specs.declared.Reading.{Reading}
+use Rattle.receipt.specs.declared.Reading.the-variants as reading
 use Rattle.receipt.specs.declared.Written.{Written}
 use Rattle.receipt.specs.declared.Written.the-variants as writing
 
--- a view: the part's start and length, or the refusal with the out parameters as they were
-pub data ViewCall (file name : List ℕ) (start size : ℕ) : ℕ → ℕ → ℕ → Type 0 where
-  shows : (v : Viewable file name) → ViewCall file name start size accepted (startOf v) (length (shown (v .x) (v .w)))
-  refuses : {n : ℕ} → 0 < n → n ≡ viewNumber file name → (Viewable file name → ⊥) → ViewCall file name start size n start size
+-- a view: the start and the length of the part afterwards
+abbrev pub viewStart : Place → ℕ → ℕ
+viewStart (place.At start n) old = start
+viewStart (place.Refused r) old = old
+
+abbrev pub viewLength : Place → ℕ → ℕ
+viewLength (place.At start n) old = n
+viewLength (place.Refused r) old = old
 
 -- a matrix: the rows afterwards, as they were on refusal
 abbrev pub matrixRows : ℕ → List (List Float) → List (List Float) → List (List Float)
@@ -107,7 +111,11 @@ abbrev pub receiptCount : Written → ℕ → ℕ
 receiptCount (writing.Bytes n) old = n
 receiptCount (writing.Refused r) old = old
 
--- a receipt read: its numbers in the order of its lines, or 29 with the numbers as they were
-pub data ReadCall (bytes old : List ℕ) : ℕ → List ℕ → Type 0 where
-  reads : {r : Receipt} → IsReceipt bytes r → ReadCall bytes old accepted (numbersOf r)
-  refuses-bytes : ((r : Receipt) → IsReceipt bytes r → ⊥) → ReadCall bytes old receiptMalformed old
+-- a receipt read: its number, and the numbers of its lines in their order afterwards
+abbrev pub readNumber : Reading → ℕ
+readNumber (reading.Numbers r) = accepted
+readNumber (reading.Refused n) = n
+
+abbrev pub readNumbers : Reading → List ℕ → List ℕ
+readNumbers (reading.Numbers r) old = numbersOf r
+readNumbers (reading.Refused n) old = old

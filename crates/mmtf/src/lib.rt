@@ -2,25 +2,25 @@
 // On refusal no out parameter changes.
 ghost use mathlib.Core.Path.{_≡_};
 ghost use mathlib.Core.Logic.{_↔_};
-ghost use mathlib.Core.List.{map};
 ghost use lib.ListN.{length, take};
-ghost use lib.IntN.{pos};
 ghost use mir.Syntax.{w32};
-ghost use mir.Val.{toZ, ofZ};
+ghost use mir.Val.{ofZ};
 ghost use Rattle.messagepack.specs.Rules.{Container};
 ghost use Rattle.messagepack.specs.Walk.{containerNumber};
 ghost use Rattle.structure.specs.Accepted.{Accepted, verdictOf};
+ghost use Rattle.views.specs.View.{Viewable, viewNumber};
+ghost use Rattle.views.specs.Place.{placeOf};
 ghost use Rattle.transforms.specs.Matrix.{matrixNumber, matrixOf};
 ghost use Rattle.columns.specs.Decode.{decode};
-ghost use Rattle.columns.specs.Encode.{encode};
 ghost use Rattle.decoding.specs.Calls as decoding;
 ghost use Rattle.floats.specs.Calls as floats;
 ghost use Rattle.cells.specs.Calls.{cellOf};
-ghost use Rattle.encoding.specs.Calls as encoding;
+ghost use Rattle.encoding.specs.Demand.{encoderSays, encoderLeaves};
 ghost use Rattle.receipt.specs.Receipt.{numbersOf};
+ghost use Rattle.receipt.specs.Reading.{readingOf};
 ghost use Rattle.receipt.specs.File as receipt;
 ghost use Rattle.receipt.specs.File.{Receipted};
-ghost use Rattle.mmtf.specs.Calls.{ViewCall, matrixRows, decodedNumber, decodedCount, fixedNumber, fixedCount, fixedDivisor, floatsNumber, floatsCount, cellNumber, cellKind, cellInteger, cellReal, encodedNumber, encodedCount, receiptNumber, receiptCount, ReadCall};
+ghost use Rattle.mmtf.specs.Calls.{viewStart, viewLength, matrixRows, decodedNumber, decodedCount, fixedNumber, fixedCount, fixedDivisor, floatsNumber, floatsCount, cellNumber, cellKind, cellInteger, cellReal, encodedNumber, encodedCount, receiptNumber, receiptCount, readNumber, readNumbers};
 use cells::Cell;
 use columns::Kind;
 use columns::Wanted;
@@ -54,7 +54,10 @@ pub extern "C" fn mmtf_verdict(file: &[u8]) -> u8
 // The place of the part of a file that shows an outer key's value; or the refusal, 1 to 11 or 26.
 #[no_mangle]
 pub extern "C" fn mmtf_view(file: &[u8], name: &[u8], start: &mut u64, length: &mut u64) -> u8
-    ensures { λ r. ⌜ ViewCall (now (file .entry)) (now (name .entry)) (now (start .entry)) (now (length .entry)) r (now (start .exit)) (now (length .exit)) ⌝ }
+    ensures number { λ r. ⌜ r ≡ viewNumber (now (file .entry)) (now (name .entry)) ⌝ }
+    ensures exactly { λ r. ⌜ (r ≡ 0) ↔ Viewable (now (file .entry)) (now (name .entry)) ⌝ }
+    ensures start { λ r. ⌜ now (start .exit) ≡ viewStart (placeOf (now (file .entry)) (now (name .entry))) (now (start .entry)) ⌝ }
+    ensures length { λ r. ⌜ now (length .exit) ≡ viewLength (placeOf (now (file .entry)) (now (name .entry))) (now (length .entry)) ⌝ }
 {
     match views::find(file, name) {
         Place::Refused(n) => n,
@@ -217,9 +220,9 @@ pub extern "C" fn mmtf_encode_int32(
     buffer: &mut [u8],
     written: &mut u64,
 ) -> u8
-    ensures answer { λ r. ⌜ r ≡ encodedNumber (encoding.told (encode (Wanted.Only Kind.Int32) (ofZ w32 codec) 0 (now (values .entry))) (length (now (buffer .entry)))) ⌝ }
-    ensures written { λ r. ⌜ now (written .exit) ≡ encodedCount (encoding.told (encode (Wanted.Only Kind.Int32) (ofZ w32 codec) 0 (now (values .entry))) (length (now (buffer .entry)))) (now (written .entry)) ⌝ }
-    ensures buffer { λ r. ⌜ now (buffer .exit) ≡ encoding.left (encode (Wanted.Only Kind.Int32) (ofZ w32 codec) 0 (now (values .entry))) (now (buffer .entry)) ⌝ }
+    ensures answer { λ r. ⌜ r ≡ encodedNumber (encoderSays Kind.Int32 (ofZ w32 codec) 0 (now (values .entry)) (length (now (buffer .entry)))) ⌝ }
+    ensures written { λ r. ⌜ now (written .exit) ≡ encodedCount (encoderSays Kind.Int32 (ofZ w32 codec) 0 (now (values .entry)) (length (now (buffer .entry)))) (now (written .entry)) ⌝ }
+    ensures buffer { λ r. ⌜ now (buffer .exit) ≡ encoderLeaves Kind.Int32 (ofZ w32 codec) 0 (now (values .entry)) (now (buffer .entry)) ⌝ }
 {
     hand_written(encoding::encode_int32(codec, values, buffer), written)
 }
@@ -232,9 +235,9 @@ pub extern "C" fn mmtf_encode_int8(
     buffer: &mut [u8],
     written: &mut u64,
 ) -> u8
-    ensures answer { λ r. ⌜ r ≡ encodedNumber (encoding.told (encode (Wanted.Only Kind.Int8) (ofZ w32 codec) 0 (now (values .entry))) (length (now (buffer .entry)))) ⌝ }
-    ensures written { λ r. ⌜ now (written .exit) ≡ encodedCount (encoding.told (encode (Wanted.Only Kind.Int8) (ofZ w32 codec) 0 (now (values .entry))) (length (now (buffer .entry)))) (now (written .entry)) ⌝ }
-    ensures buffer { λ r. ⌜ now (buffer .exit) ≡ encoding.left (encode (Wanted.Only Kind.Int8) (ofZ w32 codec) 0 (now (values .entry))) (now (buffer .entry)) ⌝ }
+    ensures answer { λ r. ⌜ r ≡ encodedNumber (encoderSays Kind.Int8 (ofZ w32 codec) 0 (now (values .entry)) (length (now (buffer .entry)))) ⌝ }
+    ensures written { λ r. ⌜ now (written .exit) ≡ encodedCount (encoderSays Kind.Int8 (ofZ w32 codec) 0 (now (values .entry)) (length (now (buffer .entry)))) (now (written .entry)) ⌝ }
+    ensures buffer { λ r. ⌜ now (buffer .exit) ≡ encoderLeaves Kind.Int8 (ofZ w32 codec) 0 (now (values .entry)) (now (buffer .entry)) ⌝ }
 {
     hand_written(encoding::encode_int8(codec, values, buffer), written)
 }
@@ -247,9 +250,9 @@ pub extern "C" fn mmtf_encode_int16(
     buffer: &mut [u8],
     written: &mut u64,
 ) -> u8
-    ensures answer { λ r. ⌜ r ≡ encodedNumber (encoding.told (encode (Wanted.Only Kind.Int16) (ofZ w32 codec) 0 (now (values .entry))) (length (now (buffer .entry)))) ⌝ }
-    ensures written { λ r. ⌜ now (written .exit) ≡ encodedCount (encoding.told (encode (Wanted.Only Kind.Int16) (ofZ w32 codec) 0 (now (values .entry))) (length (now (buffer .entry)))) (now (written .entry)) ⌝ }
-    ensures buffer { λ r. ⌜ now (buffer .exit) ≡ encoding.left (encode (Wanted.Only Kind.Int16) (ofZ w32 codec) 0 (now (values .entry))) (now (buffer .entry)) ⌝ }
+    ensures answer { λ r. ⌜ r ≡ encodedNumber (encoderSays Kind.Int16 (ofZ w32 codec) 0 (now (values .entry)) (length (now (buffer .entry)))) ⌝ }
+    ensures written { λ r. ⌜ now (written .exit) ≡ encodedCount (encoderSays Kind.Int16 (ofZ w32 codec) 0 (now (values .entry)) (length (now (buffer .entry)))) (now (written .entry)) ⌝ }
+    ensures buffer { λ r. ⌜ now (buffer .exit) ≡ encoderLeaves Kind.Int16 (ofZ w32 codec) 0 (now (values .entry)) (now (buffer .entry)) ⌝ }
 {
     hand_written(encoding::encode_int16(codec, values, buffer), written)
 }
@@ -262,9 +265,9 @@ pub extern "C" fn mmtf_encode_chars(
     buffer: &mut [u8],
     written: &mut u64,
 ) -> u8
-    ensures answer { λ r. ⌜ r ≡ encodedNumber (encoding.told (encode (Wanted.Only Kind.Chars) (ofZ w32 codec) 0 (map pos (now (values .entry)))) (length (now (buffer .entry)))) ⌝ }
-    ensures written { λ r. ⌜ now (written .exit) ≡ encodedCount (encoding.told (encode (Wanted.Only Kind.Chars) (ofZ w32 codec) 0 (map pos (now (values .entry)))) (length (now (buffer .entry)))) (now (written .entry)) ⌝ }
-    ensures buffer { λ r. ⌜ now (buffer .exit) ≡ encoding.left (encode (Wanted.Only Kind.Chars) (ofZ w32 codec) 0 (map pos (now (values .entry)))) (now (buffer .entry)) ⌝ }
+    ensures answer { λ r. ⌜ r ≡ encodedNumber (encoderSays Kind.Chars (ofZ w32 codec) 0 (now (values .entry)) (length (now (buffer .entry)))) ⌝ }
+    ensures written { λ r. ⌜ now (written .exit) ≡ encodedCount (encoderSays Kind.Chars (ofZ w32 codec) 0 (now (values .entry)) (length (now (buffer .entry)))) (now (written .entry)) ⌝ }
+    ensures buffer { λ r. ⌜ now (buffer .exit) ≡ encoderLeaves Kind.Chars (ofZ w32 codec) 0 (now (values .entry)) (now (buffer .entry)) ⌝ }
 {
     hand_written(encoding::encode_chars(codec, values, buffer), written)
 }
@@ -278,9 +281,9 @@ pub extern "C" fn mmtf_encode_strings(
     buffer: &mut [u8],
     written: &mut u64,
 ) -> u8
-    ensures answer { λ r. ⌜ r ≡ encodedNumber (encoding.told (encode (Wanted.Only Kind.Strings) (ofZ w32 codec) (ofZ w32 size) (map pos (now (names .entry)))) (length (now (buffer .entry)))) ⌝ }
-    ensures written { λ r. ⌜ now (written .exit) ≡ encodedCount (encoding.told (encode (Wanted.Only Kind.Strings) (ofZ w32 codec) (ofZ w32 size) (map pos (now (names .entry)))) (length (now (buffer .entry)))) (now (written .entry)) ⌝ }
-    ensures buffer { λ r. ⌜ now (buffer .exit) ≡ encoding.left (encode (Wanted.Only Kind.Strings) (ofZ w32 codec) (ofZ w32 size) (map pos (now (names .entry)))) (now (buffer .entry)) ⌝ }
+    ensures answer { λ r. ⌜ r ≡ encodedNumber (encoderSays Kind.Strings (ofZ w32 codec) (ofZ w32 size) (now (names .entry)) (length (now (buffer .entry)))) ⌝ }
+    ensures written { λ r. ⌜ now (written .exit) ≡ encodedCount (encoderSays Kind.Strings (ofZ w32 codec) (ofZ w32 size) (now (names .entry)) (length (now (buffer .entry)))) (now (written .entry)) ⌝ }
+    ensures buffer { λ r. ⌜ now (buffer .exit) ≡ encoderLeaves Kind.Strings (ofZ w32 codec) (ofZ w32 size) (now (names .entry)) (now (buffer .entry)) ⌝ }
 {
     hand_written(
         encoding::encode_strings(codec, size, names, buffer),
@@ -297,9 +300,9 @@ pub extern "C" fn mmtf_encode_fixed_point(
     buffer: &mut [u8],
     written: &mut u64,
 ) -> u8
-    ensures answer { λ r. ⌜ r ≡ encodedNumber (encoding.told (encode (Wanted.Only Kind.FixedPoint) (ofZ w32 codec) (ofZ w32 divisor) (now (values .entry))) (length (now (buffer .entry)))) ⌝ }
-    ensures written { λ r. ⌜ now (written .exit) ≡ encodedCount (encoding.told (encode (Wanted.Only Kind.FixedPoint) (ofZ w32 codec) (ofZ w32 divisor) (now (values .entry))) (length (now (buffer .entry)))) (now (written .entry)) ⌝ }
-    ensures buffer { λ r. ⌜ now (buffer .exit) ≡ encoding.left (encode (Wanted.Only Kind.FixedPoint) (ofZ w32 codec) (ofZ w32 divisor) (now (values .entry))) (now (buffer .entry)) ⌝ }
+    ensures answer { λ r. ⌜ r ≡ encodedNumber (encoderSays Kind.FixedPoint (ofZ w32 codec) (ofZ w32 divisor) (now (values .entry)) (length (now (buffer .entry)))) ⌝ }
+    ensures written { λ r. ⌜ now (written .exit) ≡ encodedCount (encoderSays Kind.FixedPoint (ofZ w32 codec) (ofZ w32 divisor) (now (values .entry)) (length (now (buffer .entry)))) (now (written .entry)) ⌝ }
+    ensures buffer { λ r. ⌜ now (buffer .exit) ≡ encoderLeaves Kind.FixedPoint (ofZ w32 codec) (ofZ w32 divisor) (now (values .entry)) (now (buffer .entry)) ⌝ }
 {
     hand_written(
         encoding::encode_fixed_point(codec, divisor, values, buffer),
@@ -315,9 +318,9 @@ pub extern "C" fn mmtf_encode_float32(
     buffer: &mut [u8],
     written: &mut u64,
 ) -> u8
-    ensures answer { λ r. ⌜ r ≡ encodedNumber (encoding.told (encode (Wanted.Only Kind.Float32) (ofZ w32 codec) 0 (map (toZ w32) (now (bits .entry)))) (length (now (buffer .entry)))) ⌝ }
-    ensures written { λ r. ⌜ now (written .exit) ≡ encodedCount (encoding.told (encode (Wanted.Only Kind.Float32) (ofZ w32 codec) 0 (map (toZ w32) (now (bits .entry)))) (length (now (buffer .entry)))) (now (written .entry)) ⌝ }
-    ensures buffer { λ r. ⌜ now (buffer .exit) ≡ encoding.left (encode (Wanted.Only Kind.Float32) (ofZ w32 codec) 0 (map (toZ w32) (now (bits .entry)))) (now (buffer .entry)) ⌝ }
+    ensures answer { λ r. ⌜ r ≡ encodedNumber (encoderSays Kind.Float32 (ofZ w32 codec) 0 (now (bits .entry)) (length (now (buffer .entry)))) ⌝ }
+    ensures written { λ r. ⌜ now (written .exit) ≡ encodedCount (encoderSays Kind.Float32 (ofZ w32 codec) 0 (now (bits .entry)) (length (now (buffer .entry)))) (now (written .entry)) ⌝ }
+    ensures buffer { λ r. ⌜ now (buffer .exit) ≡ encoderLeaves Kind.Float32 (ofZ w32 codec) 0 (now (bits .entry)) (now (buffer .entry)) ⌝ }
 {
     hand_written(encoding::encode_float32(codec, bits, buffer), written)
 }
@@ -348,7 +351,8 @@ pub extern "C" fn mmtf_write_receipt(
 // The ten numbers of a receipt, in the order of its lines; or 29.
 #[no_mangle]
 pub extern "C" fn mmtf_read_receipt(bytes: &[u8], numbers: &mut [u32; 10]) -> u8
-    ensures { λ r. ⌜ ReadCall (now (bytes .entry)) (now (numbers .entry)) r (now (numbers .exit)) ⌝ }
+    ensures answer { λ r. ⌜ r ≡ readNumber (readingOf (now (bytes .entry))) ⌝ }
+    ensures numbers { λ r. ⌜ now (numbers .exit) ≡ readNumbers (readingOf (now (bytes .entry))) (now (numbers .entry)) ⌝ }
 {
     match receipt::read(bytes) {
         Reading::Refused(r) => r,

@@ -90,7 +90,7 @@ fn limits_of(x: i32, size: Size, low: u32, span: u32) -> usize
     limits_of_long(x, size)
 }
 
-// The same for any value: a limit for each time that the value reaches it.
+// How many limits a value of any size takes: one for each time that it reaches the limit.
 fn limits_of_long(x: i32, size: Size) -> usize
     ensures { λ r. ⌜ (r + 1 ≡ length (packOne (upper size) (lower size) x)) × (r < 4294967296) ⌝ }
 {

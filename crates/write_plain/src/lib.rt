@@ -36,7 +36,7 @@ pub fn place_names(names: &[u8], size: usize, buffer: &mut [u8], at: usize) -> P
     ensures answer { λ r. ⌜ r ≡ placed (allowed Form.Names size (map pos (now (names .entry)))) (payloadOf Form.Names false (map pos (now (names .entry)))) (length (now (buffer .entry))) at ⌝ }
     ensures buffer { λ r. ⌜ now (buffer .exit) ≡ laid (allowed Form.Names size (map pos (now (names .entry)))) (payloadOf Form.Names false (map pos (now (names .entry)))) (now (buffer .entry)) at ⌝ }
 {
-    if !writers::are_names(names, size) {
+    if !codecs::are_names(names, size) {
         return Placed::NotAllowed;
     }
     let n = names.len();
@@ -60,7 +60,7 @@ pub fn place_floats(bits: &[u32], buffer: &mut [u8], at: usize) -> Placed
     Placed::Bytes(n)
 }
 
-// The same: the call above gives each size a loop of its own.
+// Places numbers of one size; `place_numbers` calls it with each size as a constant, so that each has a loop of its own.
 fn place_sized(values: &[i32], size: Size, buffer: &mut [u8], start: usize) -> Placed
     ensures answer { λ r. ⌜ r ≡ placed (allowed (Form.Plain size) 0 (now (values .entry))) (payloadOf (Form.Plain size) false (now (values .entry))) (length (now (buffer .entry))) start ⌝ }
     ensures buffer { λ r. ⌜ now (buffer .exit) ≡ laid (allowed (Form.Plain size) 0 (now (values .entry))) (payloadOf (Form.Plain size) false (now (values .entry))) (now (buffer .entry)) start ⌝ }

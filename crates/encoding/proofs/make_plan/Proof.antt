@@ -44,7 +44,7 @@ returns-6 : tie.Need-returns-6
 returns-6 c =
     let a = c .before .before .before .before .before .before .before .before .before .before .before .before .before .args in
     let k = c .before .before .before .before .before .before .before .before .before .before .kind .given .0 in
-    ap₂ (λ (n v : ℕ). Good (k .1 .0) (k .1 .1 .0) n v) (c .before .before .count-results .ensures) (c .stored .ensures)
+    ap₂ (λ (n v : ℕ). Good (k .1 .0) (k .1 .1 .0) n v) (c .before .before .count-results .ensures) (c .used-parameter .ensures)
     ∙ sym (plan-good (a .wanted) (a .codec) (a .parameter) (a .elements) (found (c .before .before .before .before .before .before .before .before .before .before)) (sym (c .before .before .before .before .before .before .before .before .is-wanted .ensures) ∙ not-false _ (c .before .before .before .before .before .before .before .if1 .left)) (sym (c .before .before .before .before .before .before .parameter-ok .ensures) ∙ not-false _ (c .before .before .before .before .before .if2 .left)) (sym (c .before .before .before .before .whole-results .ensures) ∙ not-false _ (c .before .before .before .if3 .left)) (omega (arith, c .before .before .count-results .ensures)))
 
 pub make-plan-spec : {M : Type 1} → statement M

@@ -25,7 +25,7 @@ use Rattle.columns.specs.Encode.{payloadOf, Encoding, refused, bytes, encode}
 use Rattle.writers.specs.declared.Placed.{Placed}
 use Rattle.writers.specs.Placed.{over, placed, laid}
 use Rattle.writers.specs.Laws.Placed.{over-length, over-then, over-written}
-use Rattle.writers.specs.Laws.Cells.{and-true}
+use Rattle.codecs.specs.Laws.Allowed.{and-true}
 use Rattle.encoding.specs.declared.Plan.{Plan}
 use Rattle.encoding.specs.declared.Plan.the-variants as plan
 use Rattle.encoding.specs.declared.Encoded.{Encoded}

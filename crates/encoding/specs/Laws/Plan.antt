@@ -7,7 +7,7 @@ use native.Mathlib.Omega.{arith}
 use lib.ListN.{length, getD}
 use lib.IntN.{ℤ}
 use lib.Dec.{eqb, leb}
-use borrow.Author.Tests.{le-leb, lt-leb, eqb-true}
+use borrow.Author.Tests.{le-leb, lt-leb}
 use Rattle.refusal.specs.Table.{codecUnknown, headerRange}
 use Rattle.codecs.specs.declared.Size.the-variants.{Four}
 use Rattle.codecs.specs.declared.Range.the-variants.{Ascii}
@@ -21,8 +21,9 @@ use Rattle.columns.specs.declared.Wanted.the-variants.{Only}
 use Rattle.columns.specs.declared.Parameter.{Parameter}
 use Rattle.columns.specs.declared.Codec.{Codec}
 use Rattle.columns.specs.declared.Codec.the-variants.{Known, Unknown}
-use Rattle.columns.specs.Table.{table, codecOf, kindNumber, suits, lengthLimit, parameterOk}
-use Rattle.columns.specs.Encode.{results, wholeResults, written, encodedBy, encode}
+use Rattle.columns.specs.Table.{table, codecOf, kindNumber, suits, lengthLimit, parameterOk, used}
+use Rattle.columns.specs.Encode.{results, wholeResults, encodedBy, encode}
+use Rattle.columns.specs.Laws.Rows.{same-kind}
 use Rattle.encoding.specs.declared.Plan.the-variants.{Good, Refused}
 use Rattle.encoding.specs.Plan.{planBy, planOf, onPlan, NumberKind, NumberForm}
 
@@ -49,7 +50,7 @@ module _ {k : Kind} {f : Form} {d : Bool} {p : Parameter} (w : Wanted) (c m e : 
   unfolding planOf
   plan-long a b h l = ap (planBy w m e) q ∙ rw (a, b, h, lt-leb (results f m e) lengthLimit l)
 
-  pub plan-good : suits w k ≡ true → parameterOk p m ≡ true → wholeResults f m e ≡ true → results f m e ≤ lengthLimit → planOf w c m e ≡ Good f d (results f m e) (written p m)
+  pub plan-good : suits w k ≡ true → parameterOk p m ≡ true → wholeResults f m e ≡ true → results f m e ≤ lengthLimit → planOf w c m e ≡ Good f d (results f m e) (used p m)
   unfolding planOf
   plan-good a b h l = ap (planBy w m e) q ∙ rw (a, b, h, le-leb (results f m e) lengthLimit l)
 
@@ -65,25 +66,9 @@ planned w c m xs = by (codecOf c)
   where
     by : (t : Codec) → encodedBy w c t m xs ≡ onPlan c m xs (planBy w m (length xs) t)
     by Unknown = refl
-    by (Known k f d p) = sym (cond-ap (onPlan c m xs) (suits w k) _ _ ∙ rw (cond-ap (onPlan c m xs) (parameterOk p m && (wholeResults f m (length xs) && leb (results f m (length xs)) lengthLimit)) (Good f d (results f m (length xs)) (written p m)) (Refused headerRange)))
+    by (Known k f d p) = sym (cond-ap (onPlan c m xs) (suits w k) _ _ ∙ rw (cond-ap (onPlan c m xs) (parameterOk p m && (wholeResults f m (length xs) && leb (results f m (length xs)) lengthLimit)) (Good f d (results f m (length xs)) (used p m)) (Refused headerRange)))
 
 -- The forms of each kind
-
--- a kind is known by its number
-abbrev kinds : List Kind
-kinds = kind.Float32 ∷ kind.FixedPoint ∷ kind.Int8 ∷ kind.Int16 ∷ kind.Int32 ∷ kind.Strings ∷ kind.Chars ∷ []
-
-kind-at : (k : Kind) → getD kinds (kindNumber k) kind.Float32 ≡ k
-kind-at kind.Float32 = refl
-kind-at kind.FixedPoint = refl
-kind-at kind.Int8 = refl
-kind-at kind.Int16 = refl
-kind-at kind.Int32 = refl
-kind-at kind.Strings = refl
-kind-at kind.Chars = refl
-
-same-kind : (k j : Kind) → eqb (kindNumber k) (kindNumber j) ≡ true → k ≡ j
-same-kind k j e = sym (kind-at k) ∙ ap (λ (n : ℕ). getD kinds n kind.Float32) (eqb-true (kindNumber k) (kindNumber j) e) ∙ kind-at j
 
 -- floats, names and letters have a form of their own
 abbrev pub Row : Kind → Form → Bool → Type 0
@@ -131,7 +116,7 @@ row {f} {d} {n} {v} k c m e q = by (codecOf c) (row-at table c rows) q
 
     by : (t : Codec) → RowOf t → planBy (Only k) m e t ≡ Good f d n v → Row k f d
     by Unknown r z = refuses codecUnknown z
-    by (Known j g b p) r z = by-kind (eqb (kindNumber k) (kindNumber j)) j g b (results g m e) (written p m) (parameterOk p m && (wholeResults g m e && leb (results g m e) lengthLimit)) refl r z
+    by (Known j g b p) r z = by-kind (eqb (kindNumber k) (kindNumber j)) j g b (results g m e) (used p m) (parameterOk p m && (wholeResults g m e && leb (results g m e) lengthLimit)) refl r z
 
 -- a number's kind has a number's form
 pub number-row : (f : Form) (d : Bool) (k : Kind) → NumberKind k → Row k f d → NumberForm f d

@@ -27,7 +27,7 @@ use Rattle.columns.specs.Encode.{payloadOf}
 use Rattle.writers.specs.Steps.{stepsFrom}
 use Rattle.writers.specs.Laws.Placed.{Parts}
 use Rattle.writers.specs.Laws.Numbers.{bytes-more, bytes-none, bytes-append, length-bytesFor, narrow}
-use Rattle.writers.specs.Laws.Cells.{and-true}
+use Rattle.codecs.specs.Laws.Allowed.{and-true}
 use Rattle.write_packed.specs.Bits.{bitsFor, upTo}
 
 pub packed-payload : (z : Size) (d : Bool) (xs : List ℤ) → payloadOf (Packed z) d xs ≡ bytesFor z (pack z (deltasIf d xs))

@@ -13,7 +13,7 @@ use Rattle.numbers.specs.Laws.BigEndian.{length-bytesOf}
 use Rattle.codecs.specs.declared.Size.the-variants.{Four}
 use Rattle.codecs.specs.Numbers.{bytesFor}
 use Rattle.writers.specs.Placed.{over}
-use Rattle.writers.specs.Laws.Lists.{map-at, map-end}
+use Rattle.codecs.specs.Laws.Lists.{map-at, map-end}
 use Rattle.writers.specs.Laws.Placed.{ToCome, Parts, come-end, come-room, come-on}
 use Rattle.write_plain.specs.Laws.Plain.{number-more, number-none}
 use Rattle.write_plain.proofs.write_floats.Statement.{statement}

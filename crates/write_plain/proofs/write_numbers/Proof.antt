@@ -16,10 +16,10 @@ use Rattle.codecs.specs.Width.{sizeOf}
 use Rattle.codecs.specs.Numbers.{bytesFor}
 use Rattle.codecs.specs.Payload.{rangeOf, allIn}
 use Rattle.writers.specs.Placed.{over}
-use Rattle.writers.specs.Laws.Lists.{drop-at, drop-end}
+use Rattle.codecs.specs.Laws.Lists.{drop-at, drop-end}
 use Rattle.writers.specs.Laws.Placed.{ToCome, Parts, come-end, come-room, come-on}
 use Rattle.writers.specs.Laws.Numbers.{narrow}
-use Rattle.writers.specs.Laws.Cells.{all-split}
+use Rattle.codecs.specs.Laws.Allowed.{all-split}
 use Rattle.write_plain.specs.Laws.Plain.{held, number-more, number-none}
 use Rattle.write_plain.proofs.write_numbers.Statement.{statement}
 use Rattle.write_plain.proofs.write_numbers.Tie as tie

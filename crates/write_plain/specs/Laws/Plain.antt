@@ -19,7 +19,7 @@ use Rattle.codecs.specs.Payload.{numbersFor, inRange, rangeOf, allIn, allowed}
 use Rattle.columns.specs.Encode.{payloadOf}
 use Rattle.writers.specs.Laws.Placed.{Parts}
 use Rattle.writers.specs.Laws.Numbers.{bytes-more, bytes-none}
-use Rattle.writers.specs.Laws.Cells.{and-true}
+use Rattle.codecs.specs.Laws.Allowed.{and-true}
 
 pub plain-payload : (z : Size) (xs : List ℤ) → payloadOf (Plain z) false xs ≡ bytesFor z xs
 unfolding payloadOf numbersFor

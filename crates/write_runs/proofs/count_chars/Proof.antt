@@ -6,7 +6,7 @@ use native.Mathlib.Omega.{arith}
 use lib.ListN.{length, drop}
 use lib.IntN.{pos}
 use borrow.Author.Needs.{needs}
-use Rattle.writers.specs.Laws.Lists.{map-at, map-end}
+use Rattle.codecs.specs.Laws.Lists.{map-at, map-end}
 use Rattle.write_runs.specs.Laws.Runs.{runs-none, Counted, counted-first, counted-more, counted-last}
 use Rattle.write_runs.proofs.count_chars.Statement.{statement}
 use Rattle.write_runs.proofs.count_chars.Tie as tie

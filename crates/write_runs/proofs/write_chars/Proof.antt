@@ -11,7 +11,7 @@ use Rattle.codecs.specs.declared.Size.the-variants.{Four}
 use Rattle.codecs.specs.Numbers.{bytesFor}
 use Rattle.codecs.specs.RunLength.{runsFrom, runsOf}
 use Rattle.writers.specs.Placed.{over}
-use Rattle.writers.specs.Laws.Lists.{map-at, map-end}
+use Rattle.codecs.specs.Laws.Lists.{map-at, map-end}
 use Rattle.writers.specs.Laws.Placed.{over-none, ToCome, Parts, come-end, come-same, come-room, come-on}
 use Rattle.writers.specs.Laws.Numbers.{bytes-none}
 use Rattle.write_runs.specs.Laws.Runs.{runs-none, runs-first, run-length, run-on, run-over, run-last}

@@ -25,7 +25,7 @@ use Rattle.writers.specs.Steps.{stepOf, stepsFrom}
 use Rattle.writers.specs.Laws.Placed.{Parts}
 use Rattle.writers.specs.Laws.Steps.{steps-read, bits-back}
 use Rattle.writers.specs.Laws.Numbers.{bytes-more, bytes-none}
-use Rattle.writers.specs.Laws.Cells.{and-true}
+use Rattle.codecs.specs.Laws.Allowed.{and-true}
 
 pub runs-payload : (r : Range) (d : Bool) (xs : List ℤ) → payloadOf (Runs r) d xs ≡ bytesFor Four (runsOf (deltasIf d xs))
 unfolding payloadOf numbersFor
