@@ -14,7 +14,7 @@ Within (Bytes n) room = n ≤ room
 Within TooLong room = Unit {0}
 Within Failed room = Unit {0}
 
--- the same of the elements of a column
+-- a decoder's count is within the room of its buffer
 abbrev pub DecodedWithin : Decoded → ℕ → Type 0
 DecodedWithin (decoded.Count n) room = n ≤ room
 DecodedWithin (decoded.Refused r) room = Unit {0}
