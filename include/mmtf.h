@@ -4,9 +4,9 @@
  * Today: the check of a whole file and of its container alone, views by name, columns: decoded, encoded, and one cell alone,
  * the matrices of transforms, and receipts: written for a file, and read. For x86-64 Linux.
  *
- * Every call takes any bytes and any numbers, and ends with an answer. It keeps nothing between calls, allocates nothing and
- * writes to nothing but its buffer and its out parameters, so threads may call at the same time. The answer is a refusal
- * number, 0 for none. On refusal no buffer and no out parameter changes.
+ * Every call takes whatever bytes and numbers it is given, and always ends with an answer. It keeps nothing between calls,
+ * allocates nothing and writes to nothing but its buffer and its out parameters, so threads may call at the same time. The
+ * answer is a refusal number, 0 for none. On refusal no buffer and no out parameter changes.
  *
  * What the caller keeps, since no call can test it:
  * - A pointer with a length is valid for that many elements, and nothing else writes to them while the call runs. Where the
@@ -103,7 +103,7 @@ uint8_t mmtf_container(const uint8_t *file, size_t n);
  *   bondAtomList is odd, or its bondOrderList is not half of that or is there alone; MMTF_INDEX_OUTSIDE, a bond's index is
  *   not inside its atoms; MMTF_VALUE_OUTSIDE, a bond's order is not 1 to 4.
  * - MMTF_INDEX_OUTSIDE: an entry of groupTypeList is not inside groupList.
- * - MMTF_COUNTS_DISAGREE: the atoms of each group's type, added over all groups, are not numAtoms.
+ * - MMTF_COUNTS_DISAGREE: the atoms of all groups, each counted by its type, are not numAtoms.
  * - MMTF_COUNTS_DISAGREE: the bonds likewise, with the pairs of the outer bondAtomList, are not numBonds; or that list is
  *   odd, or the outer bondOrderList is not half of it or is there alone.
  * - MMTF_INDEX_OUTSIDE: an index of the outer bondAtomList is not inside the atoms. Then MMTF_VALUE_OUTSIDE: an order of the
@@ -229,8 +229,8 @@ uint8_t mmtf_cell(const uint8_t *column, size_t n, uint64_t index, uint8_t *kind
 
 /*
  * Every encoder writes a column by the codec asked for: the 12 bytes of the header and the payload, with no MessagePack head.
- * Runs are the longest, packing takes the limit of the value's own sign while the rest reaches it, and a parameter that the
- * codec does not use is 0. What is written is decoded to the same elements. It refuses by the first of these that applies:
+ * Runs are the longest, packing writes the limit of a value's sign as long as what is left reaches it, and a parameter that
+ * the codec does not use is 0. What is written is decoded to the same elements. It refuses by the first of these that applies:
  * - MMTF_CODEC_UNKNOWN: the codec is none of the sixteen, or not of the kind that the call encodes.
  * - MMTF_HEADER_RANGE: more than 16,777,216 results (of strings, names), a divisor below 1, a size of names that is not 1 to
  *   255, or bytes of names that are no multiple of the size.
@@ -301,7 +301,7 @@ uint8_t mmtf_matrix(const uint8_t *file, size_t n, uint64_t assembly, uint64_t t
  * fields     how many of the 39 named fields are in the file, 16 to 39
  * units      1
  *
- * So it is with verdict 0. With any other verdict the seven lines after it are 0: a refused file costs no unit.
+ * So it is with verdict 0. If the verdict is another, every line below it is 0: a refused file costs no unit.
  */
 
 /* The places of the numbers that mmtf_read_receipt hands over. */

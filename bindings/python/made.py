@@ -40,13 +40,13 @@ def parameter_of(codec: int) -> int:
 
 def fields(**changes: Any) -> dict[str, Any]:
     """The fields of a structure with nothing in it, all 39, which is accepted; with some of them changed."""
-    real, whole, small, letters, names = (column(codec, 0, parameter_of(codec)) for codec in (10, 7, 2, 6, 5))
+    fixed, int32, int8, chars, strings = (column(codec, 0, parameter_of(codec)) for codec in (10, 7, 2, 6, 5))
     return {
         "mmtfVersion": "1.0.0", "mmtfProducer": "made", "numBonds": 0, "numAtoms": 0, "numGroups": 0, "numChains": 0,
-        "numModels": 0, "groupList": [], "xCoordList": real, "yCoordList": real, "zCoordList": real, "groupIdList": whole,
-        "groupTypeList": whole, "chainIdList": names, "groupsPerChain": [], "chainsPerModel": [], "bondAtomList": whole,
-        "bondOrderList": small, "bFactorList": real, "atomIdList": whole, "altLocList": letters, "occupancyList": real,
-        "secStructList": small, "insCodeList": letters, "sequenceIdList": whole, "chainNameList": names, "title": "",
+        "numModels": 0, "groupList": [], "xCoordList": fixed, "yCoordList": fixed, "zCoordList": fixed, "groupIdList": int32,
+        "groupTypeList": int32, "chainIdList": strings, "groupsPerChain": [], "chainsPerModel": [], "bondAtomList": int32,
+        "bondOrderList": int8, "bFactorList": fixed, "atomIdList": int32, "altLocList": chars, "occupancyList": fixed,
+        "secStructList": int8, "insCodeList": chars, "sequenceIdList": int32, "chainNameList": strings, "title": "",
         "structureId": "", "spaceGroup": "", "depositionDate": "", "releaseDate": "", "resolution": 1.0, "rFree": 1.0,
         "rWork": 1.0, "unitCell": [1.0] * 6, "experimentalMethods": [], "ncsOperatorList": [], "bioAssemblyList": [],
         "entityList": [], **changes,
