@@ -31,6 +31,7 @@ pub fn verdict(file: &[u8], number: u8) -> Times {
     assert_eq!(library::verdict(file), number, "by the library");
     assert_eq!(independent::verdict(file), number, "by the Rust");
     compare(
+        "verdict",
         || {
             black_box(library::verdict(black_box(file)));
         },
@@ -46,6 +47,7 @@ fn matrices(table: &Workloads, name: &str, file: &[u8], [assembly, transform]: [
     assert!(matches!(last, Ok(Matrix::Rows(_))), "both give the same");
     for (which, assembly) in [("last transform", assembly), ("no such assembly", u64::MAX)] {
         let times = compare(
+            "matrix",
             || {
                 black_box(library::matrix::matrix(
                     black_box(file),

@@ -32,6 +32,7 @@ pub fn walk(file: &[u8]) -> Times {
     assert_eq!(library::container(file), 0, "the library accepts it");
     assert_eq!(independent::container(file), 0, "the Rust accepts it");
     compare(
+        "container",
         || {
             black_box(library::container(black_box(file)));
         },
@@ -52,6 +53,7 @@ fn views(table: &Workloads, name: &str, file: &[u8]) {
     for (which, key) in asked {
         agree_on_view(file, key).expect("both give the same part");
         let times = compare(
+            "view",
             || {
                 black_box(library::view(black_box(file), black_box(key)));
             },

@@ -1,13 +1,17 @@
 //! The same work by libmmtf.a and by the independent Rust, side by side, in
-//! tables of Markdown. Without an argument: every workload, cost against size,
-//! and stack. With the name of a part, that part alone.
+//! tables of Markdown. Without an argument: every workload, every codec, whole
+//! files opened, cost against size, and stack. With the name of a part, that part
+//! alone. Status 1 if a codec or a call of the header is not measured.
 
 mod check;
 mod check_data;
+mod codecs;
 mod column_data;
 mod columns;
 mod container;
+mod coverage;
 mod once;
+mod opening;
 mod peers;
 mod receipts;
 mod sizes;
@@ -24,18 +28,14 @@ fn main() -> ExitCode {
     let words: Vec<String> = std::env::args().skip(1).collect();
     let word = |place: usize| words.get(place).map(String::as_str);
     match word(0) {
-        None => {
-            all();
-            println!();
-            sizes::table();
-            println!();
-            return stack::table();
-        }
-        Some("workloads") => all(),
+        None => return every_part(),
+        Some("workloads") => return workloads(),
         Some("container") => container::rows(&Workloads::new()),
         Some("columns") => columns::rows(&Workloads::new()),
         Some("check") => check::rows(&Workloads::new()),
         Some("receipts") => receipts::rows(&Workloads::new()),
+        Some("codecs") => return word(1).map_or_else(codecs::tables, codecs::of_one),
+        Some("opening") => opening::table(),
         Some("sizes") => sizes::table(),
         Some("stack") => return stack::table(),
         Some("peers") => peers::lines(),
@@ -49,13 +49,31 @@ fn main() -> ExitCode {
 }
 
 const PARTS: &str =
-    "workloads, container, columns, check, receipts, sizes, stack, peers, once";
+    "workloads, container, columns, check, receipts, codecs, opening, sizes, stack, peers, once";
+
+/// Every table, also if something is not measured.
+fn every_part() -> ExitCode {
+    let workloads = workloads();
+    println!();
+    let codecs = codecs::tables();
+    println!();
+    opening::table();
+    println!();
+    sizes::table();
+    println!();
+    let stack = stack::table();
+    let failed = |status: &ExitCode| *status != ExitCode::SUCCESS;
+    let first = [workloads, codecs, stack].into_iter().find(failed);
+    first.unwrap_or(ExitCode::SUCCESS)
+}
 
 /// Every workload, in one table.
-fn all() {
+fn workloads() -> ExitCode {
     let table = Workloads::new();
     container::rows(&table);
     columns::rows(&table);
     check::rows(&table);
     receipts::rows(&table);
+    let on_files = |call: &str| !coverage::is_on_column(call);
+    coverage::judged("workloads", &coverage::unmeasured(on_files))
 }

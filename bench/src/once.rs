@@ -4,14 +4,13 @@
 use std::hint::black_box;
 use std::process::ExitCode;
 
-use mmtf_tests::check::calls::*;
 use mmtf_tests::corpus;
-use mmtf_tests::independent::columns::cell;
 use mmtf_tests::independent::receipt::{read_receipt, text, write_receipt};
 use mmtf_tests::{independent, library};
 
 use crate::check_data::{entities, runs_with_delta, structure};
-use crate::column_data::{measured, Measured};
+use crate::column_data::shape;
+use crate::columns::{one_cell, Column};
 use crate::workloads::{many_outer_keys, HOSTILE};
 
 /// Work as both do it, and how many bytes or cells it is.
@@ -57,18 +56,28 @@ const WORKS: &[(&str, Build)] = &[
         unit: "cell",
         ..verdict(runs_with_delta(262_144))
     }),
-    ("decode: 9, short runs", || decode(column(2))),
-    ("decode: 10, coordinates", || decode(column(3))),
-    ("encode: 9, long runs", || encode(column(1))),
-    ("encode: 10, coordinates", || encode(column(3))),
-    ("encode: 14, one of 100 packed", || encode(column(4))),
-    ("cell: 8, ids with gaps", || one_cell(column(0))),
-    ("cell: 9, short runs", || one_cell(column(2))),
-    ("cell: 10, coordinates", || one_cell(column(3))),
     ("receipt written: 4QXX", || {
         written(corpus::derived("4QXX").to_vec())
     }),
     ("receipt read", read),
+];
+
+/// The works on columns that the table has. Every other work on the column of a
+/// shape is known by such a name too.
+const ON_COLUMNS: &[&str] = &[
+    "decode: 2, bond orders",
+    "decode: 4, group types",
+    "decode: 5, names of 4, 1 or 2 letters",
+    "decode: 9, short runs",
+    "decode: 10, coordinates",
+    "decode: 11, b-factors",
+    "decode: 13, occupancies",
+    "encode: 9, long runs",
+    "encode: 10, coordinates",
+    "encode: 14, one of 100 packed",
+    "cell: 8, ids with gaps",
+    "cell: 9, short runs",
+    "cell: 10, coordinates",
 ];
 
 /// The cells of each column.
@@ -78,15 +87,14 @@ const CELLS: usize = 100_000;
 /// work, once before it is counted and once counted, and says how much it is.
 pub fn run(name: Option<&str>, by: Option<&str>) -> ExitCode {
     let Some(name) = name else {
-        WORKS.iter().for_each(|(name, _)| println!("{name}"));
+        let names = WORKS.iter().map(|(name, _)| name).chain(ON_COLUMNS);
+        names.for_each(|name| println!("{name}"));
         return ExitCode::SUCCESS;
     };
-    let build = WORKS.iter().find(|(other, _)| *other == name);
-    let (Some((_, build)), Some("library" | "Rust")) = (build, by) else {
+    let (Some(mut work), Some("library" | "Rust")) = (named(name), by) else {
         eprintln!("There is no such work, or it is not asked of \"library\" or \"Rust\".");
         return ExitCode::from(2);
     };
-    let mut work = build();
     println!("{}\t{}", work.units, work.unit);
     match by {
         Some("library") => {
@@ -99,6 +107,14 @@ pub fn run(name: Option<&str>, by: Option<&str>) -> ExitCode {
         }
     }
     ExitCode::SUCCESS
+}
+
+/// The work of that name.
+fn named(name: &str) -> Option<Work> {
+    match WORKS.iter().find(|(other, _)| *other == name) {
+        Some((_, build)) => Some(build()),
+        None => on_column(name),
+    }
 }
 
 /// What runs in this function is counted. The two differ, so that they stay two.
@@ -170,57 +186,22 @@ fn read() -> Work {
     )
 }
 
-fn column(place: usize) -> Measured {
-    measured(CELLS).swap_remove(place)
-}
-
-fn decode(measured: Measured) -> Work {
-    let decoder = match measured.kind() {
-        "fixed point" => FIXED_POINT,
-        _ => INT32,
+/// A work on the column of a shape, by its name and the shape's.
+fn on_column(name: &str) -> Option<Work> {
+    let (work, title) = name.split_once(": ")?;
+    // Kept until the program ends, which does this work alone.
+    let column: &'static dyn Column = Box::leak(shape(title)?.column(CELLS));
+    let work = match work {
+        "decode" => column.decoding(),
+        "floats" => column.floats()?,
+        "encode" => column.encoding(),
+        "cell" => one_cell(column.bytes(), CELLS as u64 - 10, 0).boxed(),
+        _ => return None,
     };
-    let mut buffer = vec![0; CELLS];
-    let mut other = vec![0; CELLS];
-    let work = on_bytes(
-        measured.column,
-        move |column| (decoder.library)(column, &mut buffer),
-        move |column| (decoder.independent)(column, &mut other),
-    );
-    of_cells(work)
-}
-
-fn encode(measured: Measured) -> Work {
-    let encoder = match measured.kind() {
-        "fixed point" => TO_FIXED_POINT,
-        _ => TO_INT32,
-    };
-    let [codec, parameter] = measured.header;
-    let values = measured.values.clone();
-    let same = values.clone();
-    let mut buffer = vec![0; measured.column.len()];
-    let mut other = buffer.clone();
-    let work = on_bytes(
-        measured.column,
-        move |_| (encoder.library)(codec, parameter, black_box(&values), &mut buffer),
-        move |_| (encoder.independent)(codec, parameter, black_box(&same), &mut other),
-    );
-    of_cells(work)
-}
-
-fn one_cell(measured: Measured) -> Work {
-    let index = CELLS as u64 - 10;
-    let work = on_bytes(
-        measured.column,
-        move |column| library::columns::cell(column, black_box(index)),
-        move |column| cell(column, black_box(index)),
-    );
-    of_cells(work)
-}
-
-fn of_cells(work: Work) -> Work {
-    Work {
+    Some(Work {
         units: CELLS,
         unit: "cell",
-        ..work
-    }
+        library: work.library,
+        independent: work.independent,
+    })
 }

@@ -63,6 +63,7 @@ pub fn writing(file: &[u8]) -> Times {
     agreed(file);
     let buffer = RefCell::new([0; LONGEST]);
     compare(
+        "write_receipt",
         || {
             let buffer = &mut *buffer.borrow_mut();
             black_box(library::write_receipt(BY, black_box(file), buffer));
@@ -79,6 +80,7 @@ fn reading(receipt: &[u8]) -> Times {
     assert!(read_receipt(receipt).is_ok(), "a receipt");
     let numbers = RefCell::new([0; 10]);
     compare(
+        "read_receipt",
         || {
             let numbers = &mut numbers.borrow_mut();
             black_box(library::read_receipt_into(black_box(receipt), numbers));

@@ -3,8 +3,8 @@
 
 use crate::check::verdict;
 use crate::check_data::{entities, large_type, runs_with_delta, structure, transforms};
-use crate::column_data::{self, measured, CELLS};
-use crate::columns::{decode_measured, encode_measured};
+use crate::column_data::{shape, CELLS};
+use crate::columns::{AnyWork, Column as Cells};
 use crate::container::walk;
 use crate::receipts::writing;
 use crate::table::{Column, Table};
@@ -73,19 +73,31 @@ fn verdicts(table: &Table) {
     );
 }
 
+/// The columns of which the cost is asked.
+const COLUMNS: [&str; 5] = [
+    "8, ids with gaps",
+    "9, long runs",
+    "9, short runs",
+    "10, coordinates",
+    "14, one of 100 packed",
+];
+
 /// Work on a column.
-type OnColumn = fn(&column_data::Measured) -> Times;
+type OnColumn = fn(&dyn Cells) -> AnyWork<'_>;
 
 fn columns(table: &Table) {
-    let measured = PARTS.map(|part| measured(CELLS / part));
-    let works: [(&str, OnColumn); 2] = [("decode", decode_measured), ("encode", encode_measured)];
-    for (work, times) in works {
-        for (place, column) in measured[0].iter().enumerate() {
-            let sizes = [0, 1, 2, 3].map(|size: usize| {
-                let column = &measured[size][place];
-                (column.values.len(), times(column))
+    let works: [(&str, OnColumn); 2] = [
+        ("decode", |column| column.decoding()),
+        ("encode", |column| column.encoding()),
+    ];
+    for (work, on) in works {
+        for title in COLUMNS {
+            let shape = shape(title).expect("a shape");
+            let sizes = PARTS.map(|part| {
+                let column = shape.column(CELLS / part);
+                (column.elements(), on(&*column).times())
             });
-            row(table, work, column.name, "cell", sizes);
+            row(table, work, title, "cell", sizes);
         }
     }
 }

@@ -2,6 +2,7 @@
 //! call is made, and the lowest byte that changed is looked for.
 
 use std::arch::asm;
+use std::collections::BTreeSet;
 use std::hint::black_box;
 use std::process::ExitCode;
 
@@ -17,7 +18,8 @@ use mmtf_tests::library::receipt::{read_receipt, write_receipt};
 use mmtf_tests::library::{container, verdict, view};
 
 use crate::check_data::structure;
-use crate::column_data::measured;
+use crate::column_data::SHAPES;
+use crate::coverage;
 use crate::table::{grouped, Column, Table};
 
 /// What the header says is enough for a call.
@@ -35,24 +37,25 @@ const PAINT: u8 = 0xa5;
 /// Measures every call in a thread of its own.
 pub fn table() -> ExitCode {
     let thread = std::thread::Builder::new().stack_size(4 * PAINTED);
-    let most = thread.spawn(measure).expect("a thread").join();
-    match most.expect("the calls end") {
-        most if most <= ENOUGH => ExitCode::SUCCESS,
-        most => {
-            eprintln!("A call took {most} bytes of stack; the header says {ENOUGH} are enough.");
-            ExitCode::FAILURE
-        }
+    let stack = thread.spawn(measure).expect("a thread").join();
+    let Stack { most, calls, .. } = stack.expect("the calls end");
+    if most > ENOUGH {
+        eprintln!("A call took {most} bytes of stack; the header says {ENOUGH} are enough.");
+        return ExitCode::FAILURE;
     }
+    coverage::judged("stack", &coverage::without(&calls, |_| true))
 }
 
-/// The table, with the most that a call takes over its inputs.
+/// The table, with the most that a call takes over its inputs, and the calls.
 struct Stack {
     table: Table,
     most: usize,
+    calls: BTreeSet<&'static str>,
 }
 
 impl Stack {
-    fn row(&mut self, call: &str, bytes: usize) {
+    fn row(&mut self, call: &'static str, bytes: usize) {
+        self.calls.insert(call);
         let told = match bytes {
             ..=LEFT => format!("at most {LEFT}"),
             _ => grouped(bytes),
@@ -62,10 +65,11 @@ impl Stack {
     }
 }
 
-fn measure() -> usize {
+fn measure() -> Stack {
     let mut stack = Stack {
         table: Table::new(&[Column::Names("call", 26), Column::Numbers("bytes", 12)]),
         most: 0,
+        calls: BTreeSet::new(),
     };
     of_files(&mut stack);
     let columns = columns();
@@ -89,7 +93,7 @@ fn measure() -> usize {
     encoder(&mut stack, &TO_STRINGS, &STRINGS, &columns);
     encoder(&mut stack, &TO_FIXED_POINT, &FIXED_POINT, &columns);
     encoder(&mut stack, &TO_FLOAT32, &FLOAT32, &columns);
-    stack.most
+    stack
 }
 
 /// Structure files, a made one, and one with twelve levels, the most.
@@ -105,17 +109,16 @@ fn files() -> Vec<Vec<u8>> {
     files
 }
 
-/// The columns of the structure files, and those of the table of workloads.
+/// The columns of the structure files, and those of the table of codecs.
 fn columns() -> Vec<Vec<u8>> {
-    let made = measured(15_625).into_iter().map(|made| made.column);
+    let made = SHAPES
+        .iter()
+        .map(|shape| shape.column(15_625).bytes().to_vec());
     let of_files = corpus::DERIVED
         .iter()
         .flat_map(|(_, file)| outer_binaries(file).expect("an accepted container"))
         .map(|(_, column)| column.to_vec());
-    let int16 = [3, 4, 0].map(i32::to_be_bytes).concat();
-    let float32 = [1, 2, 0].map(i32::to_be_bytes).concat();
-    let more = [[int16, vec![0; 8]].concat(), [float32, vec![0; 8]].concat()];
-    of_files.chain(made).chain(more).collect()
+    of_files.chain(made).collect()
 }
 
 fn of_files(stack: &mut Stack) {

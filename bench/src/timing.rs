@@ -3,6 +3,8 @@
 
 use std::time::{Duration, Instant};
 
+use crate::coverage;
+
 /// As C has it.
 #[repr(C)]
 struct Timespec {
@@ -37,8 +39,20 @@ pub struct Times {
 }
 
 impl Times {
+    pub const NONE: Times = Times {
+        library: 0.0,
+        independent: 0.0,
+    };
+
     pub fn ratio(self) -> f64 {
         self.library / self.independent
+    }
+}
+
+impl std::ops::AddAssign for Times {
+    fn add_assign(&mut self, more: Times) {
+        self.library += more.library;
+        self.independent += more.independent;
     }
 }
 
@@ -51,8 +65,14 @@ const ENOUGH: Duration = Duration::from_millis(700);
 /// After this long there is no second round.
 const SLOW: Duration = Duration::from_secs(4);
 
-/// Runs both by turns and keeps the best of each.
-pub fn compare(mut library: impl FnMut(), mut independent: impl FnMut()) -> Times {
+/// Runs both by turns and keeps the best of each. What the library does is by
+/// this call, or begins with it.
+pub fn compare(
+    call: &'static str,
+    mut library: impl FnMut(),
+    mut independent: impl FnMut(),
+) -> Times {
+    coverage::note(call);
     let begin = Instant::now();
     let by_library = first(&mut library);
     let by_independent = first(&mut independent);
@@ -69,6 +89,15 @@ pub fn compare(mut library: impl FnMut(), mut independent: impl FnMut()) -> Time
         best.independent = best
             .independent
             .min(once(&mut independent, by_independent.0));
+    }
+    best
+}
+
+/// The best time of one work alone.
+pub fn alone(mut work: impl FnMut()) -> f64 {
+    let (times, mut best) = first(&mut work);
+    for _ in 2..=ROUNDS {
+        best = best.min(once(&mut work, times));
     }
     best
 }
