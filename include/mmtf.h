@@ -15,8 +15,8 @@
  * - An out parameter points to an object of its type, which is no other out parameter and no part of what is read or of the
  *   buffer.
  * - Floats are rounded to nearest, as C starts: mmtf_decode_float32 and mmtf_cell divide.
- * - There is room on the stack: 96 KiB are enough for a call. Of mmtf_verdict and mmtf_write_receipt 37 KiB were measured, of
- *   every other call at most 31 KiB, at twelve levels, the most.
+ * - There is room on the stack: 96 KiB are enough for a call. Of mmtf_verdict and mmtf_write_receipt 60 KiB were measured, of
+ *   every other call at most 29 KiB, at twelve levels, the most.
  */
 #ifndef MMTF_H
 #define MMTF_H

@@ -1,23 +1,17 @@
 -- One cell of a column, with its refusals in their order: the column's own, 15 for strings, 28, 27. No lemma stands here: the laws are
 -- in Laws/. Assumes nothing.
-use mathlib.Core.Path.{_≡_}
-use mathlib.Core.Bool.{Bool, true, false, cond, not, _&&_}
-use mathlib.Core.Option.{some}
-use mathlib.Core.List.{List}
-use Prim.Native.Nat.{ℕ, _<_}
+use mathlib.Core.Bool.{cond, _&&_}
+use Prim.Native.Nat.{ℕ}
 use lib.ListN.{length, getD}
 use lib.IntN.{ℤ, pos}
-use lib.Dec.{eqb, ltb}
+use lib.Dec.{ltb}
 use lib.Ieee.{binary32, ofBits}
 use Rattle.refusal.specs.Table.{codecUnknown, notExact, noSuchEntry}
-use Rattle.codecs.specs.declared.Form.{Form}
-use Rattle.codecs.specs.declared.Form.the-variants.{Plain, Packed, Runs, Names}
 use Rattle.columns.specs.declared.Kind.{Kind}
 use Rattle.columns.specs.declared.Kind.the-variants as kind
-use Rattle.columns.specs.Table.{kindNumber}
+use Rattle.columns.specs.Table.{isStrings}
 use Rattle.columns.specs.Decode.{Decoding, refused, column}
-use Rattle.payloads.specs.Held.{exact}
-use Rattle.payloads.specs.Items.{readIn}
+use Rattle.payloads.specs.Exact.{exact}
 use Rattle.decoding.specs.Calls.{asByte}
 use Rattle.floats.specs.Calls.{quotient, kept}
 use Rattle.cells.specs.declared.Cell.{Cell}
@@ -37,23 +31,8 @@ valueOf kind.Int32 m x = Int x
 valueOf kind.Strings m x = Refused codecUnknown
 valueOf kind.Chars m x = Char (asByte x)
 
--- all kinds but strings have cells
-abbrev pub hasCells : Kind → Bool
-hasCells k = not (eqb (kindNumber k) (kindNumber kind.Strings))
-
--- whether a result's place is known or is walked to: plain numbers have no delta, and names are no numbers
-abbrev pub isDirect : Form → Bool → Bool
-isDirect (Plain z) d = not d
-isDirect (Packed z) d = true
-isDirect (Runs r) d = true
-isDirect Names d = false
-
--- a payload has a result at i
-abbrev pub Reaches : Form → List ℕ → ℕ → Type 0
-Reaches f s i = (l : List ℤ) × (readIn f s ≡ some l) × (i < length l)
-
--- the cell at i
+-- the cell at i: strings have no cells, but bytes
 abbrev pub cellOf : Decoding → ℕ → Cell
 cellOf (refused r) i = Refused r
 cellOf (column k m l) i =
-    cond (hasCells k) (cond (ltb i (length l)) (valueOf k m (getD l i (pos 0))) (Refused noSuchEntry)) (Refused codecUnknown)
+    cond (isStrings k) (Refused codecUnknown) (cond (ltb i (length l)) (valueOf k m (getD l i (pos 0))) (Refused noSuchEntry))

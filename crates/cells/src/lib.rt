@@ -1,21 +1,18 @@
 // One cell of a column of any kind. The payload is read at most twice, and nothing is copied.
 ghost use mathlib.Core.Path.{_≡_};
 ghost use mathlib.Core.Bool.{true, false};
-ghost use mathlib.Core.Option.{some};
-ghost use mathlib.Core.List.{List};
-ghost use Prim.Native.Nat.{ℕ, _<_};
-ghost use lib.ListN.{length, getD};
-ghost use lib.IntN.{ℤ, pos};
-ghost use Rattle.codecs.specs.Delta.{sumsIf};
+ghost use Prim.Native.Nat.{ℕ};
+ghost use Rattle.columns.specs.Table.{isStrings};
 ghost use Rattle.columns.specs.Decode.{decode, judgedPayload};
-ghost use Rattle.payloads.specs.Items.{readIn};
-ghost use Rattle.cells.specs.Calls.{hasCells, isDirect, Reaches, quotientCell, valueOf, cellOf};
-use codecs::Form;
-use codecs::Range;
-use codecs::Size;
+ghost use Rattle.cells.specs.Calls.{quotientCell, valueOf, cellOf};
+ghost use Rattle.cells.specs.Steps.{isDirect, ResultAt, HasResultAt};
+use columns::HEADER_SIZE;
 use columns::Header;
 use columns::Kind;
 use columns::Wanted;
+use steps::Form;
+use steps::Range;
+use steps::Size;
 
 // A whole number, a letter, a float, or the refusal.
 pub enum Cell {
@@ -32,8 +29,8 @@ pub fn cell_at(column: &[u8], index: usize) -> Cell
     match columns::read_header(column, Wanted::Any) {
         Header::Refused(r) => Cell::Refused(r),
         Header::Good(n, m, kind, form, delta) => match kind {
-            Kind::Strings => strings_refusal(&column[12..], n, m),
-            _ => cell_in(&column[12..], n, m, kind, form, delta, index),
+            Kind::Strings => strings_refusal(&column[HEADER_SIZE..], n, m),
+            _ => cell_in(&column[HEADER_SIZE..], n, m, kind, form, delta, index),
         },
     }
 }
@@ -59,7 +56,7 @@ fn cell_in(
     delta: bool,
     index: usize,
 ) -> Cell
-    requires { ⌜ (hasCells kind ≡ true) × (isDirect form delta ≡ true) ⌝ }
+    requires { ⌜ (isStrings kind ≡ false) × (isDirect form delta ≡ true) ⌝ }
     ensures { λ r. ⌜ r ≡ cellOf (judgedPayload (Header.Good n m kind form delta) (now (payload .entry))) index ⌝ }
 {
     let refused = payloads::refusal_of(payload, form, m as usize, n);
@@ -74,11 +71,11 @@ fn cell_in(
 
 // The result at an index of a payload that has one there.
 fn number_in(payload: &[u8], form: Form, delta: bool, index: usize) -> i32
-    requires { ⌜ Reaches form (now payload) index × (isDirect form delta ≡ true) ⌝ }
-    ensures { λ r. ⌜ ((l : List ℤ) → readIn form (now (payload .entry)) ≡ some l → index < length l → r ≡ getD (sumsIf delta l) index (pos 0)) ⌝ }
+    requires { ⌜ HasResultAt form (now payload) index × (isDirect form delta ≡ true) ⌝ }
+    ensures { λ r. ⌜ ResultAt form delta (now (payload .entry)) index r ⌝ }
 {
     match form {
-        Form::Plain(size) => codecs::number_at(payload, index * codecs::bytes(size), size),
+        Form::Plain(size) => steps::number_at(payload, index * steps::bytes(size), size),
         Form::Packed(size) => match size {
             Size::One => packed_at(payload, Size::One, delta, index),
             Size::Two => two_at(payload, delta, index),
@@ -92,17 +89,17 @@ fn number_in(payload: &[u8], form: Form, delta: bool, index: usize) -> i32
 // The result at an index of packed numbers that have one there. `left` is how many results come before it, and `total` the sum of the
 // result that has begun, with delta of those before it too.
 fn packed_at(payload: &[u8], size: Size, delta: bool, index: usize) -> i32
-    ensures { λ r. ⌜ ((l : List ℤ) → readIn (Form.Packed size) (now (payload .entry)) ≡ some l → index < length l → r ≡ getD (sumsIf delta l) index (pos 0)) ⌝ }
+    ensures { λ r. ⌜ ResultAt (Form.Packed size) delta (now (payload .entry)) index r ⌝ }
 {
-    let k = codecs::bytes(size);
+    let k = steps::bytes(size);
     let mut at: usize = 0;
     let mut left = index;
     let mut total: i32 = 0;
     while k <= payload.len() - at {
-        let number = codecs::number_at(payload, at, size);
+        let number = steps::number_at(payload, at, size);
         at += k;
-        total = codecs::add_delta(total, number);
-        if !codecs::is_limit(number, size) {
+        total = steps::add_delta(total, number);
+        if !steps::is_limit(number, size) {
             if left == 0 {
                 return total;
             }
@@ -115,16 +112,16 @@ fn packed_at(payload: &[u8], size: Size, delta: bool, index: usize) -> i32
 
 // The result at an index of packed numbers of two bytes that have one there: a loop of its own, since most packed columns are of these.
 fn two_at(payload: &[u8], delta: bool, index: usize) -> i32
-    ensures { λ r. ⌜ ((l : List ℤ) → readIn (Form.Packed Size.Two) (now (payload .entry)) ≡ some l → index < length l → r ≡ getD (sumsIf delta l) index (pos 0)) ⌝ }
+    ensures { λ r. ⌜ ResultAt (Form.Packed Size.Two) delta (now (payload .entry)) index r ⌝ }
 {
     let mut at: usize = 0;
     let mut left = index;
     let mut total: i32 = 0;
     while 2 <= payload.len() - at {
-        let number = codecs::number_at(payload, at, Size::Two);
+        let number = steps::number_at(payload, at, Size::Two);
         at += 2;
-        total = codecs::add_delta(total, number);
-        if !codecs::is_limit(number, Size::Two) {
+        total = steps::add_delta(total, number);
+        if !steps::is_limit(number, Size::Two) {
             if left == 0 {
                 return total;
             }
@@ -137,7 +134,7 @@ fn two_at(payload: &[u8], delta: bool, index: usize) -> i32
 
 // The result at an index of runs that have one there. `left` is how many results come before it, and `sum` the last result.
 fn run_at(payload: &[u8], delta: bool, index: usize) -> i32
-    ensures { λ r. ⌜ ((range : Range) (l : List ℤ) → readIn (Form.Runs range) (now (payload .entry)) ≡ some l → index < length l → r ≡ getD (sumsIf delta l) index (pos 0)) ⌝ }
+    ensures { λ r. ⌜ ((range : Range) → ResultAt (Form.Runs range) delta (now (payload .entry)) index r) ⌝ }
 {
     let mut at: usize = 0;
     let mut left = index;
@@ -161,7 +158,7 @@ fn value_of(kind: Kind, m: u32, x: i32) -> Cell
     ensures { λ r. ⌜ r ≡ valueOf kind m x ⌝ }
 {
     match kind {
-        Kind::Float32 => Cell::Float(floats::of_bits(numbers::to_u32(x))),
+        Kind::Float32 => Cell::Float(numbers::of_bits(numbers::to_u32(x))),
         Kind::FixedPoint => quotient_cell(x, m),
         Kind::Int8 => Cell::Int(x),
         Kind::Int16 => Cell::Int(x),

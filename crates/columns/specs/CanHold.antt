@@ -9,10 +9,11 @@ use lib.ListN.{length, getD}
 use lib.IntN.{ℤ, pos, negℤ}
 use lib.Signed.{_≤ℤ_}
 use lib.Dec.{eqb}
-use Rattle.codecs.specs.Fits.{Every}
+use Rattle.numbers.specs.Ranges.{integerLimit}
+use Rattle.steps.specs.Fits.{Every}
 use Rattle.columns.specs.declared.Kind.{Kind}
 use Rattle.columns.specs.declared.Kind.the-variants as kind
-use Rattle.columns.specs.Table.{lengthLimit}
+use Rattle.columns.specs.Table.{lengthLimit, nameLimit}
 
 -- is a number one of a list?
 unfoldable pub isOneOf : ℕ → List ℕ → Bool
@@ -46,12 +47,12 @@ ZeroPadded m xs = (i j : ℕ) → i < j → j < length xs → i / m ≡ j / m �
 pub record CanHold (k : Kind) (c m : ℕ) (xs : List ℤ) : Type 0 where
   pub codec : isOneOf c (codecsOf k) ≡ true
   -- a name has 1 to 255 bytes; names are whole, and not too many
-  pub size : c ≡ 5 → (1 ≤ m) × (m ≤ 255)
+  pub size : c ≡ 5 → (1 ≤ m) × (m ≤ nameLimit)
   pub names : c ≡ 5 → (n : ℕ) × (length xs ≡ n * m) × (n ≤ lengthLimit)
   -- other columns have not too many cells
   pub few : (c ≡ 5 → ⊥) → length xs ≤ lengthLimit
   -- a divisor is at least 1, and a signed 32-bit number
-  pub divisor : 9 ≤ c → c ≤ 13 → (1 ≤ m) × (m ≤ 2147483647)
+  pub divisor : 9 ≤ c → c ≤ 13 → (1 ≤ m) × (m ≤ integerLimit)
   -- each number is one that the codec holds
   pub numbers : Every (λ (x : ℤ). (leastBy c ≤ℤ x) × (x ≤ℤ mostBy c)) xs
   pub padded : c ≡ 5 → ZeroPadded m xs

@@ -4,6 +4,7 @@ pub mod Rows
 pub mod Header
 pub mod Encode
 pub mod Decode
+pub mod Buffer
 pub mod Form
 pub mod RoundTrip
 pub mod CanHold

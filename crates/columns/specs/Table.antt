@@ -1,15 +1,20 @@
 -- The sixteen codecs as one table: kind, form of the payload, whether delta follows, and what the parameter is. The range of a
 -- codec's values is its form's (`rangeOf`). No lemma stands here: the laws are in Laws/Table.antt. Assumes nothing.
+--
+-- The letters here and in Header, Decode and Encode: w is what a caller wants, c a codec's number, k a kind, f a form, d whether delta
+-- follows, p what the parameter is, n a column's length in results, m its parameter, e how many elements it has, b how many bytes its
+-- payload has, s the column's bytes.
 use mathlib.Core.Bool.{Bool, true, false, _&&_}
 use mathlib.Core.List.{List, [], _∷_}
 use Prim.Native.Nat.{ℕ, _*_, _%_}
 use lib.ListN.{getD}
 use lib.Dec.{eqb, leb}
-use Rattle.codecs.specs.declared.Size.the-variants.{One, Two, Four}
-use Rattle.codecs.specs.declared.Range.the-variants as range
-use Rattle.codecs.specs.declared.Form.{Form}
-use Rattle.codecs.specs.declared.Form.the-variants.{Plain, Packed, Runs, Names}
-use Rattle.codecs.specs.Width.{sizeOf}
+use Rattle.numbers.specs.Ranges.{integerLimit}
+use Rattle.steps.specs.declared.Size.the-variants.{One, Two, Four}
+use Rattle.steps.specs.declared.Range.the-variants as range
+use Rattle.steps.specs.declared.Form.{Form}
+use Rattle.steps.specs.declared.Form.the-variants.{Plain, Packed, Runs, Names}
+use Rattle.steps.specs.Width.{sizeOf}
 use Rattle.columns.specs.declared.Kind.{Kind}
 use Rattle.columns.specs.declared.Kind.the-variants as kind
 use Rattle.columns.specs.declared.Wanted.{Wanted}
@@ -45,15 +50,27 @@ table =
 unfoldable pub codecOf : ℕ → Codec
 codecOf c = getD table c Unknown
 
--- kinds by number, to tell them apart
-abbrev pub kindNumber : Kind → ℕ
-kindNumber kind.Float32 = 0
-kindNumber kind.FixedPoint = 1
-kindNumber kind.Int8 = 2
-kindNumber kind.Int16 = 3
-kindNumber kind.Int32 = 4
-kindNumber kind.Strings = 5
-kindNumber kind.Chars = 6
+-- a number for each kind, to tell kinds apart, and for the table of columns in code
+abbrev pub kindTag : Kind → ℕ
+kindTag kind.Float32 = 0
+kindTag kind.FixedPoint = 1
+kindTag kind.Int8 = 2
+kindTag kind.Int16 = 3
+kindTag kind.Int32 = 4
+kindTag kind.Strings = 5
+kindTag kind.Chars = 6
+
+-- whether two kinds are one
+abbrev pub isKind : Kind → Kind → Bool
+isKind k j = eqb (kindTag k) (kindTag j)
+
+-- whether a kind is that of strings, whose cells are bytes; codec 5
+abbrev pub isStrings : Kind → Bool
+isStrings k = isKind k kind.Strings
+
+-- whether a kind has a divisor; codecs 9 to 13
+abbrev pub divides : Kind → Bool
+divides k = isKind k kind.FixedPoint
 
 -- paper 01's real columns: float32 and fixed point
 abbrev pub isReal : Kind → Bool
@@ -67,7 +84,7 @@ isReal kind.Chars = false
 
 -- whether a kind is the one asked for
 abbrev pub suits : Wanted → Kind → Bool
-suits (Only k) j = eqb (kindNumber k) (kindNumber j)
+suits (Only k) j = isKind k j
 suits Real j = isReal j
 suits Any j = true
 
@@ -75,17 +92,34 @@ suits Any j = true
 abbrev pub lengthLimit : ℕ
 lengthLimit = 16777216
 
+-- the most bytes of a name
+abbrev pub nameLimit : ℕ
+nameLimit = 255
+
+-- whether a parameter is the size of names
+abbrev pub isNameSize : Parameter → Bool
+isNameSize Unused = false
+isNameSize Divisor = false
+isNameSize NameSize = true
+
 -- a divisor is at least 1 (and a signed 32-bit number), a name's size 1 to 255; an unused parameter is not read
 abbrev pub parameterOk : Parameter → ℕ → Bool
 parameterOk Unused m = true
-parameterOk Divisor m = leb 1 m && leb m 2147483647
-parameterOk NameSize m = leb 1 m && leb m 255
+parameterOk Divisor m = leb 1 m && leb m integerLimit
+parameterOk NameSize m = leb 1 m && leb m nameLimit
 
 -- the parameter as a codec uses it: 0 where the codec uses none, whatever stands there
 abbrev pub used : Parameter → ℕ → ℕ
 used Unused m = 0
 used Divisor m = m
 used NameSize m = m
+
+-- whether a form is that of names
+abbrev pub isNames : Form → Bool
+isNames (Plain z) = false
+isNames (Packed z) = false
+isNames (Runs r) = false
+isNames Names = true
 
 -- the elements of a column of n results with the parameter m: a name has m
 abbrev pub elements : Form → ℕ → ℕ → ℕ

@@ -5,14 +5,15 @@ use mathlib.Core.List.{List}
 use Prim.Native.Nat.{ℕ}
 use lib.ListN.{drop}
 use Rattle.numbers.specs.BigEndian.{unsignedAt}
-use Rattle.codecs.specs.Numbers.{numbersIn}
-use Rattle.codecs.specs.Payload.{numberSize}
-use Rattle.codecs.specs.WriterForm.{NumbersForm}
+use Rattle.steps.specs.Numbers.{numbersIn}
+use Rattle.steps.specs.Payload.{numberSize}
+use Rattle.steps.specs.WriterForm.{NumbersForm}
 use Rattle.columns.specs.declared.Parameter.{Parameter}
 use Rattle.columns.specs.declared.Parameter.the-variants.{Unused, Divisor, NameSize}
 use Rattle.columns.specs.declared.Codec.{Codec}
 use Rattle.columns.specs.declared.Codec.the-variants.{Known, Unknown}
 use Rattle.columns.specs.Table.{codecOf}
+use Rattle.columns.specs.Header.{headerSize}
 
 -- an unused parameter is 0
 abbrev pub ParameterForm : Parameter → ℕ → Type 0
@@ -27,4 +28,4 @@ CodecForm (Known k f d p) m payload = ParameterForm p m × NumbersForm f (number
 
 -- the bytes of a column, header and payload
 unfoldable pub WriterForm : List ℕ → Type 0
-WriterForm s = CodecForm (codecOf (unsignedAt 4 s 0)) (unsignedAt 4 s 8) (drop 12 s)
+WriterForm s = CodecForm (codecOf (unsignedAt 4 s 0)) (unsignedAt 4 s 8) (drop headerSize s)

@@ -2,14 +2,23 @@
 // and what its cells encode to, once for all codecs.
 ghost use mathlib.Core.Path.{_≡_};
 ghost use Prim.Native.Nat.{_≤_};
-ghost use Rattle.columns.specs.Table.{codecOf, kindNumber, isReal, suits, parameterOk, used, sizeRight};
+ghost use Rattle.columns.specs.Table.{codecOf, kindTag, isReal, suits, lengthLimit, parameterOk, used, sizeRight};
 ghost use Rattle.columns.specs.Header.{judged, headerOf};
-use codecs::Form;
-use codecs::Range;
-use codecs::Size;
+use steps::Form;
+use steps::Range;
+use steps::Size;
 
 // The most results of a column.
-pub const LENGTH_LIMIT: u32 = 16777216;
+pub const LENGTH_LIMIT: u32 = 16_777_216;
+
+// The bytes of a header; the payload follows.
+pub const HEADER_SIZE: usize = 12;
+
+// The most bytes of a name.
+pub const NAME_LIMIT: u32 = 255;
+
+// The largest divisor.
+const DIVISOR_LIMIT: u32 = numbers::INTEGER_LIMIT as u32;
 
 // The kinds of columns (paper 01: real by codec 1, real by codecs 9 to 13, small, short, whole, names, letters).
 pub enum Kind {
@@ -48,11 +57,17 @@ pub enum Header {
     Refused(u8),
 }
 
+// What an encoder will do: form of the payload, delta, and length and parameter as they are written; or its refusal.
+pub enum Plan {
+    Good(Form, bool, u32, u32),
+    Refused(u8),
+}
+
 // The header of a column of the kind that is wanted, with the refusals 14 to 17.
 pub fn read_header(column: &[u8], wanted: Wanted) -> Header
     ensures { λ r. ⌜ r ≡ headerOf wanted (now (column .entry)) ⌝ }
 {
-    if column.len() < 12 {
+    if column.len() < HEADER_SIZE {
         return Header::Refused(refusal::COLUMN_SHORT);
     }
     let codec = numbers::read_u32(column, 0);
@@ -62,7 +77,7 @@ pub fn read_header(column: &[u8], wanted: Wanted) -> Header
         codec_of(codec),
         length,
         parameter,
-        column.len() - 12,
+        column.len() - HEADER_SIZE,
         wanted,
     )
 }
@@ -102,7 +117,7 @@ pub fn is_wanted(wanted: Wanted, kind: Kind) -> bool
     ensures { λ r. ⌜ r ≡ suits wanted kind ⌝ }
 {
     match wanted {
-        Wanted::Only(k) => kind_number(k) == kind_number(kind),
+        Wanted::Only(k) => kind_tag(k) == kind_tag(kind),
         Wanted::Real => is_real(kind),
         Wanted::Any => true,
     }
@@ -118,13 +133,13 @@ pub fn parameter_ok(parameter: Parameter, value: u32) -> bool
             if value < 1 {
                 return false;
             }
-            value <= 2147483647
+            value <= DIVISOR_LIMIT
         }
         Parameter::NameSize => {
             if value < 1 {
                 return false;
             }
-            value <= 255
+            value <= NAME_LIMIT
         }
     }
 }
@@ -172,12 +187,12 @@ fn judge(codec: Codec, length: u32, parameter: u32, bytes: usize, wanted: Wanted
 
 // Whether a payload has the right size.
 fn size_ok(form: Form, length: usize, parameter: usize, bytes: usize) -> bool
-    requires { ⌜ (length ≤ 16777216) × (parameter ≤ 4294967295) ⌝ }
+    requires { ⌜ (length ≤ lengthLimit) × (parameter ≤ 4294967295) ⌝ }
     ensures { λ r. ⌜ r ≡ sizeRight form length parameter bytes ⌝ }
 {
     match form {
-        Form::Plain(size) => bytes == length * codecs::bytes(size),
-        Form::Packed(size) => bytes % codecs::bytes(size) == 0,
+        Form::Plain(size) => bytes == length * steps::bytes(size),
+        Form::Packed(size) => bytes % steps::bytes(size) == 0,
         Form::Runs(_) => bytes % 8 == 0,
         Form::Names => bytes == length * parameter,
     }
@@ -198,9 +213,9 @@ fn is_real(kind: Kind) -> bool
     }
 }
 
-// Kinds by number, to tell them apart.
-fn kind_number(kind: Kind) -> u8
-    ensures { λ r. ⌜ r ≡ kindNumber kind ⌝ }
+// A number for each kind, for no other use than to tell kinds apart.
+fn kind_tag(kind: Kind) -> u8
+    ensures { λ r. ⌜ r ≡ kindTag kind ⌝ }
 {
     match kind {
         Kind::Float32 => 0,

@@ -1,5 +1,7 @@
--- The columns of a file and the rules of counts: `Columns`, `Counts`. `Steps` is for the code inside.
-pub mod Columns
+-- The eleven rules of counts: `Counts`, with `Group` for rule 5 and `Indices` for rule 11. `Steps` and `GroupPlaces` are for the code inside.
 pub mod Counts
+pub mod Group
+pub mod Indices
+pub mod GroupPlaces
 pub mod Steps
 pub mod Laws

@@ -1,79 +1,125 @@
--- What the functions inside this crate say of the places of a file's named fields. No lemma stands here. Assumes nothing.
+-- The rules of counts in the parts that the functions inside this crate judge, and what is known of a file's places when they do. No lemma
+-- stands here. Assumes nothing.
 use mathlib.Core.Path.{_≡_}
-use mathlib.Core.Bool.{true, false, cond}
+use mathlib.Core.Bool.{Bool, cond, _&&_}
 use mathlib.Core.List.{List, [], _∷_}
-use mathlib.Core.Option.{Option, some, none as nothing}
-use Prim.Native.Nat.{ℕ, _≤_, _<_}
-use lib.Dec.{eqb}
-use lib.IntN.{ℤ}
-use lib.ListN.{length, getD}
-use Rattle.messagepack.specs.Document.{Document, Entries}
-use Rattle.fields.specs.Table.{fieldCount}
-use Rattle.fields.specs.Fields.{fieldAt}
-use Rattle.values.specs.Places.{PlaceSays}
-use Rattle.values.specs.Walked.{WalkedBy}
-use Rattle.columns.specs.declared.Kind.{Kind}
-use Rattle.columns.specs.declared.Wanted.{Wanted}
-use Rattle.columns.specs.Decode.{column}
-use Rattle.columns.specs.declared.Wanted.the-variants.{Only, Real}
-use Rattle.columns.specs.declared.Kind.the-variants.{Int8, Int32, Strings, Chars}
-use Rattle.survey.specs.Cells.{typeLimit, sumsOver}
-use Rattle.survey.specs.declared.Sums.{Sums}
-use Rattle.groups.specs.Group.{listIn}
-use Rattle.groups.specs.declared.List as list
-use Rattle.counts.specs.Columns.{Column, Per, atom, group, chain, bond, columns, columnOf, AllRight, decoded, cellsIn, refusalIn, lengthIn}
+use Prim.Native.Nat.{ℕ, suc, _+_, _/_, _≤_}
+use lib.Dec.{eqb, leb}
+use lib.IntN.{ℤ, pos, natAbs}
+use Rattle.refusal.specs.Table.{accepted, countsDisagree, indexOutside, valueOutside}
+use Rattle.refusal.specs.First.{unless, first}
+use Rattle.numbers.specs.Ranges.{between}
+use Rattle.messagepack.specs.Document.{Document, Documents, Entries, none, item, count}
+use Rattle.values.specs.Walked.{Short, WalkedAll, WalkedBy}
+use Rattle.fields.specs.Types.{Has}
+use Rattle.fields.specs.Table.{named}
+use Rattle.fields.specs.Noted.{PlacesOf}
+use Rattle.file_columns.specs.Cells.{typeLimit}
+use Rattle.file_columns.specs.declared.whole.Sums.{Sums}
+use Rattle.values.specs.declared.lists.Length as list
+use Rattle.file_columns.specs.Columns.{columns, AllRight}
+use Rattle.counts.specs.Group.{groupNumber, groupsNumber}
+use Rattle.counts.specs.GroupPlaces.{agrees}
+use Rattle.counts.specs.Counts.{countLimit, Counted, countedOf, numbersRight, chainsAgree, groupsInside, atomsAgree, bondsTotal, outerInside, outerRight, valuesRight, indicesInside}
+use Rattle.counts.specs.declared.Counts.{Counts}
 
--- the places of the named fields among a file's entries
-pub record PlacesOf (s : List ℕ) (es : Entries) (places : List ℕ) : Type 0 where
-  pub long : length places ≡ fieldCount
-  pub says : (i : ℕ) → i < fieldCount → PlaceSays s (getD places i 0) (fieldAt i es)
+-- the places of the named fields of a file within the limit, where the required ones are there and the columns decode
+pub record Facts (s : List ℕ) (es : Entries) (places : List ℕ) : Type 0 where
+  pub places-of : PlacesOf s es places
+  pub has : Has named es
+  pub right : AllRight columns es
+  pub short : Short s
 
--- a promise on a walked file by its entries, of which the named fields stand at their places
-abbrev pub WalkedFields : List ℕ → List ℕ → List ℕ → (Entries → Type 0) → Type 0
-WalkedFields leads file places P = WalkedBy leads (λ es. PlacesOf file es places) P
+-- a promise on a walked file by its entries, of which these facts are known
+abbrev pub WalkedFacts : List ℕ → List ℕ → List ℕ → (Entries → Type 0) → Type 0
+WalkedFacts leads file places P = WalkedBy leads (λ es. Facts file es places) P
 
--- a promise on a walked file of which the columns decode
-abbrev pub WalkedColumns : List ℕ → List ℕ → List ℕ → (Entries → Type 0) → Type 0
-WalkedColumns leads file places P = WalkedFields leads file places (λ es. AllRight columns es → P es)
+-- a promise on a walked file within the limit by the n group types that stand from a place on
+abbrev pub WalkedTypes : List ℕ → List ℕ → ℕ → ℕ → (Documents → Type 0) → Type 0
+WalkedTypes leads file n at P = Short file → WalkedAll leads file n at (λ types e. P types)
 
--- the columns by numbers, as the code goes through them: the field of each, its kind, and what it has one entry for
-abbrev pub fieldNumbers : List ℕ
-fieldNumbers = 8 ∷ 9 ∷ 10 ∷ 11 ∷ 12 ∷ 13 ∷ 16 ∷ 17 ∷ 18 ∷ 19 ∷ 20 ∷ 21 ∷ 22 ∷ 23 ∷ 24 ∷ 25 ∷ []
+-- a table after group types: it begins with a number of each type that rule 5 passes, up to the first that it refuses; beyond it is as before
+unfoldable pub tableOf : (Document → ℕ) → Documents → List ℕ → List ℕ
+tableOf f none old = old
+tableOf f (item x types) [] = []
+tableOf f (item x types) (o ∷ old) = cond (eqb (groupNumber x) accepted) (f x ∷ tableOf f types old) (o ∷ old)
 
-abbrev pub kindNumbers : List ℕ
-kindNumbers = 0 ∷ 0 ∷ 0 ∷ 1 ∷ 1 ∷ 2 ∷ 1 ∷ 3 ∷ 0 ∷ 1 ∷ 4 ∷ 0 ∷ 3 ∷ 4 ∷ 1 ∷ 2 ∷ []
+-- an integer as a count: one above the limit where it is out of range
+abbrev pub asCount : ℤ → ℕ
+asCount z = cond (between (pos 0) (pos countLimit) z) (natAbs z) (suc countLimit)
 
-abbrev pub perNumbers : List ℕ
-perNumbers = 0 ∷ 0 ∷ 0 ∷ 1 ∷ 1 ∷ 2 ∷ 3 ∷ 3 ∷ 0 ∷ 0 ∷ 0 ∷ 0 ∷ 1 ∷ 1 ∷ 1 ∷ 2 ∷ []
+-- the five num fields as counts
+pub record CountsIn (f : Counted) (c : Counts) : Type 0 where
+  pub bonds : c .bonds ≡ asCount (f .numBonds)
+  pub atoms : c .atoms ≡ asCount (f .numAtoms)
+  pub groups : c .groups ≡ asCount (f .numGroups)
+  pub chains : c .chains ≡ asCount (f .numChains)
+  pub models : c .models ≡ asCount (f .numModels)
 
--- the kind of a number
-abbrev pub kindFrom : ℕ → Wanted
-kindFrom n = cond (eqb n 0) Real (cond (eqb n 1) (Only Int32) (cond (eqb n 2) (Only Strings) (cond (eqb n 3) (Only Int8) (Only Chars))))
+-- the five num fields as counts, of which the atoms are within the limit
+pub record CountsAre (f : Counted) (c : Counts) : Type 0 where
+  pub bonds : c .bonds ≡ natAbs (f .numBonds)
+  pub atoms : c .atoms ≡ natAbs (f .numAtoms)
+  pub groups : c .groups ≡ natAbs (f .numGroups)
+  pub chains : c .chains ≡ natAbs (f .numChains)
+  pub models : c .models ≡ natAbs (f .numModels)
+  pub few-atoms : c .atoms ≤ countLimit
 
--- what a column of a number has one entry for
-abbrev pub perFrom : ℕ → Per
-perFrom n = cond (eqb n 0) atom (cond (eqb n 1) group (cond (eqb n 2) chain bond))
+-- a promise on a walked file by what the rules look at, and one where the num fields are in range
+abbrev pub WalkedCounted : List ℕ → List ℕ → List ℕ → (Counted → Type 0) → Type 0
+WalkedCounted leads file places P = WalkedFacts leads file places (λ es. P (countedOf es))
 
--- column i, in field order
-abbrev pub columnAt : ℕ → Column
-columnAt i = getD columns i (columnOf "" Real bond)
+abbrev pub WalkedCounts : List ℕ → List ℕ → List ℕ → Counts → (Counted → Type 0) → Type 0
+WalkedCounts leads file places counts P = WalkedCounted leads file places (λ f. CountsAre f counts → P f)
 
--- the refusal of a column that is there, when a kind is wanted
-abbrev pub refusalOf : Wanted → Option Document → ℕ
-refusalOf w nothing = 0
-refusalOf w (some x) = refusalIn (decoded w x)
+-- group types within their limit
+abbrev pub FewTypes : Counted → Type 0
+FewTypes f = count (f .groupList) ≤ typeLimit
 
--- how many entries a column has that is there
-abbrev pub listOf : Wanted → Option Document → list.List
-listOf w nothing = record { there = false; count = 0 }
-listOf w (some x) = record { there = true; count = lengthIn (decoded w x) }
+-- counts at most one above the limit, as all are that are read
+pub record Small (c : Counts) : Type 0 where
+  pub bonds : c .bonds ≤ suc countLimit
+  pub atoms : c .atoms ≤ suc countLimit
+  pub groups : c .groups ≤ suc countLimit
+  pub chains : c .chains ≤ suc countLimit
+  pub models : c .models ≤ suc countLimit
 
--- a column that is there decodes
-abbrev pub Right : Wanted → Option Document → Type 0
-Right w nothing = Unit {0}
-Right w (some x) = record { k : Kind; m : ℕ; cells : List ℤ; is : decoded w x ≡ column k m cells }
+-- are the counts all in range?
+abbrev pub countsFit : Counts → Bool
+countsFit c =
+    leb (c .bonds) countLimit && (leb (c .atoms) countLimit && (leb (c .groups) countLimit && (leb (c .chains) countLimit && leb (c .models) countLimit)))
 
--- the sums of two tables over the cells of the int32 column at a place, where it is there and decodes, and the types are not too many
-abbrev pub TotalsIn : ℕ → ℕ → List ℕ → List ℕ → Option Document → Sums → Type 0
-TotalsIn at types atoms bonds o r =
-    (at ≡ 0 → ⊥) → Right (Only Int32) o → types ≤ typeLimit → r ≡ sumsOver types atoms bonds (listIn (cellsIn (Only Int32) o))
+-- rule 3 by the numbers of entries and the sums
+abbrev pub chainsFit : Counts → ℕ → ℕ → ℕ → ℕ → Bool
+chainsFit c models chains ends groups = (eqb models (c .models) && eqb chains (c .chains)) && (eqb ends (c .chains) && eqb groups (c .groups))
+
+-- rules 2 and 3
+abbrev pub chainsPart : Counted → ℕ
+chainsPart f = first (unless (numbersRight f) valueOutside ∷ unless (chainsAgree f) countsDisagree ∷ [])
+
+-- rules 6 to 8 by the sums over all groups and the lengths of the lists outside
+abbrev pub totalsNumber : Sums → list.Length → list.Length → Counts → ℕ
+totalsNumber sums outer orders c =
+    first
+    (unless (sums .inside) indexOutside
+    ∷ unless (eqb (sums .atoms) (c .atoms)) countsDisagree
+    ∷ unless (eqb (sums .bonds + outer .count / 2) (c .bonds) && agrees (outer .there) (outer .count) (orders .there) (orders .count)) countsDisagree
+    ∷ [])
+
+-- rules 6 to 8
+abbrev pub totalsPart : Counted → ℕ
+totalsPart f = first (unless (groupsInside f) indexOutside ∷ unless (atomsAgree f) countsDisagree ∷ unless (bondsTotal f) countsDisagree ∷ [])
+
+-- rules 5 to 8
+abbrev pub groupsPart : Counted → ℕ
+groupsPart f = first (groupsNumber (f .groupList) ∷ totalsPart f ∷ [])
+
+-- rules 9 to 11
+abbrev pub valuesPart : Counted → ℕ
+valuesPart f =
+    first
+    (unless (outerInside f) indexOutside
+    ∷ unless (outerRight f) valueOutside
+    ∷ unless (valuesRight f) valueOutside
+    ∷ unless (indicesInside f) indexOutside
+    ∷ [])

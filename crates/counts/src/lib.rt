@@ -1,212 +1,357 @@
-// The columns of a file at their places: the refusal of the first that has one, their lengths, and what their cells add up to. The table of
-// columns is gone through by numbers, which stand for the rows of specs/Columns.antt. Each function takes any bytes and any places, and promises
-// a meaning for a file that has been walked (`Walked.antt` of values).
+// The eleven rules of paper 01, "Counts that must agree", in their order; specs/Counts.antt has each as a definition. Rule 4 is judged by
+// `file_columns`, rule 5 for one group type by the module `groups`, and rule 11 for one list by the module `indices`. Each function takes any
+// bytes and any places, and promises a meaning for a file that has been walked.
+mod groups;
+mod indices;
+
 ghost use mathlib.Core.Path.{_≡_};
-ghost use mathlib.Core.Option.{Option};
-ghost use Prim.Native.Nat.{_≤_, _<_};
-ghost use lib.ListN.{getD};
-ghost use Rattle.messagepack.specs.Document.{Document};
-ghost use Rattle.values.specs.Walked.{WalkedPlace};
-ghost use Rattle.numbers.specs.BigEndian.{unsignedAt};
-ghost use Rattle.survey.specs.Cells.{allBetween};
-ghost use Rattle.groups.specs.Group.{listIn};
-ghost use Rattle.counts.specs.Columns.{columns, AllRight, columnsNumber, cellsIn, isLong, longPer, allLong};
-ghost use Rattle.counts.specs.Steps.{WalkedFields, WalkedColumns, TotalsIn, fieldNumbers, kindNumbers, perNumbers, kindFrom, perFrom, refusalOf, listOf, Right};
+ghost use Prim.Native.Nat.{suc, _+_, _≤_};
+ghost use lib.Dec.{eqb};
+ghost use lib.ListN.{length};
+ghost use Rattle.values.specs.Parts.{integerOf};
+ghost use Rattle.values.specs.Walked.{Walked};
+ghost use Rattle.file_columns.specs.Cells.{typeLimit};
+ghost use Rattle.counts.specs.Group.{atomsOf, bondsOf, groupsNumber};
+ghost use Rattle.counts.specs.Counts.{countLimit, countsNumber, outerInside, outerRight, valuesRight, indicesInside};
+ghost use Rattle.counts.specs.Steps.{WalkedCounted, WalkedCounts, WalkedTypes, asCount, CountsIn, Small, countsFit, chainsFit, chainsPart};
+ghost use Rattle.counts.specs.Steps.{FewTypes, tableOf, totalsNumber, groupsPart, valuesPart};
 use columns::Kind;
 use columns::Wanted;
-use groups::List;
-use survey::Checked;
-use survey::Sums;
+use file_columns::whole::Sums;
+use values::lists::Length;
+use values::lists::Sum;
 
-// How many columns are named.
-const COLUMN_COUNT: usize = 16;
+// The most models, chains, groups, atoms or bonds.
+pub const COUNT_LIMIT: usize = 16_777_216;
 
-// The fields of the columns, in field order.
-const FIELDS: [u8; 16] = [8, 9, 10, 11, 12, 13, 16, 17, 18, 19, 20, 21, 22, 23, 24, 25];
+// The five num fields; one that is out of range is one above the limit.
+pub struct Counts {
+    pub bonds: usize,
+    pub atoms: usize,
+    pub groups: usize,
+    pub chains: usize,
+    pub models: usize,
+}
 
-// The kinds of the columns: 0 real, 1 int32, 2 strings, 3 int8, 4 chars.
-const KINDS: [u8; 16] = [0, 0, 0, 1, 1, 2, 1, 3, 0, 1, 4, 0, 3, 4, 1, 2];
+// The refusal by the rules of counts in their order, 20 to 23, or 0. Rule 1 (at most 4,096 group types) and rule 4 (column lengths) are judged here.
+pub fn refusal_of(leads: &[u8; 256], file: &[u8], places: &[usize; fields::FIELD_COUNT]) -> u8
+    ensures { λ r. ⌜ WalkedCounted (now (leads .entry)) (now (file .entry)) (now (places .entry)) (λ f. r ≡ countsNumber f) ⌝ }
+{
+    let types = values::lists::length_at(leads, file, places[fields::GROUP_LIST]).count;
+    if file_columns::whole::TYPE_LIMIT < types {
+        return refusal::TOO_MANY_GROUP_TYPES;
+    }
+    let counts = counts_at(leads, file, places);
+    let number = chains_refusal(leads, file, places, counts);
+    if number != refusal::ACCEPTED {
+        return number;
+    }
+    if !file_columns::lengths_fit(
+        leads,
+        file,
+        places,
+        counts.atoms,
+        counts.groups,
+        counts.chains,
+    ) {
+        return refusal::COUNTS_DISAGREE;
+    }
+    let number = groups_refusal(leads, file, places, counts);
+    if number != refusal::ACCEPTED {
+        return number;
+    }
+    values_refusal(leads, file, places, counts)
+}
 
-// What each column has one entry for: 0 an atom, 1 a group, 2 a chain, 3 a bond.
-const PERS: [u8; 16] = [0, 0, 0, 1, 1, 2, 3, 3, 0, 0, 0, 0, 1, 1, 1, 2];
+// Rules 2 and 3: the num fields, and the entries of chainsPerModel and groupsPerChain with their sums.
+fn chains_refusal(
+    leads: &[u8; 256],
+    file: &[u8],
+    places: &[usize; fields::FIELD_COUNT],
+    counts: Counts,
+) -> u8
+    ensures { λ r. ⌜ WalkedCounted (now (leads .entry)) (now (file .entry)) (now (places .entry)) (λ f. CountsIn f counts → r ≡ chainsPart f) ⌝ }
+{
+    if !counts_fit(counts) {
+        return refusal::VALUE_OUTSIDE;
+    }
+    let Sum::Is(groups) = values::lists::sum_at(leads, file, places[fields::GROUPS_PER_CHAIN])
+    else {
+        return refusal::VALUE_OUTSIDE;
+    };
+    let Sum::Is(chains) = values::lists::sum_at(leads, file, places[fields::CHAINS_PER_MODEL])
+    else {
+        return refusal::VALUE_OUTSIDE;
+    };
+    let models = values::lists::length_at(leads, file, places[fields::CHAINS_PER_MODEL]).count;
+    let ends = values::lists::length_at(leads, file, places[fields::GROUPS_PER_CHAIN]).count;
+    refusal::unless(
+        chains_agree(counts, models, chains, ends, groups),
+        refusal::COUNTS_DISAGREE,
+    )
+}
 
-// The refusal of the first column of a file that has one, 14 to 19, or 0.
-pub fn columns_refusal(leads: &[u8; 256], file: &[u8], places: &[usize; 39]) -> u8
-    ensures { λ r. ⌜ WalkedFields (now (leads .entry)) (now (file .entry)) (now (places .entry)) (λ es. r ≡ columnsNumber es) ⌝ }
+// Rule 2: the five num fields at their places, as counts.
+pub fn counts_at(leads: &[u8; 256], file: &[u8], places: &[usize; fields::FIELD_COUNT]) -> Counts
+    ensures small { λ r. ⌜ Small r ⌝ }
+    ensures fields { λ r. ⌜ WalkedCounted (now (leads .entry)) (now (file .entry)) (now (places .entry)) (λ f. CountsIn f r) ⌝ }
+{
+    Counts {
+        bonds: count_at(leads, file, places[fields::NUM_BONDS]),
+        atoms: count_at(leads, file, places[fields::NUM_ATOMS]),
+        groups: count_at(leads, file, places[fields::NUM_GROUPS]),
+        chains: count_at(leads, file, places[fields::NUM_CHAINS]),
+        models: count_at(leads, file, places[fields::NUM_MODELS]),
+    }
+}
+
+// Rule 2: the integer at a place as a count; one above the limit where it is out of range.
+fn count_at(leads: &[u8; 256], file: &[u8], at: usize) -> usize
+    ensures small { λ r. ⌜ r ≤ suc countLimit ⌝ }
+    ensures integer { λ r. ⌜ Walked (now (leads .entry)) (now (file .entry)) at (λ x e. r ≡ asCount (integerOf x)) ⌝ }
+{
+    as_count(values::integer_at(leads, file, at))
+}
+
+// Rule 2: an integer as a count; one above the limit where it is out of range.
+fn as_count(number: i32) -> usize
+    ensures { λ r. ⌜ r ≡ asCount number ⌝ }
+{
+    if number < 0 {
+        return COUNT_LIMIT + 1;
+    }
+    let n = numbers::to_u32(number) as usize;
+    if COUNT_LIMIT < n {
+        return COUNT_LIMIT + 1;
+    }
+    n
+}
+
+// Rule 2: whether the five num fields are in range.
+fn counts_fit(counts: Counts) -> bool
+    ensures { λ r. ⌜ r ≡ countsFit counts ⌝ }
+{
+    if COUNT_LIMIT < counts.bonds {
+        return false;
+    }
+    if COUNT_LIMIT < counts.atoms {
+        return false;
+    }
+    if COUNT_LIMIT < counts.groups {
+        return false;
+    }
+    if COUNT_LIMIT < counts.chains {
+        return false;
+    }
+    counts.models <= COUNT_LIMIT
+}
+
+// Rule 3: whether models, chains and groups are as many as chainsPerModel and groupsPerChain say: their entries, and the sums of these.
+fn chains_agree(counts: Counts, models: usize, chains: u64, ends: usize, groups: u64) -> bool
+    ensures { λ r. ⌜ r ≡ chainsFit counts models chains ends groups ⌝ }
+{
+    if models != counts.models {
+        return false;
+    }
+    if chains != numbers::usize_to_u64(counts.chains) {
+        return false;
+    }
+    if ends != counts.chains {
+        return false;
+    }
+    groups == numbers::usize_to_u64(counts.groups)
+}
+
+// Rules 5 to 8: each group type, the groups that are of them, and the atoms and bonds that these add up to.
+fn groups_refusal(
+    leads: &[u8; 256],
+    file: &[u8],
+    places: &[usize; fields::FIELD_COUNT],
+    counts: Counts,
+) -> u8
+    ensures { λ r. ⌜ WalkedCounts (now (leads .entry)) (now (file .entry)) (now (places .entry)) counts (λ f. FewTypes f → r ≡ groupsPart f) ⌝ }
+{
+    let list = values::items_at(leads, file, places[fields::GROUP_LIST]);
+    let n = list.count;
+    if file_columns::whole::TYPE_LIMIT < n {
+        return refusal::TOO_MANY_GROUP_TYPES;
+    }
+    let mut atoms = no_entries();
+    let mut bonds = no_entries();
+    let number = fill_tables(leads, file, n, list.at, &mut atoms, &mut bonds);
+    if number != refusal::ACCEPTED {
+        return number;
+    }
+    let int32 = Wanted::Only(Kind::Int32);
+    let sums = file_columns::totals(
+        leads,
+        file,
+        places[fields::GROUP_TYPE_LIST],
+        n,
+        &atoms,
+        &bonds,
+    );
+    let outer = file_columns::length_at(leads, file, places[fields::BOND_ATOM_LIST], int32);
+    let orders = file_columns::length_at(
+        leads,
+        file,
+        places[fields::BOND_ORDER_LIST],
+        Wanted::Only(Kind::Int8),
+    );
+    totals_refusal(sums, outer, orders, counts)
+}
+
+// Rule 5 for n group types from a place on: the refusal of the first that has one, or 0 with the atoms and bonds of each type in the tables.
+fn fill_tables(
+    leads: &[u8; 256],
+    file: &[u8],
+    n: usize,
+    at: usize,
+    atoms: &mut [u32; file_columns::whole::TYPE_LIMIT],
+    bonds: &mut [u32; file_columns::whole::TYPE_LIMIT],
+) -> u8
+    requires { ⌜ (n ≤ typeLimit) × (length (now atoms) ≡ typeLimit) × (length (now bonds) ≡ typeLimit) ⌝ }
+    ensures number { λ r. ⌜ WalkedTypes (now (leads .entry)) (now (file .entry)) n at (λ ts. r ≡ groupsNumber ts) ⌝ }
+    ensures atoms { λ r. ⌜ WalkedTypes (now (leads .entry)) (now (file .entry)) n at (λ ts. now (atoms .exit) ≡ tableOf atomsOf ts (now (atoms .entry))) ⌝ }
+    ensures bonds { λ r. ⌜ WalkedTypes (now (leads .entry)) (now (file .entry)) n at (λ ts. now (bonds .exit) ≡ tableOf bondsOf ts (now (bonds .entry))) ⌝ }
 {
     let mut i: usize = 0;
-    while i < COLUMN_COUNT {
-        let number = refusal_at(leads, file, places[field_of(i)], kind_of(i));
-        if number != refusal::ACCEPTED {
-            return number;
+    let mut p = at;
+    while i < n {
+        let group = crate::groups::group_at(leads, file, p);
+        if group.refusal != refusal::ACCEPTED {
+            return group.refusal;
         }
+        atoms[i] = group.atoms;
+        bonds[i] = group.bonds;
+        p = group.end;
         i += 1;
     }
     refusal::ACCEPTED
 }
 
-// Whether each column of a file has one entry for each atom, group or chain.
-pub fn lengths_agree(
+// Rules 7 and 8: a table of group types with nothing in it.
+fn no_entries() -> [u32; file_columns::whole::TYPE_LIMIT]
+    ensures { λ r. ⌜ length r ≡ typeLimit ⌝ }
+{
+    [0u32; file_columns::whole::TYPE_LIMIT]
+}
+
+// Rule 6 (groups are of types that there are), rule 7 (their atoms are numAtoms) and rule 8 (their bonds and the pairs outside are numBonds, and
+// the orders outside agree) by the sums over all groups.
+fn totals_refusal(sums: Sums, outer: Length, orders: Length, counts: Counts) -> u8
+    ensures { λ r. ⌜ r ≡ totalsNumber sums outer orders counts ⌝ }
+{
+    if !sums.inside {
+        return refusal::INDEX_OUTSIDE;
+    }
+    if sums.atoms != numbers::usize_to_u64(counts.atoms) {
+        return refusal::COUNTS_DISAGREE;
+    }
+    if !adds_up(
+        sums.bonds,
+        numbers::usize_to_u64(outer.count / 2),
+        numbers::usize_to_u64(counts.bonds),
+    ) {
+        return refusal::COUNTS_DISAGREE;
+    }
+    if !crate::groups::bonds_agree(outer.there, outer.count, orders.there, orders.count) {
+        return refusal::COUNTS_DISAGREE;
+    }
+    refusal::ACCEPTED
+}
+
+// Rule 8: whether two numbers add up to a third.
+fn adds_up(a: u64, b: u64, sum: u64) -> bool
+    ensures { λ r. ⌜ r ≡ eqb (a + b) sum ⌝ }
+{
+    if sum < a {
+        return false;
+    }
+    sum - a == b
+}
+
+// Rules 9 to 11: the bonds outside, the listed values, and the chains that entities and transforms list.
+fn values_refusal(
     leads: &[u8; 256],
     file: &[u8],
-    places: &[usize; 39],
-    atoms: usize,
-    groups: usize,
-    chains: usize,
+    places: &[usize; fields::FIELD_COUNT],
+    counts: Counts,
+) -> u8
+    ensures { λ r. ⌜ WalkedCounts (now (leads .entry)) (now (file .entry)) (now (places .entry)) counts (λ f. r ≡ valuesPart f) ⌝ }
+{
+    if !outer_inside(leads, file, places, counts) {
+        return refusal::INDEX_OUTSIDE;
+    }
+    if !outer_right(leads, file, places) {
+        return refusal::VALUE_OUTSIDE;
+    }
+    if !values_right(leads, file, places) {
+        return refusal::VALUE_OUTSIDE;
+    }
+    if !indices_inside(leads, file, places, counts) {
+        return refusal::INDEX_OUTSIDE;
+    }
+    refusal::ACCEPTED
+}
+
+// Rule 9: whether the bonds outside are between atoms that there are.
+fn outer_inside(
+    leads: &[u8; 256],
+    file: &[u8],
+    places: &[usize; fields::FIELD_COUNT],
+    counts: Counts,
 ) -> bool
-    ensures { λ r. ⌜ WalkedColumns (now (leads .entry)) (now (file .entry)) (now (places .entry)) (λ es. r ≡ allLong columns atoms groups chains es) ⌝ }
+    ensures { λ r. ⌜ WalkedCounts (now (leads .entry)) (now (file .entry)) (now (places .entry)) counts (λ f. r ≡ outerInside f) ⌝ }
 {
-    let mut i: usize = 0;
-    while i < COLUMN_COUNT {
-        let list = list_at(leads, file, places[field_of(i)], kind_of(i));
-        if !long_per(list, per_of(i), atoms, groups, chains) {
-            return false;
-        }
-        i += 1;
-    }
-    true
+    let int32 = Wanted::Only(Kind::Int32);
+    let last = numbers::last_index(counts.atoms);
+    file_columns::all_between(leads, file, places[fields::BOND_ATOM_LIST], int32, 0, last)
 }
 
-// Whether a column that is there has one entry for each of what it is per.
-fn long_per(list: List, per: usize, atoms: usize, groups: usize, chains: usize) -> bool
-    ensures { λ r. ⌜ ((w : Wanted) (o : Option Document) → list ≡ listOf w o → r ≡ longPer w (perFrom per) atoms groups chains o) ⌝ }
+// Rule 9: whether the orders of the bonds outside are 1 to 4.
+fn outer_right(leads: &[u8; 256], file: &[u8], places: &[usize; fields::FIELD_COUNT]) -> bool
+    ensures { λ r. ⌜ WalkedCounted (now (leads .entry)) (now (file .entry)) (now (places .entry)) (λ f. r ≡ outerRight f) ⌝ }
 {
-    if per == 0 {
-        return is_long(list, atoms);
-    }
-    if per == 1 {
-        return is_long(list, groups);
-    }
-    if per == 2 {
-        return is_long(list, chains);
-    }
-    true
+    let int8 = Wanted::Only(Kind::Int8);
+    file_columns::all_between(leads, file, places[fields::BOND_ORDER_LIST], int8, 1, 4)
 }
 
-// Whether a column that is there has so many entries.
-fn is_long(list: List, count: usize) -> bool
-    ensures { λ r. ⌜ ((w : Wanted) (o : Option Document) → list ≡ listOf w o → r ≡ isLong w count o) ⌝ }
+// Rule 10: whether secStructList is -1 to 7, and sequenceIdList at least -1.
+fn values_right(leads: &[u8; 256], file: &[u8], places: &[usize; fields::FIELD_COUNT]) -> bool
+    ensures { λ r. ⌜ WalkedCounted (now (leads .entry)) (now (file .entry)) (now (places .entry)) (λ f. r ≡ valuesRight f) ⌝ }
 {
-    if list.there {
-        return list.count == count;
+    let int8 = Wanted::Only(Kind::Int8);
+    let int32 = Wanted::Only(Kind::Int32);
+    if !file_columns::all_between(leads, file, places[fields::SEC_STRUCT_LIST], int8, -1, 7) {
+        return false;
     }
-    true
+    file_columns::all_between(
+        leads,
+        file,
+        places[fields::SEQUENCE_ID_LIST],
+        int32,
+        -1,
+        i32::MAX,
+    )
 }
 
-// The length of the column at a place that decodes; a place 0 has none.
-pub fn list_at(leads: &[u8; 256], file: &[u8], at: usize, wanted: Wanted) -> List
-    ensures { λ r. ⌜ WalkedPlace (now (leads .entry)) (now (file .entry)) at (λ o. Right wanted o → r ≡ listOf wanted o) ⌝ }
-{
-    if at == 0 {
-        return List {
-            there: false,
-            count: 0,
-        };
-    }
-    let part = values::text_at(leads, file, at);
-    let a = part.at;
-    List {
-        there: true,
-        count: stated_length(&file[a..a + part.count]),
-    }
-}
-
-// The length that a column's header states.
-fn stated_length(column: &[u8]) -> usize
-    ensures { λ r. ⌜ r ≡ unsignedAt 4 (now (column .entry)) 4 ⌝ }
-{
-    wide32(numbers::read_u32(column, 4))
-}
-
-fn wide32(x: u32) -> usize
-    ensures { λ r. ⌜ r ≡ x ⌝ }
-{
-    x as usize
-}
-
-// The refusal of the column at a place, 14 to 19, or 0; a place 0 has none.
-fn refusal_at(leads: &[u8; 256], file: &[u8], at: usize, wanted: Wanted) -> u8
-    ensures { λ r. ⌜ WalkedPlace (now (leads .entry)) (now (file .entry)) at (λ o. r ≡ refusalOf wanted o) ⌝ }
-{
-    if at == 0 {
-        return refusal::ACCEPTED;
-    }
-    let part = values::text_at(leads, file, at);
-    let a = part.at;
-    match survey::check(&file[a..a + part.count], wanted) {
-        Checked::Good(_, _) => refusal::ACCEPTED,
-        Checked::Refused(number) => number,
-    }
-}
-
-// Whether the cells of the column at a place, which decodes, lie between two numbers; a place 0 has none.
-pub fn all_between(
+// Rule 11: whether entities, then the transforms of assemblies, list chains that there are.
+fn indices_inside(
     leads: &[u8; 256],
     file: &[u8],
-    at: usize,
-    wanted: Wanted,
-    low: i32,
-    high: i32,
+    places: &[usize; fields::FIELD_COUNT],
+    counts: Counts,
 ) -> bool
-    ensures { λ r. ⌜ WalkedPlace (now (leads .entry)) (now (file .entry)) at (λ o. Right wanted o → r ≡ allBetween low high (listIn (cellsIn wanted o))) ⌝ }
+    ensures { λ r. ⌜ WalkedCounts (now (leads .entry)) (now (file .entry)) (now (places .entry)) counts (λ f. r ≡ indicesInside f) ⌝ }
 {
-    if at == 0 {
-        return true;
+    if !crate::indices::all_inside(leads, file, places[fields::ENTITY_LIST], counts.chains) {
+        return false;
     }
-    let part = values::text_at(leads, file, at);
-    let a = part.at;
-    survey::all_between(&file[a..a + part.count], wanted, low, high)
-}
-
-// The sums of two tables over the cells of the int32 column at a place, where all are indices of the first `types` entries; else none.
-pub fn totals(
-    leads: &[u8; 256],
-    file: &[u8],
-    at: usize,
-    types: usize,
-    atoms: &[u32; survey::TYPE_LIMIT],
-    bonds: &[u32; survey::TYPE_LIMIT],
-) -> Sums
-    ensures { λ r. ⌜ WalkedPlace (now (leads .entry)) (now (file .entry)) at (λ o. TotalsIn at types (now (atoms .entry)) (now (bonds .entry)) o r) ⌝ }
-{
-    let part = values::text_at(leads, file, at);
-    let a = part.at;
-    survey::totals(&file[a..a + part.count], types, atoms, bonds)
-}
-
-// The field of column i.
-fn field_of(i: usize) -> usize
-    requires { ⌜ i < 16 ⌝ }
-    ensures { λ r. ⌜ (r ≡ getD fieldNumbers i 0) × (r < 39) ⌝ }
-{
-    wide(FIELDS[i]) % 39
-}
-
-// The kind of column i.
-fn kind_of(i: usize) -> Wanted
-    requires { ⌜ i < 16 ⌝ }
-    ensures { λ r. ⌜ r ≡ kindFrom (getD kindNumbers i 0) ⌝ }
-{
-    let kind = KINDS[i];
-    match kind {
-        0 => Wanted::Real,
-        1 => Wanted::Only(Kind::Int32),
-        2 => Wanted::Only(Kind::Strings),
-        3 => Wanted::Only(Kind::Int8),
-        _ => Wanted::Only(Kind::Chars),
-    }
-}
-
-// What column i has one entry for.
-fn per_of(i: usize) -> usize
-    requires { ⌜ i < 16 ⌝ }
-    ensures { λ r. ⌜ r ≡ getD perNumbers i 0 ⌝ }
-{
-    wide(PERS[i])
-}
-
-fn wide(x: u8) -> usize
-    ensures { λ r. ⌜ r ≡ x ⌝ }
-{
-    x as usize
+    crate::indices::assemblies_inside(
+        leads,
+        file,
+        places[fields::BIO_ASSEMBLY_LIST],
+        counts.chains,
+    )
 }

@@ -1,39 +1,29 @@
--- What a decoder answers, and what it leaves in the lent buffer: both functions of what the column decodes to. No lemma stands here:
--- the laws are in Laws/Calls.antt. Assumes nothing.
-use mathlib.Core.Path.{_≡_}
-use mathlib.Core.Bool.{Bool, cond}
-use mathlib.Core.Option.{some}
-use mathlib.Core.List.{List, _++_, map}
+-- What the decoder of fixed point answers, and the elements of a lent buffer by the cells of a column; `Buffer` of columns says the rest of
+-- what a decoder answers and leaves. No lemma stands here: the laws are in Laws/Calls.antt. Assumes nothing.
+use mathlib.Core.List.{List}
 use Prim.Native.Nat.{ℕ, _%_}
-use lib.ListN.{length, drop}
+use lib.ListN.{length}
 use lib.IntN.{ℤ}
-use lib.Dec.{leb}
 use mir.Syntax.{w32}
 use mir.Val.{toZ, ofZ}
-use Rattle.refusal.specs.Table.{bufferTooSmall}
-use Rattle.codecs.specs.declared.Form.{Form}
-use Rattle.codecs.specs.Delta.{sumsIf}
-use Rattle.payloads.specs.Items.{readIn}
+use Rattle.refusal.specs.declared.Answer.{Answer}
+use Rattle.refusal.specs.declared.Answer.the-variants as answer
+use Rattle.refusal.specs.Answer.{answered}
+use Rattle.columns.specs.declared.Kind.{Kind}
 use Rattle.columns.specs.Decode.{Decoding, refused, column}
-use Rattle.decoding.specs.declared.Decoded.{Decoded}
-use Rattle.decoding.specs.declared.Decoded.the-variants as decoded
+use Rattle.columns.specs.Buffer.{decodedBuffer}
 use Rattle.decoding.specs.declared.Fixed.{Fixed}
-use Rattle.decoding.specs.declared.Fixed.the-variants as fixed
+use Rattle.decoding.specs.declared.Fixed.the-variants.{Column, Refused}
 
--- the answer for a buffer of so many elements: how many were written, or the refusal; 25 where they do not fit
-abbrev pub told : Decoding → ℕ → Decoded
-told (refused r) room = decoded.Refused r
-told (column k m l) room = cond (leb (length l) room) (decoded.Count (length l)) (decoded.Refused bufferTooSmall)
+-- an answer with the divisor m
+abbrev pub withDivisor : ℕ → Answer → Fixed
+withDivisor m (answer.Count n) = Column n (toZ w32 m)
+withDivisor m (answer.Refused r) = Refused r
 
 -- the answer of the decoder of fixed point, which tells the divisor too
-abbrev pub toldFixed : Decoding → ℕ → Fixed
-toldFixed (refused r) room = fixed.Refused r
-toldFixed (column k m l) room = cond (leb (length l) room) (fixed.Column (length l) (toZ w32 m)) (fixed.Refused bufferTooSmall)
-
--- the buffer afterwards: the column's elements at its start and everything beyond unchanged; on refusal, all unchanged
-abbrev pub left : {B : Type 0} → (ℤ → B) → Decoding → List B → List B
-left element (refused r) old = old
-left element (column k m l) old = cond (leb (length l) (length old)) (map element l ++ drop (length l) old) old
+abbrev pub fixedAnswer : Decoding → ℕ → Fixed
+fixedAnswer (refused r) room = Refused r
+fixedAnswer (column k m cells) room = withDivisor m (answered (length cells) room)
 
 -- a cell as an element of a buffer of numbers, and of bytes
 abbrev pub asNumber : ℤ → ℤ
@@ -42,11 +32,9 @@ asNumber x = x
 abbrev pub asByte : ℤ → ℕ
 asByte x = ofZ w32 x % 256
 
--- the count of an answer
-abbrev pub countOf : Fixed → Decoded
-countOf (fixed.Column n d) = decoded.Count n
-countOf (fixed.Refused r) = decoded.Refused r
+-- a buffer of numbers afterwards, and one of bytes
+abbrev pub numberBuffer : Decoding → List ℤ → List ℤ
+numberBuffer x old = decodedBuffer (λ (k : Kind) (m : ℕ). asNumber) x old
 
--- what a writer leaves: the results of a payload at the buffer's start
-abbrev pub Wrote : {B : Type 0} → (ℤ → B) → Form → Bool → List ℕ → List B → List B → Type 0
-Wrote element f d s old new = (l : List ℤ) → readIn f s ≡ some l → new ≡ map element (sumsIf d l) ++ drop (length l) old
+abbrev pub byteBuffer : Decoding → List ℕ → List ℕ
+byteBuffer x old = decodedBuffer (λ (k : Kind) (m : ℕ). asByte) x old

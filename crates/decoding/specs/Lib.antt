@@ -1,3 +1,4 @@
--- What the decoders answer and leave.
+-- What the decoders answer and leave: `Calls`. `Steps` is for the code inside.
 pub mod Calls
+pub mod Steps
 pub mod Laws

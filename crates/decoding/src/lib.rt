@@ -5,25 +5,22 @@ ghost use mathlib.Core.Bool.{false};
 ghost use mathlib.Core.List.{_++_};
 ghost use Prim.Native.Nat.{_+_, _≤_};
 ghost use lib.ListN.{length, drop};
-ghost use Rattle.columns.specs.Table.{suits};
+ghost use Rattle.columns.specs.Table.{suits, isNames};
 ghost use Rattle.columns.specs.Decode.{decode, judgedPayload};
-ghost use Rattle.payloads.specs.Items.{isNames};
-ghost use Rattle.payloads.specs.Results.{Filled, HasRoom, HasResults, Covered};
-ghost use Rattle.decoding.specs.Calls.{told, toldFixed, left, asNumber, asByte, countOf, Wrote};
-use codecs::Form;
-use codecs::Range;
-use codecs::Size;
-use codecs::Turn;
+ghost use Rattle.payloads.specs.Results.{Filled, HasRoom, HasResults, Covered, Wrote};
+ghost use Rattle.columns.specs.Buffer.{decodedAnswer};
+ghost use Rattle.decoding.specs.Steps.{namesPayload};
+ghost use Rattle.decoding.specs.Calls.{fixedAnswer, asNumber, asByte, numberBuffer, byteBuffer};
+use columns::HEADER_SIZE;
 use columns::Header;
 use columns::Kind;
 use columns::Wanted;
 use payloads::Item;
-
-// How many elements were written, or the refusal.
-pub enum Decoded {
-    Count(usize),
-    Refused(u8),
-}
+use refusal::Answer;
+use steps::Form;
+use steps::Range;
+use steps::Size;
+use steps::Turn;
 
 // How many integers were written, and the divisor; or the refusal.
 pub enum Fixed {
@@ -32,87 +29,76 @@ pub enum Fixed {
 }
 
 // The integers of an int32 column (codecs 4, 7, 8, 14, 15).
-pub fn decode_int32(column: &[u8], buffer: &mut [i32]) -> Decoded
-    ensures answer { λ r. ⌜ r ≡ told (decode (Wanted.Only Kind.Int32) (now (column .entry))) (length (now (buffer .entry))) ⌝ }
-    ensures buffer { λ r. ⌜ now (buffer .exit) ≡ left asNumber (decode (Wanted.Only Kind.Int32) (now (column .entry))) (now (buffer .entry)) ⌝ }
+pub fn decode_int32(column: &[u8], buffer: &mut [i32]) -> Answer
+    ensures answer { λ r. ⌜ r ≡ decodedAnswer (decode (Wanted.Only Kind.Int32) (now (column .entry))) (length (now (buffer .entry))) ⌝ }
+    ensures buffer { λ r. ⌜ now (buffer .exit) ≡ numberBuffer (decode (Wanted.Only Kind.Int32) (now (column .entry))) (now (buffer .entry)) ⌝ }
 {
-    count_of(decode_integers(column, Wanted::Only(Kind::Int32), buffer))
+    decode_integers(column, Wanted::Only(Kind::Int32), buffer)
 }
 
 // The integers of an int8 column (codecs 2, 16).
-pub fn decode_int8(column: &[u8], buffer: &mut [i32]) -> Decoded
-    ensures answer { λ r. ⌜ r ≡ told (decode (Wanted.Only Kind.Int8) (now (column .entry))) (length (now (buffer .entry))) ⌝ }
-    ensures buffer { λ r. ⌜ now (buffer .exit) ≡ left asNumber (decode (Wanted.Only Kind.Int8) (now (column .entry))) (now (buffer .entry)) ⌝ }
+pub fn decode_int8(column: &[u8], buffer: &mut [i32]) -> Answer
+    ensures answer { λ r. ⌜ r ≡ decodedAnswer (decode (Wanted.Only Kind.Int8) (now (column .entry))) (length (now (buffer .entry))) ⌝ }
+    ensures buffer { λ r. ⌜ now (buffer .exit) ≡ numberBuffer (decode (Wanted.Only Kind.Int8) (now (column .entry))) (now (buffer .entry)) ⌝ }
 {
-    count_of(decode_integers(column, Wanted::Only(Kind::Int8), buffer))
+    decode_integers(column, Wanted::Only(Kind::Int8), buffer)
 }
 
 // The integers of an int16 column (codec 3).
-pub fn decode_int16(column: &[u8], buffer: &mut [i32]) -> Decoded
-    ensures answer { λ r. ⌜ r ≡ told (decode (Wanted.Only Kind.Int16) (now (column .entry))) (length (now (buffer .entry))) ⌝ }
-    ensures buffer { λ r. ⌜ now (buffer .exit) ≡ left asNumber (decode (Wanted.Only Kind.Int16) (now (column .entry))) (now (buffer .entry)) ⌝ }
+pub fn decode_int16(column: &[u8], buffer: &mut [i32]) -> Answer
+    ensures answer { λ r. ⌜ r ≡ decodedAnswer (decode (Wanted.Only Kind.Int16) (now (column .entry))) (length (now (buffer .entry))) ⌝ }
+    ensures buffer { λ r. ⌜ now (buffer .exit) ≡ numberBuffer (decode (Wanted.Only Kind.Int16) (now (column .entry))) (now (buffer .entry)) ⌝ }
 {
-    count_of(decode_integers(column, Wanted::Only(Kind::Int16), buffer))
+    decode_integers(column, Wanted::Only(Kind::Int16), buffer)
 }
 
 // The integers and the divisor of a fixed point column (codecs 9 to 13).
 pub fn decode_fixed_point(column: &[u8], buffer: &mut [i32]) -> Fixed
-    ensures answer { λ r. ⌜ r ≡ toldFixed (decode (Wanted.Only Kind.FixedPoint) (now (column .entry))) (length (now (buffer .entry))) ⌝ }
-    ensures buffer { λ r. ⌜ now (buffer .exit) ≡ left asNumber (decode (Wanted.Only Kind.FixedPoint) (now (column .entry))) (now (buffer .entry)) ⌝ }
+    ensures answer { λ r. ⌜ r ≡ fixedAnswer (decode (Wanted.Only Kind.FixedPoint) (now (column .entry))) (length (now (buffer .entry))) ⌝ }
+    ensures buffer { λ r. ⌜ now (buffer .exit) ≡ numberBuffer (decode (Wanted.Only Kind.FixedPoint) (now (column .entry))) (now (buffer .entry)) ⌝ }
 {
-    decode_integers(column, Wanted::Only(Kind::FixedPoint), buffer)
+    match decode_integers(column, Wanted::Only(Kind::FixedPoint), buffer) {
+        Answer::Count(n) => Fixed::Column(n, numbers::read_i32(column, 8)),
+        Answer::Refused(r) => Fixed::Refused(r),
+    }
 }
 
 // The characters of a column, a byte each (codec 6).
-pub fn decode_chars(column: &[u8], buffer: &mut [u8]) -> Decoded
-    ensures answer { λ r. ⌜ r ≡ told (decode (Wanted.Only Kind.Chars) (now (column .entry))) (length (now (buffer .entry))) ⌝ }
-    ensures buffer { λ r. ⌜ now (buffer .exit) ≡ left asByte (decode (Wanted.Only Kind.Chars) (now (column .entry))) (now (buffer .entry)) ⌝ }
+pub fn decode_chars(column: &[u8], buffer: &mut [u8]) -> Answer
+    ensures answer { λ r. ⌜ r ≡ decodedAnswer (decode (Wanted.Only Kind.Chars) (now (column .entry))) (length (now (buffer .entry))) ⌝ }
+    ensures buffer { λ r. ⌜ now (buffer .exit) ≡ byteBuffer (decode (Wanted.Only Kind.Chars) (now (column .entry))) (now (buffer .entry)) ⌝ }
 {
     match columns::read_header(column, Wanted::Only(Kind::Chars)) {
-        Header::Refused(r) => Decoded::Refused(r),
+        Header::Refused(r) => Answer::Refused(r),
         Header::Good(n, m, kind, form, delta) => {
-            count_of(chars_in(&column[12..], n, m, kind, form, delta, buffer))
+            chars_in(&column[HEADER_SIZE..], n, m, kind, form, delta, buffer)
         }
     }
 }
 
 // The bytes of a column of strings, each of the header's size (codec 5).
-pub fn decode_strings(column: &[u8], buffer: &mut [u8]) -> Decoded
-    ensures answer { λ r. ⌜ r ≡ told (decode (Wanted.Only Kind.Strings) (now (column .entry))) (length (now (buffer .entry))) ⌝ }
-    ensures buffer { λ r. ⌜ now (buffer .exit) ≡ left asByte (decode (Wanted.Only Kind.Strings) (now (column .entry))) (now (buffer .entry)) ⌝ }
+pub fn decode_strings(column: &[u8], buffer: &mut [u8]) -> Answer
+    ensures answer { λ r. ⌜ r ≡ decodedAnswer (decode (Wanted.Only Kind.Strings) (now (column .entry))) (length (now (buffer .entry))) ⌝ }
+    ensures buffer { λ r. ⌜ now (buffer .exit) ≡ byteBuffer (decode (Wanted.Only Kind.Strings) (now (column .entry))) (now (buffer .entry)) ⌝ }
 {
     match columns::read_header(column, Wanted::Only(Kind::Strings)) {
-        Header::Refused(r) => Decoded::Refused(r),
-        Header::Good(n, size, kind, _, _) => count_of(strings_in(
-            &column[12..],
-            n,
-            size,
-            kind,
-            buffer,
-        )),
+        Header::Refused(r) => Answer::Refused(r),
+        Header::Good(n, size, kind, _, _) => {
+            strings_in(&column[HEADER_SIZE..], n, size, kind, buffer)
+        }
     }
 }
 
-// The count of an answer.
-fn count_of(answer: Fixed) -> Decoded
-    ensures { λ r. ⌜ r ≡ countOf answer ⌝ }
-{
-    match answer {
-        Fixed::Column(n, _) => Decoded::Count(n),
-        Fixed::Refused(r) => Decoded::Refused(r),
-    }
-}
-
-// The integers of a column that has no names, and its parameter.
-fn decode_integers(column: &[u8], wanted: Wanted, buffer: &mut [i32]) -> Fixed
+// The integers of a column that has no names.
+fn decode_integers(column: &[u8], wanted: Wanted, buffer: &mut [i32]) -> Answer
     requires { ⌜ suits wanted Kind.Strings ≡ false ⌝ }
-    ensures answer { λ r. ⌜ r ≡ toldFixed (decode wanted (now (column .entry))) (length (now (buffer .entry))) ⌝ }
-    ensures buffer { λ r. ⌜ now (buffer .exit) ≡ left asNumber (decode wanted (now (column .entry))) (now (buffer .entry)) ⌝ }
+    ensures answer { λ r. ⌜ r ≡ decodedAnswer (decode wanted (now (column .entry))) (length (now (buffer .entry))) ⌝ }
+    ensures buffer { λ r. ⌜ now (buffer .exit) ≡ numberBuffer (decode wanted (now (column .entry))) (now (buffer .entry)) ⌝ }
 {
     match columns::read_header(column, wanted) {
-        Header::Refused(r) => Fixed::Refused(r),
+        Header::Refused(r) => Answer::Refused(r),
         Header::Good(n, m, kind, form, delta) => integers_in(
-            &column[12..],
+            &column[HEADER_SIZE..],
             n,
             m,
             kind,
@@ -132,20 +118,20 @@ fn integers_in(
     form: Form,
     delta: bool,
     buffer: &mut [i32],
-) -> Fixed
+) -> Answer
     requires { ⌜ isNames form ≡ false ⌝ }
-    ensures answer { λ r. ⌜ r ≡ toldFixed (judgedPayload (Header.Good n m kind form delta) (now (payload .entry))) (length (now (buffer .entry))) ⌝ }
-    ensures buffer { λ r. ⌜ now (buffer .exit) ≡ left asNumber (judgedPayload (Header.Good n m kind form delta) (now (payload .entry))) (now (buffer .entry)) ⌝ }
+    ensures answer { λ r. ⌜ r ≡ decodedAnswer (judgedPayload (Header.Good n m kind form delta) (now (payload .entry))) (length (now (buffer .entry))) ⌝ }
+    ensures buffer { λ r. ⌜ now (buffer .exit) ≡ numberBuffer (judgedPayload (Header.Good n m kind form delta) (now (payload .entry))) (now (buffer .entry)) ⌝ }
 {
     let refused = payloads::refusal_of(payload, form, m as usize, n);
     if refused != refusal::ACCEPTED {
-        return Fixed::Refused(refused);
+        return Answer::Refused(refused);
     }
     if buffer.len() < n {
-        return Fixed::Refused(refusal::BUFFER_TOO_SMALL);
+        return Answer::Refused(refusal::BUFFER_TOO_SMALL);
     }
     put_integers(payload, form, delta, n, buffer);
-    Fixed::Column(n, numbers::to_i32(m))
+    Answer::Count(n)
 }
 
 // Writes the results of a payload, by a loop of its form's own.
@@ -204,15 +190,15 @@ fn write_packed(payload: &[u8], size: Size, delta: bool, buffer: &mut [i32])
     requires { ⌜ HasRoom (Form.Packed size) (now payload) (length (now buffer)) ⌝ }
     ensures { λ r. ⌜ Wrote asNumber (Form.Packed size) delta (now (payload .entry)) (now (buffer .entry)) (now (buffer .exit)) ⌝ }
 {
-    let k = codecs::bytes(size);
+    let k = steps::bytes(size);
     let mut i: usize = 0;
     let mut o: usize = 0;
     let mut part: i32 = 0;
     let mut sum: i32 = 0;
     while k <= payload.len() - i {
-        let number = codecs::number_at(payload, i, size);
+        let number = steps::number_at(payload, i, size);
         i += k;
-        match codecs::unpack_one(part, number, size) {
+        match steps::unpack_one(part, number, size) {
             Turn::More(s) => {
                 part = s;
             }
@@ -238,10 +224,10 @@ fn write_two(payload: &[u8], delta: bool, buffer: &mut [i32])
     let mut o: usize = 0;
     let mut total: i32 = 0;
     while 2 <= payload.len() - i {
-        let number = codecs::number_at(payload, i, Size::Two);
+        let number = steps::number_at(payload, i, Size::Two);
         i += 2;
-        total = codecs::add_delta(total, number);
-        if !codecs::is_limit(number, Size::Two) {
+        total = steps::add_delta(total, number);
+        if !steps::is_limit(number, Size::Two) {
             buffer[o] = total;
             o += 1;
             total = payloads::total_after(total, delta);
@@ -317,20 +303,20 @@ fn chars_in(
     form: Form,
     delta: bool,
     buffer: &mut [u8],
-) -> Fixed
+) -> Answer
     requires { ⌜ isNames form ≡ false ⌝ }
-    ensures answer { λ r. ⌜ r ≡ toldFixed (judgedPayload (Header.Good n m kind form delta) (now (payload .entry))) (length (now (buffer .entry))) ⌝ }
-    ensures buffer { λ r. ⌜ now (buffer .exit) ≡ left asByte (judgedPayload (Header.Good n m kind form delta) (now (payload .entry))) (now (buffer .entry)) ⌝ }
+    ensures answer { λ r. ⌜ r ≡ decodedAnswer (judgedPayload (Header.Good n m kind form delta) (now (payload .entry))) (length (now (buffer .entry))) ⌝ }
+    ensures buffer { λ r. ⌜ now (buffer .exit) ≡ byteBuffer (judgedPayload (Header.Good n m kind form delta) (now (payload .entry))) (now (buffer .entry)) ⌝ }
 {
     let refused = payloads::refusal_of(payload, form, m as usize, n);
     if refused != refusal::ACCEPTED {
-        return Fixed::Refused(refused);
+        return Answer::Refused(refused);
     }
     if buffer.len() < n {
-        return Fixed::Refused(refusal::BUFFER_TOO_SMALL);
+        return Answer::Refused(refusal::BUFFER_TOO_SMALL);
     }
     write_bytes(payload, form, delta, buffer);
-    Fixed::Column(n, numbers::to_i32(m))
+    Answer::Count(n)
 }
 
 // Writes the results of a payload as bytes, item by item.
@@ -388,19 +374,19 @@ pub fn low_byte(number: i32) -> u8
 }
 
 // The bytes of a payload of strings whose header passed.
-fn strings_in(payload: &[u8], n: usize, size: u32, kind: Kind, buffer: &mut [u8]) -> Fixed
-    ensures answer { λ r. ⌜ r ≡ toldFixed (judgedPayload (Header.Good n size kind Form.Names false) (now (payload .entry))) (length (now (buffer .entry))) ⌝ }
-    ensures buffer { λ r. ⌜ now (buffer .exit) ≡ left asByte (judgedPayload (Header.Good n size kind Form.Names false) (now (payload .entry))) (now (buffer .entry)) ⌝ }
+fn strings_in(payload: &[u8], n: usize, size: u32, kind: Kind, buffer: &mut [u8]) -> Answer
+    ensures answer { λ r. ⌜ r ≡ decodedAnswer (namesPayload n size kind (now (payload .entry))) (length (now (buffer .entry))) ⌝ }
+    ensures buffer { λ r. ⌜ now (buffer .exit) ≡ byteBuffer (namesPayload n size kind (now (payload .entry))) (now (buffer .entry)) ⌝ }
 {
     let refused = payloads::refusal_of(payload, Form::Names, size as usize, n);
     if refused != refusal::ACCEPTED {
-        return Fixed::Refused(refused);
+        return Answer::Refused(refused);
     }
     if buffer.len() < payload.len() {
-        return Fixed::Refused(refusal::BUFFER_TOO_SMALL);
+        return Answer::Refused(refusal::BUFFER_TOO_SMALL);
     }
     copy(payload, buffer);
-    Fixed::Column(payload.len(), numbers::to_i32(size))
+    Answer::Count(payload.len())
 }
 
 // Copies bytes to the buffer's start.

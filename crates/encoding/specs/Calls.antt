@@ -1,21 +1,19 @@
--- What the calls of this crate say and leave, from what a column encodes to. No lemma stands here: the laws are in Laws/Calls.antt.
--- Assumes nothing.
-use mathlib.Core.Bool.{cond}
-use mathlib.Core.List.{List, _++_}
+-- What an encoder answers and leaves in the lent buffer: both functions of what the column encodes to. No lemma stands here: the laws are in
+-- Laws/Calls.antt. Assumes nothing.
+use mathlib.Core.List.{List}
 use Prim.Native.Nat.{ℕ}
-use lib.ListN.{length, drop}
-use lib.Dec.{leb}
-use Rattle.refusal.specs.Table.{bufferTooSmall}
+use lib.ListN.{length}
+use Rattle.refusal.specs.declared.Answer.{Answer}
+use Rattle.refusal.specs.declared.Answer.the-variants.{Refused}
+use Rattle.refusal.specs.Answer.{answered, leaves}
 use Rattle.columns.specs.Encode.{Encoding, refused, bytes}
-use Rattle.encoding.specs.declared.Encoded.{Encoded}
-use Rattle.encoding.specs.declared.Encoded.the-variants.{Written, Refused}
 
--- the answer for a buffer of n bytes
-abbrev pub told : Encoding → ℕ → Encoded
-told (refused r) n = Refused r
-told (bytes b) n = cond (leb (length b) n) (Written (length b)) (Refused bufferTooSmall)
+-- the answer for a buffer with room for so many bytes: how many were written, or the refusal
+abbrev pub encodedAnswer : Encoding → ℕ → Answer
+encodedAnswer (refused r) room = Refused r
+encodedAnswer (bytes b) room = answered (length b) room
 
--- what the buffer s holds afterwards
-abbrev pub left : Encoding → List ℕ → List ℕ
-left (refused r) s = s
-left (bytes b) s = cond (leb (length b) (length s)) (b ++ drop (length b) s) s
+-- the buffer afterwards
+abbrev pub encodedBuffer : Encoding → List ℕ → List ℕ
+encodedBuffer (refused r) old = old
+encodedBuffer (bytes b) old = leaves b old

@@ -4,35 +4,31 @@
 -- here: what they give is the contract of `floats::decode_float32`. No lemma stands here: that the statement holds is `demand-2` of
 -- Laws/Demand.antt. Assumes nothing.
 use mathlib.Core.Path.{_≡_}
-use mathlib.Core.Bool.{true, cond}
+use mathlib.Core.Bool.{true}
 use mathlib.Core.List.{List, _++_, map}
 use Prim.Native.Nat.{ℕ, _≤_, _<_, _^_}
 use lib.ListN.{length, getD, take, drop}
 use lib.IntN.{ℤ, pos}
-use lib.Dec.{leb}
 use mir.Syntax.{w32}
-use mir.Val.{toZ, ofZ}
-use Rattle.refusal.specs.Table.{bufferTooSmall}
+use mir.Val.{toZ}
+use Rattle.refusal.specs.declared.Answer.{Answer}
+use Rattle.refusal.specs.declared.Answer.the-variants.{Count}
+use Rattle.refusal.specs.Answer.{answered}
 use Rattle.numbers.specs.BigEndian.{Bytes, unsignedAt}
-use Rattle.codecs.specs.Fits.{AllFit}
+use Rattle.steps.specs.Fits.{AllFit}
 use Rattle.columns.specs.declared.Kind.{Kind}
 use Rattle.columns.specs.declared.Kind.the-variants as kind
 use Rattle.columns.specs.declared.Wanted.the-variants.{Only, Real}
 use Rattle.columns.specs.Decode.{column, decode}
+use Rattle.columns.specs.Buffer.{decodedAnswer, decodedBuffer}
 use Rattle.columns.specs.Encode.{encode}
 use Rattle.columns.specs.CanHold.{isOneOf, codecsOf, CanHold}
 use Rattle.columns.specs.WriterForm.{WriterForm}
-use Rattle.decoding.specs.declared.Decoded.{Decoded}
-use Rattle.decoding.specs.declared.Decoded.the-variants as decoded
 use Rattle.decoding.specs.declared.Fixed.{Fixed}
-use Rattle.decoding.specs.declared.Fixed.the-variants as fixed
+use Rattle.decoding.specs.declared.Fixed.the-variants.{Column}
 use Rattle.decoding.specs.Calls as decoding
-use Rattle.floats.specs.declared.Floats.{Floats}
-use Rattle.floats.specs.declared.Floats.the-variants as real
 use Rattle.floats.specs.Calls as floats
-use Rattle.encoding.specs.declared.Encoded.{Encoded}
-use Rattle.encoding.specs.declared.Encoded.the-variants.{Written, Refused}
-use Rattle.encoding.specs.Calls.{told, left}
+use Rattle.encoding.specs.Calls.{encodedAnswer, encodedBuffer}
 
 -- The calls of a kind
 
@@ -57,14 +53,14 @@ Typed kind.Strings ys = Bytes ys
 Typed kind.Chars ys = Bytes ys
 
 -- the cells of a column that its elements are
-abbrev pub cellsOf : (k : Kind) → List (Element k) → List ℤ
-cellsOf kind.Float32 ys = map (toZ w32) ys
-cellsOf kind.FixedPoint ys = ys
-cellsOf kind.Int8 ys = ys
-cellsOf kind.Int16 ys = ys
-cellsOf kind.Int32 ys = ys
-cellsOf kind.Strings ys = map pos ys
-cellsOf kind.Chars ys = map pos ys
+abbrev pub cellsFrom : (k : Kind) → List (Element k) → List ℤ
+cellsFrom kind.Float32 ys = map (toZ w32) ys
+cellsFrom kind.FixedPoint ys = ys
+cellsFrom kind.Int8 ys = ys
+cellsFrom kind.Int16 ys = ys
+cellsFrom kind.Int32 ys = ys
+cellsFrom kind.Strings ys = map pos ys
+cellsFrom kind.Chars ys = map pos ys
 
 -- the element of a lent buffer that a cell becomes
 abbrev pub elementOf : (k : Kind) → ℤ → Element k
@@ -88,28 +84,16 @@ taken kind.Chars m = 0
 
 -- what an encoder answers for the codec c, the parameter m and the elements ys, and what it leaves in the buffer; c and m are the 32 bits
 -- of the numbers that the call takes
-abbrev pub encoderSays : (k : Kind) → ℕ → ℕ → List (Element k) → ℕ → Encoded
-encoderSays k c m ys room = told (encode (Only k) c (taken k m) (cellsOf k ys)) room
+abbrev pub encoderSays : (k : Kind) → ℕ → ℕ → List (Element k) → ℕ → Answer
+encoderSays k c m ys room = encodedAnswer (encode (Only k) c (taken k m) (cellsFrom k ys)) room
 
 abbrev pub encoderLeaves : (k : Kind) → ℕ → ℕ → List (Element k) → List ℕ → List ℕ
-encoderLeaves k c m ys buffer = left (encode (Only k) c (taken k m) (cellsOf k ys)) buffer
+encoderLeaves k c m ys buffer = encodedBuffer (encode (Only k) c (taken k m) (cellsFrom k ys)) buffer
 
--- what a decoder answers: how many elements it wrote, and the divisor, which is 0 where there is none; or the refusal
-pub data Answer : Type 0 where
-  wrote : ℕ → ℕ → Answer
-  refuses : ℕ → Answer
-
-abbrev pub answerOf : Decoded → Answer
-answerOf (decoded.Count n) = wrote n 0
-answerOf (decoded.Refused r) = refuses r
-
-abbrev pub fixedAnswer : Fixed → Answer
-fixedAnswer (fixed.Column n d) = wrote n (ofZ w32 d)
-fixedAnswer (fixed.Refused r) = refuses r
-
-abbrev pub floatsAnswer : Floats → Answer
-floatsAnswer (real.Count n) = wrote n 0
-floatsAnswer (real.Refused r) = refuses r
+-- what a decoder answers that wrote n elements, with the divisor d, which is 0 where there is none; d is told as the signed number of its 32
+-- bits, which is d itself up to 2,147,483,647
+abbrev pub wrote : ℕ → ℕ → Fixed
+wrote n d = Column n (toZ w32 d)
 
 -- the divisor that a decoder tells of a column with the parameter m: that of fixed point, and 0 for the other kinds
 abbrev pub divisorOf : Kind → ℕ → ℕ
@@ -122,23 +106,23 @@ divisorOf kind.Strings m = 0
 divisorOf kind.Chars m = 0
 
 -- what a decoder answers for the bytes s and a buffer of so many elements, and what it leaves in the buffer
-abbrev pub decoderSays : Kind → List ℕ → ℕ → Answer
-decoderSays kind.Float32 s room = floatsAnswer (floats.told (floats.exactly (decode Real s)) room)
-decoderSays kind.FixedPoint s room = fixedAnswer (decoding.toldFixed (decode (Only kind.FixedPoint) s) room)
-decoderSays kind.Int8 s room = answerOf (decoding.told (decode (Only kind.Int8) s) room)
-decoderSays kind.Int16 s room = answerOf (decoding.told (decode (Only kind.Int16) s) room)
-decoderSays kind.Int32 s room = answerOf (decoding.told (decode (Only kind.Int32) s) room)
-decoderSays kind.Strings s room = answerOf (decoding.told (decode (Only kind.Strings) s) room)
-decoderSays kind.Chars s room = answerOf (decoding.told (decode (Only kind.Chars) s) room)
+abbrev pub decoderSays : Kind → List ℕ → ℕ → Fixed
+decoderSays kind.Float32 s room = decoding.withDivisor 0 (decodedAnswer (floats.exactly (decode Real s)) room)
+decoderSays kind.FixedPoint s room = decoding.fixedAnswer (decode (Only kind.FixedPoint) s) room
+decoderSays kind.Int8 s room = decoding.withDivisor 0 (decodedAnswer (decode (Only kind.Int8) s) room)
+decoderSays kind.Int16 s room = decoding.withDivisor 0 (decodedAnswer (decode (Only kind.Int16) s) room)
+decoderSays kind.Int32 s room = decoding.withDivisor 0 (decodedAnswer (decode (Only kind.Int32) s) room)
+decoderSays kind.Strings s room = decoding.withDivisor 0 (decodedAnswer (decode (Only kind.Strings) s) room)
+decoderSays kind.Chars s room = decoding.withDivisor 0 (decodedAnswer (decode (Only kind.Chars) s) room)
 
 abbrev pub decoderLeaves : (k : Kind) → List ℕ → List (Element k) → List (Element k)
-decoderLeaves kind.Float32 s buffer = floats.left (floats.exactly (decode Real s)) buffer
-decoderLeaves kind.FixedPoint s buffer = decoding.left decoding.asNumber (decode (Only kind.FixedPoint) s) buffer
-decoderLeaves kind.Int8 s buffer = decoding.left decoding.asNumber (decode (Only kind.Int8) s) buffer
-decoderLeaves kind.Int16 s buffer = decoding.left decoding.asNumber (decode (Only kind.Int16) s) buffer
-decoderLeaves kind.Int32 s buffer = decoding.left decoding.asNumber (decode (Only kind.Int32) s) buffer
-decoderLeaves kind.Strings s buffer = decoding.left decoding.asByte (decode (Only kind.Strings) s) buffer
-decoderLeaves kind.Chars s buffer = decoding.left decoding.asByte (decode (Only kind.Chars) s) buffer
+decoderLeaves kind.Float32 s buffer = decodedBuffer floats.floatBits (floats.exactly (decode Real s)) buffer
+decoderLeaves kind.FixedPoint s buffer = decoding.numberBuffer (decode (Only kind.FixedPoint) s) buffer
+decoderLeaves kind.Int8 s buffer = decoding.numberBuffer (decode (Only kind.Int8) s) buffer
+decoderLeaves kind.Int16 s buffer = decoding.numberBuffer (decode (Only kind.Int16) s) buffer
+decoderLeaves kind.Int32 s buffer = decoding.numberBuffer (decode (Only kind.Int32) s) buffer
+decoderLeaves kind.Strings s buffer = decoding.byteBuffer (decode (Only kind.Strings) s) buffer
+decoderLeaves kind.Chars s buffer = decoding.byteBuffer (decode (Only kind.Chars) s) buffer
 
 -- The demand
 
@@ -158,26 +142,26 @@ pub record Back (k : Kind) (c m : ℕ) (ys : List (Element k)) (s : List ℕ) (b
   pub codec : codecIn s ≡ c
   pub parameter : taken k (parameterIn s) ≡ taken k m
   pub answer : decoderSays k s (length buffer) ≡ wrote (length ys) (divisorOf k m)
-  pub left-there : decoderLeaves k s buffer ≡ ys ++ drop (length ys) buffer
+  pub buffer-after : decoderLeaves k s buffer ≡ ys ++ drop (length ys) buffer
 
 pub record Demand2 : Type 0 where
   -- a column that its codec defines is handed over, in any buffer with room, and the rest of the buffer is left
   pub decodes : (k : Kind) (s : List ℕ) (m : ℕ) (xs : List ℤ) (buffer : List (Element k)) → decode (Only k) s ≡ column k m xs → length xs ≤ length buffer
       → (decoderSays k s (length buffer) ≡ wrote (length xs) (divisorOf k m)) × (decoderLeaves k s buffer ≡ map (elementOf k) xs ++ drop (length xs) buffer)
   -- a column that the codec can hold is written in every buffer with room for its bytes, and is refused for room alone in a smaller one
-  pub encodes : (k : Kind) (c m : ℕ) (ys : List (Element k)) → CanHold k c (taken k m) (cellsOf k ys)
-      → (n : ℕ) × ((room : ℕ) → encoderSays k c m ys room ≡ cond (leb n room) (Written n) (Refused bufferTooSmall))
+  pub encodes : (k : Kind) (c m : ℕ) (ys : List (Element k)) → CanHold k c (taken k m) (cellsFrom k ys)
+      → (n : ℕ) × ((room : ℕ) → encoderSays k c m ys room ≡ answered n room)
   -- whatever an encoder writes, the codec can hold
-  pub encodes-held : (k : Kind) (c m : ℕ) (ys : List (Element k)) (room n : ℕ) → encoderSays k c m ys room ≡ Written n → CanHold k c (taken k m) (cellsOf k ys)
+  pub encodes-held : (k : Kind) (c m : ℕ) (ys : List (Element k)) (room n : ℕ) → encoderSays k c m ys room ≡ Count n → CanHold k c (taken k m) (cellsFrom k ys)
   -- an encoder that answers n wrote n bytes of the codec and the parameter that were asked for, and these decode, in any buffer with room,
   -- to the column that was lent
-  pub decodes-back : (k : Kind) (c m : ℕ) (ys : List (Element k)) (old : List ℕ) (n : ℕ) → Typed k ys → encoderSays k c m ys (length old) ≡ Written n
+  pub decodes-back : (k : Kind) (c m : ℕ) (ys : List (Element k)) (old : List ℕ) (n : ℕ) → Typed k ys → encoderSays k c m ys (length old) ≡ Count n
       → (buffer : List (Element k)) → length ys ≤ length buffer → Back k c m ys (take n (encoderLeaves k c m ys old)) buffer
   -- whatever a decoder hands over, the codec of its bytes can hold
   pub holds-decoded : (k : Kind) (s : List ℕ) (buffer : List (Element k)) (n d : ℕ) → OfKind k s → decoderSays k s (length buffer) ≡ wrote n d
-      → CanHold k (codecIn s) (taken k (parameterIn s)) (cellsOf k (take n (decoderLeaves k s buffer)))
+      → CanHold k (codecIn s) (taken k (parameterIn s)) (cellsFrom k (take n (decoderLeaves k s buffer)))
   -- bytes in the writer's form, decoded and encoded again with the codec and the parameter of their header, are those bytes
   pub encodes-back : (k : Kind) (s : List ℕ) (buffer : List (Element k)) (n d : ℕ) → Bytes s → OfKind k s → WriterForm s → decoderSays k s (length buffer) ≡ wrote n d
       → (old : List ℕ) → length s ≤ length old
-      → (encoderSays k (codecIn s) (parameterIn s) (take n (decoderLeaves k s buffer)) (length old) ≡ Written (length s))
+      → (encoderSays k (codecIn s) (parameterIn s) (take n (decoderLeaves k s buffer)) (length old) ≡ Count (length s))
       × (encoderLeaves k (codecIn s) (parameterIn s) (take n (decoderLeaves k s buffer)) old ≡ s ++ drop (length s) old)

@@ -1,5 +1,5 @@
--- What the encoders answer and leave: `Calls`; demand 2 as one statement: `Demand`. `Plan` is for the code inside.
+-- What the encoders answer and leave: `Calls`; demand 2 as one statement: `Demand`. `Steps` is for the code inside.
 pub mod Calls
 pub mod Demand
-pub mod Plan
+pub mod Steps
 pub mod Laws

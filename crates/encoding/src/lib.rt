@@ -6,37 +6,26 @@ ghost use Prim.Native.Nat.{_≤_};
 ghost use lib.ListN.{length};
 ghost use mir.Syntax.{w32};
 ghost use mir.Val.{ofZ};
-ghost use Rattle.codecs.specs.Payload.{allowed};
-ghost use Rattle.columns.specs.Header.{headerBytes};
-ghost use Rattle.columns.specs.Encode.{results, wholeResults, payloadOf, encode};
-ghost use Rattle.writers.specs.Placed.{over, placed, laid};
-ghost use Rattle.encoding.specs.Calls.{told, left};
+ghost use Rattle.columns.specs.declared.Wanted.the-variants.{Only};
+ghost use Rattle.columns.specs.Header.{headerBytes, headerSize};
+ghost use Rattle.columns.specs.Encode.{results, wholeResults, planOf, encode};
+ghost use Rattle.writers.specs.Placed.{over, placedCells, laidCells};
+ghost use Rattle.encoding.specs.Calls.{encodedAnswer, encodedBuffer};
 ghost use Rattle.encoding.specs.Demand.{encoderSays, encoderLeaves};
-ghost use Rattle.encoding.specs.Plan.{planOf, NumberKind, NumberForm, finished, headed, Holds};
-use codecs::Form;
+ghost use Rattle.encoding.specs.Steps.{NumberKind, NumberForm, finished, headed, HoldsPlaced};
 use columns::Codec;
 use columns::Kind;
-use columns::Parameter;
+use columns::Plan;
 use columns::Wanted;
+use refusal::Answer;
+use steps::Form;
 use writers::Placed;
 
-// The bytes of a header, which the payload follows.
-const HEADER_BYTES: usize = 12;
-
-// What an encoder says: how many bytes it wrote, or a refusal number.
-pub enum Encoded {
-    Written(usize),
-    Refused(u8),
-}
-
-// What an encoder will do: form of the payload, delta, and length and parameter as they are written; or a refusal number.
-pub enum Plan {
-    Good(Form, bool, u32, u32),
-    Refused(u8),
-}
+// The refusal of a parameter, of elements or of a length that a header cannot have.
+const OUT_OF_RANGE: Plan = Plan::Refused(refusal::HEADER_RANGE);
 
 // A column of 32-bit numbers.
-pub fn encode_int32(codec: i32, values: &[i32], buffer: &mut [u8]) -> Encoded
+pub fn encode_int32(codec: i32, values: &[i32], buffer: &mut [u8]) -> Answer
     ensures answer { λ r. ⌜ r ≡ encoderSays Kind.Int32 (ofZ w32 codec) 0 (now (values .entry)) (length (now (buffer .entry))) ⌝ }
     ensures buffer { λ r. ⌜ now (buffer .exit) ≡ encoderLeaves Kind.Int32 (ofZ w32 codec) 0 (now (values .entry)) (now (buffer .entry)) ⌝ }
 {
@@ -44,7 +33,7 @@ pub fn encode_int32(codec: i32, values: &[i32], buffer: &mut [u8]) -> Encoded
 }
 
 // A column of 16-bit numbers.
-pub fn encode_int16(codec: i32, values: &[i32], buffer: &mut [u8]) -> Encoded
+pub fn encode_int16(codec: i32, values: &[i32], buffer: &mut [u8]) -> Answer
     ensures answer { λ r. ⌜ r ≡ encoderSays Kind.Int16 (ofZ w32 codec) 0 (now (values .entry)) (length (now (buffer .entry))) ⌝ }
     ensures buffer { λ r. ⌜ now (buffer .exit) ≡ encoderLeaves Kind.Int16 (ofZ w32 codec) 0 (now (values .entry)) (now (buffer .entry)) ⌝ }
 {
@@ -52,7 +41,7 @@ pub fn encode_int16(codec: i32, values: &[i32], buffer: &mut [u8]) -> Encoded
 }
 
 // A column of 8-bit numbers.
-pub fn encode_int8(codec: i32, values: &[i32], buffer: &mut [u8]) -> Encoded
+pub fn encode_int8(codec: i32, values: &[i32], buffer: &mut [u8]) -> Answer
     ensures answer { λ r. ⌜ r ≡ encoderSays Kind.Int8 (ofZ w32 codec) 0 (now (values .entry)) (length (now (buffer .entry))) ⌝ }
     ensures buffer { λ r. ⌜ now (buffer .exit) ≡ encoderLeaves Kind.Int8 (ofZ w32 codec) 0 (now (values .entry)) (now (buffer .entry)) ⌝ }
 {
@@ -60,7 +49,7 @@ pub fn encode_int8(codec: i32, values: &[i32], buffer: &mut [u8]) -> Encoded
 }
 
 // A column of integers and their divisor.
-pub fn encode_fixed_point(codec: i32, divisor: i32, values: &[i32], buffer: &mut [u8]) -> Encoded
+pub fn encode_fixed_point(codec: i32, divisor: i32, values: &[i32], buffer: &mut [u8]) -> Answer
     ensures answer { λ r. ⌜ r ≡ encoderSays Kind.FixedPoint (ofZ w32 codec) (ofZ w32 divisor) (now (values .entry)) (length (now (buffer .entry))) ⌝ }
     ensures buffer { λ r. ⌜ now (buffer .exit) ≡ encoderLeaves Kind.FixedPoint (ofZ w32 codec) (ofZ w32 divisor) (now (values .entry)) (now (buffer .entry)) ⌝ }
 {
@@ -74,46 +63,51 @@ pub fn encode_fixed_point(codec: i32, divisor: i32, values: &[i32], buffer: &mut
 }
 
 // A column of characters.
-pub fn encode_chars(codec: i32, values: &[u8], buffer: &mut [u8]) -> Encoded
+pub fn encode_chars(codec: i32, values: &[u8], buffer: &mut [u8]) -> Answer
     ensures answer { λ r. ⌜ r ≡ encoderSays Kind.Chars (ofZ w32 codec) 0 (now (values .entry)) (length (now (buffer .entry))) ⌝ }
     ensures buffer { λ r. ⌜ now (buffer .exit) ≡ encoderLeaves Kind.Chars (ofZ w32 codec) 0 (now (values .entry)) (now (buffer .entry)) ⌝ }
 {
     let number = numbers::to_u32(codec);
     match make_plan(number, 0, values.len(), Wanted::Only(Kind::Chars)) {
-        Plan::Refused(r) => Encoded::Refused(r),
+        Plan::Refused(r) => Answer::Refused(r),
         Plan::Good(_, _, length, parameter) => {
-            let placed = write_runs::place_chars(values, buffer, HEADER_BYTES);
+            let placed = writers::runs::place_chars(values, buffer, columns::HEADER_SIZE);
             finish(placed, number, length, parameter, buffer)
         }
     }
 }
 
 // A column of strings of `size` bytes each, one after the other.
-pub fn encode_strings(codec: i32, size: i32, names: &[u8], buffer: &mut [u8]) -> Encoded
+pub fn encode_strings(codec: i32, size: i32, names: &[u8], buffer: &mut [u8]) -> Answer
     ensures answer { λ r. ⌜ r ≡ encoderSays Kind.Strings (ofZ w32 codec) (ofZ w32 size) (now (names .entry)) (length (now (buffer .entry))) ⌝ }
     ensures buffer { λ r. ⌜ now (buffer .exit) ≡ encoderLeaves Kind.Strings (ofZ w32 codec) (ofZ w32 size) (now (names .entry)) (now (buffer .entry)) ⌝ }
 {
     let number = numbers::to_u32(codec);
     let bytes = numbers::to_u32(size);
     match make_plan(number, bytes, names.len(), Wanted::Only(Kind::Strings)) {
-        Plan::Refused(r) => Encoded::Refused(r),
+        Plan::Refused(r) => Answer::Refused(r),
         Plan::Good(_, _, length, parameter) => {
-            let placed = write_plain::place_names(names, bytes as usize, buffer, HEADER_BYTES);
+            let placed = writers::plain::place_names(
+                names,
+                bytes as usize,
+                buffer,
+                columns::HEADER_SIZE,
+            );
             finish(placed, number, length, parameter, buffer)
         }
     }
 }
 
 // A column of floats, by their bits.
-pub fn encode_float32(codec: i32, bits: &[u32], buffer: &mut [u8]) -> Encoded
+pub fn encode_float32(codec: i32, bits: &[u32], buffer: &mut [u8]) -> Answer
     ensures answer { λ r. ⌜ r ≡ encoderSays Kind.Float32 (ofZ w32 codec) 0 (now (bits .entry)) (length (now (buffer .entry))) ⌝ }
     ensures buffer { λ r. ⌜ now (buffer .exit) ≡ encoderLeaves Kind.Float32 (ofZ w32 codec) 0 (now (bits .entry)) (now (buffer .entry)) ⌝ }
 {
     let number = numbers::to_u32(codec);
     match make_plan(number, 0, bits.len(), Wanted::Only(Kind::Float32)) {
-        Plan::Refused(r) => Encoded::Refused(r),
+        Plan::Refused(r) => Answer::Refused(r),
         Plan::Good(_, _, length, parameter) => {
-            let placed = write_plain::place_floats(bits, buffer, HEADER_BYTES);
+            let placed = writers::plain::place_floats(bits, buffer, columns::HEADER_SIZE);
             finish(placed, number, length, parameter, buffer)
         }
     }
@@ -126,14 +120,14 @@ fn encode_numbers(
     parameter: u32,
     values: &[i32],
     buffer: &mut [u8],
-) -> Encoded
+) -> Answer
     requires { ⌜ NumberKind kind ⌝ }
-    ensures answer { λ r. ⌜ r ≡ told (encode (Wanted.Only kind) (ofZ w32 codec) parameter (now (values .entry))) (length (now (buffer .entry))) ⌝ }
-    ensures buffer { λ r. ⌜ now (buffer .exit) ≡ left (encode (Wanted.Only kind) (ofZ w32 codec) parameter (now (values .entry))) (now (buffer .entry)) ⌝ }
+    ensures answer { λ r. ⌜ r ≡ encodedAnswer (encode (Only kind) (ofZ w32 codec) parameter (now (values .entry))) (length (now (buffer .entry))) ⌝ }
+    ensures buffer { λ r. ⌜ now (buffer .exit) ≡ encodedBuffer (encode (Only kind) (ofZ w32 codec) parameter (now (values .entry))) (now (buffer .entry)) ⌝ }
 {
     let number = numbers::to_u32(codec);
     match make_plan(number, parameter, values.len(), Wanted::Only(kind)) {
-        Plan::Refused(r) => Encoded::Refused(r),
+        Plan::Refused(r) => Answer::Refused(r),
         Plan::Good(form, delta, length, stored) => {
             let placed = place(values, form, delta, buffer);
             finish(placed, number, length, stored, buffer)
@@ -144,19 +138,30 @@ fn encode_numbers(
 // The payload of numbers in a form, after the header's place.
 fn place(values: &[i32], form: Form, delta: bool, buffer: &mut [u8]) -> Placed
     requires { ⌜ NumberForm form delta ⌝ }
-    ensures answer { λ r. ⌜ r ≡ placed (allowed form 0 (now (values .entry))) (payloadOf form delta (now (values .entry))) (length (now (buffer .entry))) 12 ⌝ }
-    ensures buffer { λ r. ⌜ now (buffer .exit) ≡ laid (allowed form 0 (now (values .entry))) (payloadOf form delta (now (values .entry))) (now (buffer .entry)) 12 ⌝ }
+    ensures answer { λ r. ⌜ r ≡ placedCells form 0 delta (now (values .entry)) (length (now (buffer .entry))) headerSize ⌝ }
+    ensures buffer { λ r. ⌜ now (buffer .exit) ≡ laidCells form 0 delta (now (values .entry)) (now (buffer .entry)) headerSize ⌝ }
 {
     match form {
-        Form::Plain(size) => write_plain::place_numbers(values, size, buffer, HEADER_BYTES),
-        Form::Packed(size) => write_packed::place_numbers(
+        Form::Plain(size) => writers::plain::place_numbers(
+            values,
+            size,
+            buffer,
+            columns::HEADER_SIZE,
+        ),
+        Form::Packed(size) => writers::packed::place_numbers(
             values,
             size,
             delta,
             buffer,
-            HEADER_BYTES,
+            columns::HEADER_SIZE,
         ),
-        Form::Runs(range) => write_runs::place_numbers(values, range, delta, buffer, HEADER_BYTES),
+        Form::Runs(range) => writers::runs::place_numbers(
+            values,
+            range,
+            delta,
+            buffer,
+            columns::HEADER_SIZE,
+        ),
         Form::Names => Placed::NotAllowed,
     }
 }
@@ -172,14 +177,14 @@ fn make_plan(codec: u32, parameter: u32, elements: usize, wanted: Wanted) -> Pla
                 return Plan::Refused(refusal::CODEC_UNKNOWN);
             }
             if !columns::parameter_ok(p, parameter) {
-                return Plan::Refused(refusal::HEADER_RANGE);
+                return OUT_OF_RANGE;
             }
             if !whole_results(form, parameter as usize, elements) {
-                return Plan::Refused(refusal::HEADER_RANGE);
+                return OUT_OF_RANGE;
             }
             let n = count_results(form, parameter as usize, elements);
             if (columns::LENGTH_LIMIT as usize) < n {
-                return Plan::Refused(refusal::HEADER_RANGE);
+                return OUT_OF_RANGE;
             }
             Plan::Good(form, delta, n as u32, columns::used_parameter(p, parameter))
         }
@@ -221,24 +226,24 @@ fn whole_results(form: Form, parameter: usize, elements: usize) -> bool
 }
 
 // What is said once the payload is placed; where it is, the header is put before it.
-fn finish(placed: Placed, codec: u32, count: u32, parameter: u32, buffer: &mut [u8]) -> Encoded
-    requires { ⌜ Holds (now buffer) placed ⌝ }
+fn finish(placed: Placed, codec: u32, count: u32, parameter: u32, buffer: &mut [u8]) -> Answer
+    requires { ⌜ HoldsPlaced (now buffer) placed ⌝ }
     ensures answer { λ r. ⌜ r ≡ finished placed ⌝ }
     ensures buffer { λ r. ⌜ now (buffer .exit) ≡ headed (headerBytes codec count parameter) (now (buffer .entry)) placed ⌝ }
 {
     match placed {
-        Placed::NotAllowed => Encoded::Refused(refusal::NUMBER_NOT_ALLOWED),
-        Placed::NoRoom => Encoded::Refused(refusal::BUFFER_TOO_SMALL),
+        Placed::NotAllowed => Answer::Refused(refusal::NUMBER_NOT_ALLOWED),
+        Placed::NoRoom => Answer::Refused(refusal::BUFFER_TOO_SMALL),
         Placed::Bytes(n) => {
             write_header(buffer, codec, count, parameter);
-            Encoded::Written(HEADER_BYTES + n)
+            Answer::Count(columns::HEADER_SIZE + n)
         }
     }
 }
 
-// The header's 12 bytes.
+// The bytes of the header.
 fn write_header(buffer: &mut [u8], codec: u32, count: u32, parameter: u32)
-    requires { ⌜ 12 ≤ length (now buffer) ⌝ }
+    requires { ⌜ headerSize ≤ length (now buffer) ⌝ }
     ensures { λ r. ⌜ now (buffer .exit) ≡ over (now (buffer .entry)) 0 (headerBytes codec count parameter) ⌝ }
 {
     numbers::write_u32(buffer, 0, codec);

@@ -5,25 +5,59 @@ use mathlib.Core.Bool.{Bool, true, false, cond, _&&_}
 use mathlib.Core.List.{List, [], _∷_}
 use mathlib.Core.Option.{Option, some, none as nothing}
 use Prim.Native.Nat.{ℕ, zero, suc, _+_, _*_, _≤_}
-use lib.Dec.{eqb, leb}
+use Prim.Native.String as Text
+use lib.Dec.{eqb, leb, ltb}
 use lib.ListN.{getD}
 use Rattle.refusal.specs.Table.{accepted, fieldMissing, fieldType, versionNot1}
+use Rattle.text.specs.Ascii.{ascii}
+use Rattle.text.specs.Equal.{equal}
 use Rattle.messagepack.specs.Document.{Document, Entries}
-use Rattle.values.specs.Parts.{textOf}
-use Rattle.utf8.specs.Ascii.{ascii}
-use Rattle.fields.specs.Types.{FieldType, Rows, plain, last, row, look, Has, Fits}
+use Rattle.values.specs.Parts.{textOf, look}
+use Rattle.fields.specs.Types.{FieldType, Rows, plain, last, row, Has, Fits}
 use Rattle.fields.specs.Tests.{isThere, have, fitting}
-use Rattle.fields.specs.Table.{named}
+use Rattle.fields.specs.Table.{named, fieldCount}
+
+-- how many rows there are
+unfoldable pub rowCount : Rows → ℕ
+rowCount last = 0
+rowCount (row k q t rows) = suc (rowCount rows)
+
+-- the first row with a name, by its place; the number of rows if there is none
+unfoldable pub findRow : List ℕ → Rows → ℕ
+findRow k last = 0
+findRow k (row l q t rows) = cond (equal k l) 0 (suc (findRow k rows))
+
+-- is a name that of a required row?
+unfoldable pub isRequired : List ℕ → Rows → Bool
+isRequired k last = false
+isRequired k (row l q t rows) = cond (equal k l) q (isRequired k rows)
+
+-- the type of the row with a name, if there is one
+unfoldable pub typeUnder : List ℕ → Rows → Option FieldType
+typeUnder k last = nothing
+typeUnder k (row l q t rows) = cond (equal k l) (some t) (typeUnder k rows)
 
 -- the value under the key of row i
-unfoldable pub valueOf : ℕ → Rows → Entries → Option Document
-valueOf i last es = nothing
-valueOf zero (row k q t rows) es = look k es
-valueOf (suc i) (row k q t rows) es = valueOf i rows es
+unfoldable pub rowValue : ℕ → Rows → Entries → Option Document
+rowValue i last es = nothing
+rowValue zero (row k q t rows) es = look k es
+rowValue (suc i) (row k q t rows) es = rowValue i rows es
 
--- the value of the named field i, 0 to 38
+-- the number of a named field by its name; of another name the number of named fields
+abbrev pub fieldNumber : Text.String → ℕ
+fieldNumber name = findRow (ascii name) named
+
+-- is a name that of a named field?
+abbrev pub isField : Text.String → Bool
+isField name = ltb (fieldNumber name) fieldCount
+
+-- the value under a name
+abbrev pub field : Text.String → Entries → Option Document
+field name es = look (ascii name) es
+
+-- the value of the named field i
 unfoldable pub fieldAt : ℕ → Entries → Option Document
-fieldAt i es = valueOf i named es
+fieldAt i es = rowValue i named es
 
 -- the type of row i, and past the last row a type that no document has
 unfoldable pub typeIn : ℕ → Rows → FieldType
@@ -61,13 +95,13 @@ unfoldable pub presenceOf : Entries → ℕ
 presenceOf es = setOf (present named es)
 
 -- how many are in a set
-unfoldable pub countOf : List Bool → ℕ
-countOf [] = 0
-countOf (b ∷ bs) = bit b + countOf bs
+unfoldable pub memberCount : List Bool → ℕ
+memberCount [] = 0
+memberCount (b ∷ bs) = bit b + memberCount bs
 
 -- how many named fields are present
 unfoldable pub presentCount : Entries → ℕ
-presentCount es = countOf (present named es)
+presentCount es = memberCount (present named es)
 
 -- the bytes of a value that is a string or a binary; of another, or where there is none, no bytes
 abbrev pub textIn : Option Document → List ℕ
@@ -76,7 +110,7 @@ textIn nothing = []
 
 -- the text of mmtfVersion
 abbrev pub versionOf : Entries → List ℕ
-versionOf es = textIn (look (ascii "mmtfVersion") es)
+versionOf es = textIn (field "mmtfVersion" es)
 
 -- the major version is 1: the text begins with "1." and a digit
 pub record VersionOne (t : List ℕ) : Type 0 where

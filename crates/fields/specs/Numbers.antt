@@ -6,17 +6,17 @@ use Prim.Native.Nat.{ℕ, zero, suc, _+_, _*_, _/_, _%_, _^_}
 use lib.Bits.{bitOr}
 use lib.Dec.{eqb, ltb}
 use lib.ListN.{length, getD, drop}
+use Rattle.text.specs.Equal.{equal}
 use Rattle.heads.specs.Table.{valuesFrom}
 use Rattle.messagepack.specs.Document.{Document}
-use Rattle.messagepack.specs.Equal.{equal}
 use Rattle.fields.specs.Types.{FieldType, Rows, plain, arrayOf, exactly, mapWith, last, row}
 use Rattle.fields.specs.Table.{groupRows, transformRows, assemblyRows, entityRows, named}
 use Rattle.fields.specs.Tests.{typed}
 use Rattle.fields.specs.Fields.{bit}
 
 -- how many types have a number
-abbrev pub typeCount : ℕ
-typeCount = 17
+abbrev pub codeCount : ℕ
+codeCount = 17
 
 -- three bytes for each: 0 a value of a kind, 1 an array of values of a kind, 2 an array of exactly so many, 3 an array of values of a type,
 -- 4 a map; then how many values or rows; then the kind, the type or the first row
@@ -33,15 +33,15 @@ typeCells =
     ∷ []
 
 -- a name in so many bytes, with dots after it
-abbrev pub padded : ℕ → List ℕ → List ℕ
-padded zero k = []
-padded (suc n) [] = 0x2e ∷ padded n []
-padded (suc n) (b ∷ k) = b ∷ padded n k
+abbrev pub dotted : ℕ → List ℕ → List ℕ
+dotted zero k = []
+dotted (suc n) [] = 0x2e ∷ dotted n []
+dotted (suc n) (b ∷ k) = b ∷ dotted n k
 
 -- 22 bytes for each row: the length of its name, 1 if it is required, the number of its type, and its name
 unfoldable pub rowCells : Rows → List ℕ → List ℕ
 rowCells last codes = []
-rowCells (row k q t rows) codes = (length k ∷ bit q ∷ getD codes 0 0 ∷ padded 19 k) ++ rowCells rows (drop 1 codes)
+rowCells (row k q t rows) codes = (length k ∷ bit q ∷ getD codes 0 0 ∷ dotted 19 k) ++ rowCells rows (drop 1 codes)
 
 -- the whole table: the types, the rows of the inner maps, and the named fields last, from row 16 on
 unfoldable pub typeTable : List ℕ
@@ -58,32 +58,32 @@ abbrev pub firstField : ℕ
 firstField = 16
 
 -- a byte of the table, 0 past its end
-unfoldable pub cellOf : ℕ → ℕ
-cellOf i = getD typeTable i 0
+unfoldable pub tableByte : ℕ → ℕ
+tableByte i = getD typeTable i 0
 
 -- the three numbers of a type
 abbrev pub tagOf : ℕ → ℕ
-tagOf c = cellOf (c * 3)
+tagOf c = tableByte (c * 3)
 
 abbrev pub manyOf : ℕ → ℕ
-manyOf c = cellOf (c * 3 + 1) % 64
+manyOf c = tableByte (c * 3 + 1) % 64
 
 abbrev pub insideOf : ℕ → ℕ
-insideOf c = cellOf (c * 3 + 2)
+insideOf c = tableByte (c * 3 + 2)
 
 -- where a row starts
 abbrev pub rowAt : ℕ → ℕ
-rowAt r = r * 22 + 51
+rowAt r = r * 22 + codeCount * 3
 
 -- a row's name, whether it is required, and the number of its type
 unfoldable pub nameOf : ℕ → List ℕ
-nameOf r = valuesFrom (λ j. cellOf (rowAt r + 3 + j)) 0 (cellOf (rowAt r))
+nameOf r = valuesFrom (λ j. tableByte (rowAt r + 3 + j)) 0 (tableByte (rowAt r))
 
 abbrev pub needOf : ℕ → Bool
-needOf r = eqb (cellOf (rowAt r + 1)) 1
+needOf r = eqb (tableByte (rowAt r + 1)) 1
 
 abbrev pub codeOf : ℕ → ℕ
-codeOf r = cellOf (rowAt r + 2)
+codeOf r = tableByte (rowAt r + 2)
 
 -- n rows from r on, with types by f
 unfoldable pub rowsFrom : (ℕ → FieldType) → ℕ → ℕ → Rows
@@ -101,21 +101,11 @@ build f (suc (suc (suc (suc tag)))) many inside = mapWith (rowsFrom f many insid
 -- the type of a number, of at most so many levels; no document has the type 0
 unfoldable pub typeOf : ℕ → ℕ → FieldType
 typeOf zero c = plain 0
-typeOf (suc d) c = cond (ltb c typeCount) (build (typeOf d) (tagOf c) (manyOf c) (insideOf c)) (plain 0)
+typeOf (suc d) c = cond (ltb c codeCount) (build (typeOf d) (tagOf c) (manyOf c) (insideOf c)) (plain 0)
 
 -- the levels of the deepest type
 abbrev pub typeDepth : ℕ
 typeDepth = 5
-
--- how many rows there are
-unfoldable pub rowCount : Rows → ℕ
-rowCount last = 0
-rowCount (row k q t rows) = suc (rowCount rows)
-
--- the first row with a name, by its place; the number of rows if there is none
-unfoldable pub findRow : List ℕ → Rows → ℕ
-findRow k last = 0
-findRow k (row l q t rows) = cond (equal k l) 0 (suc (findRow k rows))
 
 -- has the document the type of row i? No row asks nothing
 unfoldable pub rowTest : ℕ → Rows → Document → Bool

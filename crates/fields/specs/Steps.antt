@@ -24,17 +24,17 @@ abbrev pub endsIf : Bool → ℕ → Typed
 endsIf true e = Typed.Ends e
 endsIf false e = Typed.Wrong
 
--- the number of a kind, as `Types.kindNumber` has it of a document; 0 of no kind
-abbrev pub numberOf : Kind → ℕ
-numberOf Kind.Unsigned = 1
-numberOf Kind.Signed = 1
-numberOf Kind.Float = 2
-numberOf Kind.Str = 3
-numberOf Kind.Bin = 4
-numberOf Kind.Array = 5
-numberOf Kind.Map = 6
-numberOf Kind.Outside = 0
-numberOf Kind.Missing = 0
+-- the number of a kind, as `Types.documentKind` has it of a document; 0 of no kind
+abbrev pub headKind : Kind → ℕ
+headKind Kind.Unsigned = 1
+headKind Kind.Signed = 1
+headKind Kind.Float = 2
+headKind Kind.Str = 3
+headKind Kind.Bin = 4
+headKind Kind.Array = 5
+headKind Kind.Map = 6
+headKind Kind.Outside = 0
+headKind Kind.Missing = 0
 
 -- has a value of a kind a body after its head: is it a string or a binary?
 abbrev pub hasBody : ℕ → Bool

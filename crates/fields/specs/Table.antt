@@ -86,3 +86,7 @@ named =
 -- how many they are
 abbrev pub fieldCount : ℕ
 fieldCount = 39
+
+-- how many of them are required
+abbrev pub requiredFields : ℕ
+requiredFields = 16

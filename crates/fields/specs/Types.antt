@@ -1,14 +1,14 @@
 -- Types of fields, and when a document has one (paper 01, "Fields, in order"). The contracts of this crate and the acceptance of a file cite
 -- it. No reader, no place and no lemma stands here. Assumes nothing.
 use mathlib.Core.Path.{_≡_}
-use mathlib.Core.Bool.{Bool, true, false, cond}
+use mathlib.Core.Bool.{Bool, true, false}
 use mathlib.Core.List.{List}
-use mathlib.Core.Option.{Option, some, none as nothing}
+use mathlib.Core.Option.{some}
 use Prim.Native.Nat.{ℕ}
 use Prim.Native.String as Text
-use Rattle.utf8.specs.Ascii.{ascii}
-use Rattle.messagepack.specs.Document.{Document, Documents, Entries, integer, float, string, binary, array, map, none, item, empty, entry, count}
-use Rattle.messagepack.specs.Equal.{equal}
+use Rattle.text.specs.Ascii.{ascii}
+use Rattle.messagepack.specs.Document.{Document, Documents, Entries, integer, float, string, binary, array, map, none, item, count}
+use Rattle.values.specs.Parts.{look}
 
 -- a type: a value of one kind, an array of values of a type, an array of exactly so many of them, or a map with named keys
 mutual
@@ -24,13 +24,13 @@ mutual
     row : List ℕ → Bool → FieldType → Rows → Rows
 
 -- the kind of a document: 1 an integer, 2 a float, 3 a string, 4 a binary, 5 an array, 6 a map
-abbrev pub kindNumber : Document → ℕ
-kindNumber (integer v) = 1
-kindNumber (float bits) = 2
-kindNumber (string t) = 3
-kindNumber (binary t) = 4
-kindNumber (array ds) = 5
-kindNumber (map es) = 6
+abbrev pub documentKind : Document → ℕ
+documentKind (integer v) = 1
+documentKind (float bits) = 2
+documentKind (string t) = 3
+documentKind (binary t) = 4
+documentKind (array ds) = 5
+documentKind (map es) = 6
 
 abbrev pub anInteger : FieldType
 anInteger = plain 1
@@ -55,11 +55,6 @@ infixr 20 _then_
 abbrev pub _then_ : (Rows → Rows) → Rows → Rows
 f then rows = f rows
 
--- the value under a key: the first, though by the rules of a container there is one at most
-unfoldable pub look : List ℕ → Entries → Option Document
-look k empty = nothing
-look k (entry l x es) = cond (equal l k) (some x) (look k es)
-
 -- each value of an array
 unfoldable pub Each : (Document → Type 0) → Documents → Type 0
 Each P none = Unit {0}
@@ -74,7 +69,7 @@ Has (row k false t rows) es = Has rows es
 -- a document has a type
 unfoldable mutual
   pub HasType : FieldType → Document → Type 0
-  HasType (plain k) x = kindNumber x ≡ k
+  HasType (plain k) x = documentKind x ≡ k
   HasType (arrayOf t) x = record { values : Documents; is : x ≡ array values; each : Each (λ d. HasType t d) values }
   HasType (exactly n t) x = record { values : Documents; is : x ≡ array values; many : count values ≡ n; each : Each (λ d. HasType t d) values }
   HasType (mapWith rows) x = record { entries : Entries; is : x ≡ map entries; has : Has rows entries; fits : Fits rows entries }

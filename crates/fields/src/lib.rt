@@ -3,27 +3,106 @@
 // and lent. Values, arrays and maps are gone through by functions that call each other, the levels left falling. Each function takes any bytes
 // and any place, and promises a meaning for a file that has been walked (`Walked.antt` of values).
 ghost use mathlib.Core.Path.{_≡_};
-ghost use mathlib.Core.Bool.{true, false, _&&_};
+ghost use mathlib.Core.Bool.{true, false};
 ghost use mathlib.Core.List.{List};
 ghost use Prim.Native.Nat.{ℕ, _+_, _*_, _≤_, _<_};
 ghost use lib.ListN.{length, take, drop, set};
-ghost use Rattle.messagepack.specs.Equal.{equal};
+ghost use Rattle.text.specs.Equal.{equal};
 ghost use Rattle.values.specs.Walked.{Walked, WalkedEntries, WalkedBy};
 ghost use Rattle.fields.specs.Types.{FieldType, plain};
 ghost use Rattle.fields.specs.Table.{fieldCount};
 ghost use Rattle.fields.specs.Tests.{typed};
-ghost use Rattle.fields.specs.Fields.{fieldTypeOf, isVersionOne, fieldsNumber};
+ghost use Rattle.fields.specs.Fields.{fieldTypeOf, isVersionOne, fieldsNumber, findRow};
 ghost use Rattle.fields.specs.Noted.{Noted};
-ghost use Rattle.fields.specs.Numbers.{typeTable, cellOf, nameOf, rowsFrom, typeOf, findRow, rowTest, build, covered, marked, lacking, distinctNames};
-ghost use Rattle.fields.specs.Steps.{numberOf, hasBody, plainEnd, ValueSays, ItemsSay, EntriesSay, RowSays, noPlaces};
+ghost use Rattle.fields.specs.Numbers.{typeTable, nameOf, rowsFrom, typeOf, rowTest, build, covered, marked, lacking, distinctNames, tableByte};
+ghost use Rattle.fields.specs.Steps.{headKind, hasBody, plainEnd, ValueSays, ItemsSay, EntriesSay, RowSays, noPlaces};
 use heads::Head;
 use heads::Kind;
 
 // How many fields are named.
-pub const FIELD_COUNT: usize = 39;
+pub const FIELD_COUNT: usize = ENTITY_LIST + 1;
 
-// The number of mmtfVersion among the named fields.
-const MMTF_VERSION: usize = 0;
+// How many of them are required: those that come first.
+pub const REQUIRED_FIELDS: usize = CHAINS_PER_MODEL + 1;
+
+// The named fields by their numbers, in the order of paper 01.
+pub const MMTF_VERSION: usize = 0;
+
+pub const MMTF_PRODUCER: usize = MMTF_VERSION + 1;
+
+pub const NUM_BONDS: usize = MMTF_PRODUCER + 1;
+
+pub const NUM_ATOMS: usize = NUM_BONDS + 1;
+
+pub const NUM_GROUPS: usize = NUM_ATOMS + 1;
+
+pub const NUM_CHAINS: usize = NUM_GROUPS + 1;
+
+pub const NUM_MODELS: usize = NUM_CHAINS + 1;
+
+pub const GROUP_LIST: usize = NUM_MODELS + 1;
+
+pub const X_COORD_LIST: usize = GROUP_LIST + 1;
+
+pub const Y_COORD_LIST: usize = X_COORD_LIST + 1;
+
+pub const Z_COORD_LIST: usize = Y_COORD_LIST + 1;
+
+pub const GROUP_ID_LIST: usize = Z_COORD_LIST + 1;
+
+pub const GROUP_TYPE_LIST: usize = GROUP_ID_LIST + 1;
+
+pub const CHAIN_ID_LIST: usize = GROUP_TYPE_LIST + 1;
+
+pub const GROUPS_PER_CHAIN: usize = CHAIN_ID_LIST + 1;
+
+pub const CHAINS_PER_MODEL: usize = GROUPS_PER_CHAIN + 1;
+
+pub const BOND_ATOM_LIST: usize = CHAINS_PER_MODEL + 1;
+
+pub const BOND_ORDER_LIST: usize = BOND_ATOM_LIST + 1;
+
+pub const B_FACTOR_LIST: usize = BOND_ORDER_LIST + 1;
+
+pub const ATOM_ID_LIST: usize = B_FACTOR_LIST + 1;
+
+pub const ALT_LOC_LIST: usize = ATOM_ID_LIST + 1;
+
+pub const OCCUPANCY_LIST: usize = ALT_LOC_LIST + 1;
+
+pub const SEC_STRUCT_LIST: usize = OCCUPANCY_LIST + 1;
+
+pub const INS_CODE_LIST: usize = SEC_STRUCT_LIST + 1;
+
+pub const SEQUENCE_ID_LIST: usize = INS_CODE_LIST + 1;
+
+pub const CHAIN_NAME_LIST: usize = SEQUENCE_ID_LIST + 1;
+
+pub const TITLE: usize = CHAIN_NAME_LIST + 1;
+
+pub const STRUCTURE_ID: usize = TITLE + 1;
+
+pub const SPACE_GROUP: usize = STRUCTURE_ID + 1;
+
+pub const DEPOSITION_DATE: usize = SPACE_GROUP + 1;
+
+pub const RELEASE_DATE: usize = DEPOSITION_DATE + 1;
+
+pub const RESOLUTION: usize = RELEASE_DATE + 1;
+
+pub const R_FREE: usize = RESOLUTION + 1;
+
+pub const R_WORK: usize = R_FREE + 1;
+
+pub const UNIT_CELL: usize = R_WORK + 1;
+
+pub const EXPERIMENTAL_METHODS: usize = UNIT_CELL + 1;
+
+pub const NCS_OPERATOR_LIST: usize = EXPERIMENTAL_METHODS + 1;
+
+pub const BIO_ASSEMBLY_LIST: usize = NCS_OPERATOR_LIST + 1;
+
+pub const ENTITY_LIST: usize = BIO_ASSEMBLY_LIST + 1;
 
 // What a pass over a file's entries notes of the named fields: where each one's value stands, 0 where it is absent; the set of those present,
 // a bit for each; whether each of them has its type.
@@ -64,7 +143,7 @@ pub fn note(leads: &[u8; 256], file: &[u8], count: usize, at: usize) -> Fields
         let judged = judge(leads, file, &types, value, row);
         put_place(&mut places, row, value);
         presence = mark(FIELD_COUNT, presence, row);
-        typed = both(typed, judged.typed);
+        typed = numbers::both(typed, judged.typed);
         p = judged.end;
         left -= 1;
     }
@@ -147,13 +226,6 @@ fn put_place(places: &mut [usize; FIELD_COUNT], row: usize, place: usize)
     }
 }
 
-// Are both true?
-fn both(a: bool, b: bool) -> bool
-    ensures { λ r. ⌜ r ≡ (a && b) ⌝ }
-{
-    if a { b } else { false }
-}
-
 // A set of n with i in it, if i is below n.
 fn mark(n: usize, seen: u64, i: usize) -> u64
     requires { ⌜ n < 64 ⌝ }
@@ -224,7 +296,7 @@ fn typed_at(
     if depth == 0 {
         return Typed::Wrong;
     }
-    if TYPE_COUNT <= code {
+    if CODE_COUNT <= code {
         return Typed::Wrong;
     }
     let tag = cell(types, code * 3);
@@ -236,14 +308,14 @@ fn typed_at(
     let Head::At(n, p) = heads::head_at(leads, file, at) else {
         return Typed::Wrong;
     };
-    let kind = kind_number(heads::kind_at(leads, file, at));
+    let kind = head_kind(heads::kind_at(leads, file, at));
     if tag == 3 {
-        if kind != 5 {
+        if kind != ARRAY {
             return Typed::Wrong;
         }
         return items_typed(leads, file, types, n, p, inside, depth - 1);
     }
-    if kind != 6 {
+    if kind != MAP {
         return Typed::Wrong;
     }
     entries_typed(leads, file, types, n, p, inside, many, depth - 1)
@@ -327,8 +399,8 @@ fn simple_at(
     let Head::At(n, p) = heads::head_at(leads, file, at) else {
         return Typed::Wrong;
     };
-    let kind = kind_number(heads::kind_at(leads, file, at));
-    if kind != 5 {
+    let kind = head_kind(heads::kind_at(leads, file, at));
+    if kind != ARRAY {
         return Typed::Wrong;
     }
     if tag == 1 {
@@ -345,7 +417,7 @@ fn plain_items(leads: &[u8; 256], file: &[u8], count: usize, at: usize, wanted: 
     requires { ⌜ wanted ≤ 4 ⌝ }
     ensures { λ r. ⌜ ItemsSay (now (leads .entry)) (now (file .entry)) (typed (plain wanted)) count at r ⌝ }
 {
-    if wanted == 1 {
+    if wanted == INTEGER {
         if values::all_low(file, at, count) {
             return Typed::Ends(at + count);
         }
@@ -389,14 +461,14 @@ fn quick_end(file: &[u8], at: usize, wanted: usize) -> usize
     if file.len() <= at {
         return 0;
     }
-    let b = wide(file[at]);
-    if wanted == 1 {
+    let b = numbers::u8_to_usize(file[at]);
+    if wanted == INTEGER {
         if b < 0x80 {
             return at + 1;
         }
         return 0;
     }
-    if wanted != 3 {
+    if wanted != STRING {
         return 0;
     }
     if b < 0xa0 {
@@ -420,7 +492,7 @@ fn headed_at(leads: &[u8; 256], file: &[u8], at: usize, wanted: usize) -> Typed
     let Head::At(n, p) = heads::head_at(leads, file, at) else {
         return Typed::Wrong;
     };
-    let kind = kind_number(heads::kind_at(leads, file, at));
+    let kind = head_kind(heads::kind_at(leads, file, at));
     plain_end(file, kind, wanted, n, p)
 }
 
@@ -447,21 +519,21 @@ fn plain_end(file: &[u8], kind: usize, wanted: usize, n: usize, p: usize) -> Typ
 fn has_body(kind: usize) -> bool
     ensures { λ r. ⌜ r ≡ hasBody kind ⌝ }
 {
-    kind == 3 || kind == 4
+    kind == STRING || kind == BINARY
 }
 
-// The number of a kind.
-fn kind_number(kind: Kind) -> usize
-    ensures { λ r. ⌜ r ≡ numberOf kind ⌝ }
+// The kind of the document that a head of a kind begins, by its number; 0 of no kind.
+fn head_kind(kind: Kind) -> usize
+    ensures { λ r. ⌜ r ≡ headKind kind ⌝ }
 {
     match kind {
-        Kind::Unsigned => 1,
-        Kind::Signed => 1,
-        Kind::Float => 2,
-        Kind::Str => 3,
-        Kind::Bin => 4,
-        Kind::Array => 5,
-        Kind::Map => 6,
+        Kind::Unsigned => INTEGER,
+        Kind::Signed => INTEGER,
+        Kind::Float => FLOAT,
+        Kind::Str => STRING,
+        Kind::Bin => BINARY,
+        Kind::Array => ARRAY,
+        Kind::Map => MAP,
         Kind::Outside => 0,
         Kind::Missing => 0,
     }
@@ -500,7 +572,7 @@ fn is_name(types: &[u8; TABLE_SIZE], file: &[u8], a: usize, m: usize, row: usize
     }
     let mut i: usize = 0;
     while i < m {
-        if wide(file[a + i]) != cell(types, start + 3 + i) {
+        if numbers::u8_to_usize(file[a + i]) != cell(types, start + 3 + i) {
             return false;
         }
         i += 1;
@@ -538,18 +610,14 @@ fn lacks(need: usize, seen: u64) -> bool
 // A byte of the table; 0 past its end.
 fn cell(types: &[u8; TABLE_SIZE], i: usize) -> usize
     requires { ⌜ now types ≡ typeTable ⌝ }
-    ensures is { λ r. ⌜ r ≡ cellOf i ⌝ }
+    ensures is { λ r. ⌜ r ≡ tableByte i ⌝ }
     ensures byte { λ r. ⌜ r < 256 ⌝ }
 {
-    if i < TABLE_SIZE { wide(types[i]) } else { 0 }
-}
-
-// A byte as a larger number.
-fn wide(x: u8) -> usize
-    ensures is { λ r. ⌜ r ≡ x ⌝ }
-    ensures byte { λ r. ⌜ r < 256 ⌝ }
-{
-    x as usize
+    if i < TABLE_SIZE {
+        numbers::u8_to_usize(types[i])
+    } else {
+        0
+    }
 }
 
 // The table of types.
@@ -559,20 +627,33 @@ fn types() -> [u8; TABLE_SIZE]
     TYPES
 }
 
+// The kinds of documents by their numbers.
+const INTEGER: usize = 1;
+
+const FLOAT: usize = 2;
+
+const STRING: usize = 3;
+
+const BINARY: usize = 4;
+
+const ARRAY: usize = 5;
+
+const MAP: usize = 6;
+
 // The row of the first named field, how many types have a number, and the levels of the deepest.
 const FIRST_FIELD: usize = 16;
 
-const TYPE_COUNT: usize = 17;
+const CODE_COUNT: usize = 17;
 
 const TYPE_DEPTH: usize = 5;
 
 // Where the first row starts in the table, and the bytes of a row.
-const ROWS_AT: usize = 51;
+const ROWS_AT: usize = CODE_COUNT * 3;
 
 const ROW_SIZE: usize = 22;
 
 // The bytes of the table.
-const TABLE_SIZE: usize = 1261;
+const TABLE_SIZE: usize = ROWS_AT + (FIRST_FIELD + FIELD_COUNT) * ROW_SIZE;
 
 // Three bytes for each type: 0 a value of a kind, 1 an array of values of a kind, 2 an array of exactly so many, 3 an array of values of a type,
 // 4 a map; then how many values or rows; then the kind, the type or the first row. After these 22 bytes for each row: the length of its name,

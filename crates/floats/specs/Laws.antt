@@ -1,5 +1,4 @@
--- Laws. Assumes nothing.
-pub mod Tests
+-- What is proved of the definitions of `floats`.
 pub mod Table
 pub mod Quotient
 pub mod Calls

@@ -1,3 +1,4 @@
--- What the decoder of floats answers and leaves.
+-- A real column as floats: `Calls`. `Steps` is for the code inside.
 pub mod Calls
+pub mod Steps
 pub mod Laws

@@ -7,50 +7,37 @@ ghost use Prim.Native.Nat.{_+_, _≤_};
 ghost use lib.ListN.{length, replicate};
 ghost use lib.IntN.{pos};
 ghost use lib.Dec.{T};
-ghost use lib.Ieee.{binary32, ofBits};
 ghost use lib.Ieee.Positive.{positive};
-ghost use Rattle.columns.specs.Decode.{decode, judgedPayload};
-ghost use Rattle.payloads.specs.Held.{exact, allExact};
+ghost use Rattle.steps.specs.Delta.{resultsFrom};
+ghost use Rattle.columns.specs.Decode.{decode};
 ghost use Rattle.payloads.specs.Scan.{judgesExact};
-ghost use Rattle.payloads.specs.Results.{resultsFrom, Filled, HasRoom, HasResults, Covered};
-ghost use Rattle.floats.specs.Calls.{kept, bitsBy, exactly, told, left, Wrote, ResultsExact};
-use codecs::Form;
-use codecs::Range;
-use codecs::Size;
+ghost use Rattle.payloads.specs.Results.{Filled, HasRoom, HasResults, Covered, Wrote};
+ghost use Rattle.payloads.specs.Exact.{exact, allExact};
+ghost use Rattle.columns.specs.Buffer.{decodedAnswer, decodedBuffer};
+ghost use Rattle.floats.specs.Calls.{kept, exactly, floatBits};
+ghost use Rattle.floats.specs.Steps.{bitsBy, keptPayload, quotientPayload, Divisible, DivisibleRuns};
+use columns::HEADER_SIZE;
 use columns::Header;
 use columns::Kind;
 use columns::Wanted;
 use payloads::Item;
 use payloads::Outcome;
-
-// How many floats were written, or the refusal.
-pub enum Floats {
-    Count(usize),
-    Refused(u8),
-}
+use refusal::Answer;
+use steps::Form;
+use steps::Range;
+use steps::Size;
 
 // The floats of a real column (codecs 1, 9 to 13), as their bits.
-pub fn decode_float32(column: &[u8], buffer: &mut [u32]) -> Floats
-    ensures answer { λ r. ⌜ r ≡ told (exactly (decode Wanted.Real (now (column .entry)))) (length (now (buffer .entry))) ⌝ }
-    ensures buffer { λ r. ⌜ now (buffer .exit) ≡ left (exactly (decode Wanted.Real (now (column .entry)))) (now (buffer .entry)) ⌝ }
+pub fn decode_float32(column: &[u8], buffer: &mut [u32]) -> Answer
+    ensures answer { λ r. ⌜ r ≡ decodedAnswer (exactly (decode Wanted.Real (now (column .entry)))) (length (now (buffer .entry))) ⌝ }
+    ensures buffer { λ r. ⌜ now (buffer .exit) ≡ decodedBuffer floatBits (exactly (decode Wanted.Real (now (column .entry)))) (now (buffer .entry)) ⌝ }
 {
     match columns::read_header(column, Wanted::Real) {
-        Header::Refused(r) => Floats::Refused(r),
+        Header::Refused(r) => Answer::Refused(r),
         Header::Good(n, m, kind, form, delta) => match kind {
-            Kind::FixedPoint => quotients_in(&column[12..], n, m, form, delta, buffer),
-            _ => kept_in(&column[12..], n, m, buffer),
+            Kind::FixedPoint => quotients_in(&column[HEADER_SIZE..], n, m, form, delta, buffer),
+            _ => kept_in(&column[HEADER_SIZE..], n, m, buffer),
         },
-    }
-}
-
-// The float of a bit pattern; a NaN's pattern gives a NaN.
-pub fn of_bits(bits: u32) -> f32
-    ensures { λ r. ⌜ r ≡ ofBits binary32 bits ⌝ }
-{
-    if bits % 0x8000_0000 <= 0x7f80_0000 {
-        f32::from_bits(bits)
-    } else {
-        0.0 / 0.0
     }
 }
 
@@ -59,25 +46,25 @@ pub fn are_exact(cells: bool, divisor: u32) -> bool
     ensures { λ r. ⌜ r ≡ (cells && exact (pos divisor)) ⌝ }
 {
     if cells {
-        return divisor <= 16777216;
+        return divisor <= (payloads::EXACT_LIMIT as u32);
     }
     false
 }
 
 // The floats of a payload of codec 1 whose header passed.
-fn kept_in(payload: &[u8], n: usize, m: u32, buffer: &mut [u32]) -> Floats
-    ensures answer { λ r. ⌜ r ≡ told (exactly (judgedPayload (Header.Good n m Kind.Float32 (Form.Plain Size.Four) false) (now (payload .entry)))) (length (now (buffer .entry))) ⌝ }
-    ensures buffer { λ r. ⌜ now (buffer .exit) ≡ left (exactly (judgedPayload (Header.Good n m Kind.Float32 (Form.Plain Size.Four) false) (now (payload .entry)))) (now (buffer .entry)) ⌝ }
+fn kept_in(payload: &[u8], n: usize, m: u32, buffer: &mut [u32]) -> Answer
+    ensures answer { λ r. ⌜ r ≡ decodedAnswer (keptPayload n m (now (payload .entry))) (length (now (buffer .entry))) ⌝ }
+    ensures buffer { λ r. ⌜ now (buffer .exit) ≡ decodedBuffer floatBits (keptPayload n m (now (payload .entry))) (now (buffer .entry)) ⌝ }
 {
     let refused = payloads::refusal_of(payload, Form::Plain(Size::Four), m as usize, n);
     if refused != refusal::ACCEPTED {
-        return Floats::Refused(refused);
+        return Answer::Refused(refused);
     }
     if buffer.len() < n {
-        return Floats::Refused(refusal::BUFFER_TOO_SMALL);
+        return Answer::Refused(refusal::BUFFER_TOO_SMALL);
     }
     write_kept(payload, buffer);
-    Floats::Count(n)
+    Answer::Count(n)
 }
 
 // Writes the 32 bits of each number of a payload.
@@ -102,23 +89,23 @@ fn quotients_in(
     form: Form,
     delta: bool,
     buffer: &mut [u32],
-) -> Floats
+) -> Answer
     requires { ⌜ (judgesExact form delta ≡ true) × (1 ≤ m) ⌝ }
-    ensures answer { λ r. ⌜ r ≡ told (exactly (judgedPayload (Header.Good n m Kind.FixedPoint form delta) (now (payload .entry)))) (length (now (buffer .entry))) ⌝ }
-    ensures buffer { λ r. ⌜ now (buffer .exit) ≡ left (exactly (judgedPayload (Header.Good n m Kind.FixedPoint form delta) (now (payload .entry)))) (now (buffer .entry)) ⌝ }
+    ensures answer { λ r. ⌜ r ≡ decodedAnswer (quotientPayload n m form delta (now (payload .entry))) (length (now (buffer .entry))) ⌝ }
+    ensures buffer { λ r. ⌜ now (buffer .exit) ≡ decodedBuffer floatBits (quotientPayload n m form delta (now (payload .entry))) (now (buffer .entry)) ⌝ }
 {
     match payloads::scan(payload, form, m as usize, delta, n) {
-        Outcome::Refused(r) => Floats::Refused(r),
+        Outcome::Refused(r) => Answer::Refused(r),
         Outcome::Fine(exact) => {
             let fine = are_exact(exact, m);
             if !fine {
-                return Floats::Refused(refusal::NOT_EXACT);
+                return Answer::Refused(refusal::NOT_EXACT);
             }
             if buffer.len() < n {
-                return Floats::Refused(refusal::BUFFER_TOO_SMALL);
+                return Answer::Refused(refusal::BUFFER_TOO_SMALL);
             }
             put_quotients(payload, form, delta, m as f32, n, buffer);
-            Floats::Count(n)
+            Answer::Count(n)
         }
     }
 }
@@ -132,7 +119,7 @@ fn put_quotients(
     n: usize,
     buffer: &mut [u32],
 )
-    requires { ⌜ HasRoom form (now payload) (length (now buffer)) × ResultsExact form delta (now payload) × T (positive divisor) ⌝ }
+    requires { ⌜ Divisible form delta (now payload) (length (now buffer)) divisor ⌝ }
     requires { ⌜ HasResults form (now payload) n × (n ≤ length (now buffer)) × (judgesExact form delta ≡ true) ⌝ }
     ensures { λ r. ⌜ Wrote (bitsBy divisor) form delta (now (payload .entry)) (now (buffer .entry)) (now (buffer .exit)) ⌝ }
 {
@@ -157,17 +144,17 @@ fn put_quotients(
 // Writes the quotients of packed numbers of two bytes, by one total: of the result that has begun, and with delta of those before it
 // too.
 fn write_two(payload: &[u8], delta: bool, divisor: f32, buffer: &mut [u32])
-    requires { ⌜ HasRoom (Form.Packed Size.Two) (now payload) (length (now buffer)) × ResultsExact (Form.Packed Size.Two) delta (now payload) × T (positive divisor) ⌝ }
+    requires { ⌜ Divisible (Form.Packed Size.Two) delta (now payload) (length (now buffer)) divisor ⌝ }
     ensures { λ r. ⌜ Wrote (bitsBy divisor) (Form.Packed Size.Two) delta (now (payload .entry)) (now (buffer .entry)) (now (buffer .exit)) ⌝ }
 {
     let mut i: usize = 0;
     let mut o: usize = 0;
     let mut total: i32 = 0;
     while 2 <= payload.len() - i {
-        let number = codecs::number_at(payload, i, Size::Two);
+        let number = steps::number_at(payload, i, Size::Two);
         i += 2;
-        total = codecs::add_delta(total, number);
-        if !codecs::is_limit(number, Size::Two) {
+        total = steps::add_delta(total, number);
+        if !steps::is_limit(number, Size::Two) {
             buffer[o] = quotient_bits(total, divisor);
             o += 1;
             total = payloads::total_after(total, delta);
@@ -177,7 +164,7 @@ fn write_two(payload: &[u8], delta: bool, divisor: f32, buffer: &mut [u32])
 
 // Writes the quotients of n results in runs, with one division for each run.
 fn write_runs(payload: &[u8], range: Range, divisor: f32, n: usize, buffer: &mut [u32])
-    requires { ⌜ HasResults (Form.Runs range) (now payload) n × (n ≤ length (now buffer)) × ResultsExact (Form.Runs range) false (now payload) × T (positive divisor) ⌝ }
+    requires { ⌜ DivisibleRuns range (now payload) n (length (now buffer)) divisor ⌝ }
     ensures { λ r. ⌜ Wrote (bitsBy divisor) (Form.Runs range) false (now (payload .entry)) (now (buffer .entry)) (now (buffer .exit)) ⌝ }
 {
     let mut at: usize = 0;
@@ -226,7 +213,7 @@ fn fill_bits(buffer: &mut [u32], from: usize, count: usize, bits: u32)
 
 // Writes the quotients of a payload, item by item.
 fn write_quotients(payload: &[u8], form: Form, delta: bool, divisor: f32, buffer: &mut [u32])
-    requires { ⌜ HasRoom form (now payload) (length (now buffer)) × ResultsExact form delta (now payload) × T (positive divisor) ⌝ }
+    requires { ⌜ Divisible form delta (now payload) (length (now buffer)) divisor ⌝ }
     ensures { λ r. ⌜ Wrote (bitsBy divisor) form delta (now (payload .entry)) (now (buffer .entry)) (now (buffer .exit)) ⌝ }
 {
     let mut at: usize = 0;

@@ -12,16 +12,16 @@ use Rattle.heads.specs.declared.Kind.{Kind}
 use Rattle.heads.specs.declared.Head.{Head}
 
 -- a kind's number in the table of kinds, which only tells kinds apart; `Missing`, which is no lead byte's, never stands in it
-abbrev pub kindNumber : Kind → ℕ
-kindNumber Kind.Unsigned = 1
-kindNumber Kind.Signed = 2
-kindNumber Kind.Float = 3
-kindNumber Kind.Str = 4
-kindNumber Kind.Bin = 5
-kindNumber Kind.Array = 6
-kindNumber Kind.Map = 7
-kindNumber Kind.Outside = 0
-kindNumber Kind.Missing = 0
+abbrev pub kindCell : Kind → ℕ
+kindCell Kind.Unsigned = 1
+kindCell Kind.Signed = 2
+kindCell Kind.Float = 3
+kindCell Kind.Str = 4
+kindCell Kind.Bin = 5
+kindCell Kind.Array = 6
+kindCell Kind.Map = 7
+kindCell Kind.Outside = 0
+kindCell Kind.Missing = 0
 
 -- the kind of a number in the table
 abbrev pub kindFrom : ℕ → Kind
@@ -39,7 +39,7 @@ valuesFrom f i (suc n) = f i ∷ valuesFrom f (suc i) n
 
 -- the table of kinds: the number of the kind of each of the 256 lead bytes
 unfoldable pub kindTable : List ℕ
-kindTable = valuesFrom (λ b. kindNumber (kindOf b)) 0 256
+kindTable = valuesFrom (λ b. kindCell (kindOf b)) 0 256
 
 -- the table of head sizes: a head is its lead byte and the bytes of its number
 unfoldable pub sizeTable : List ℕ

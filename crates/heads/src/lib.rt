@@ -52,7 +52,7 @@ pub fn kind_at(leads: &[u8; 256], file: &[u8], at: usize) -> Kind
     ensures rule { λ r. ⌜ (now (leads .entry) ≡ leadTable → r ≡ kindAt (now (file .entry)) at) ⌝ }
 {
     if at < file.len() {
-        kind_of(leads[wide(file[at])])
+        kind_of(leads[numbers::u8_to_usize(file[at])])
     } else {
         Kind::Missing
     }
@@ -67,7 +67,7 @@ pub fn head_at(leads: &[u8; 256], file: &[u8], at: usize) -> Head
         return Head::Cut;
     }
     let b = file[at];
-    let size = size_of(leads[wide(b)]);
+    let size = size_of(leads[numbers::u8_to_usize(b)]);
     if file.len() - at < size {
         return Head::Cut;
     }
@@ -109,7 +109,7 @@ fn kind_of(row: u8) -> Kind
 fn size_of(row: u8) -> usize
     ensures { λ r. ⌜ r ≡ row % 8 ⌝ }
 {
-    wide(row % 8)
+    numbers::u8_to_usize(row % 8)
 }
 
 // The number of a head of some size, whose lead byte b is at a place.
@@ -122,12 +122,12 @@ fn number(file: &[u8], b: u8, at: usize, size: usize) -> usize
     }
     let p = at + 1;
     if size == 2 {
-        return wide(file[p]);
+        return numbers::u8_to_usize(file[p]);
     }
     if size == 3 {
-        return wide16(numbers::read_u16(file, p));
+        return numbers::u16_to_usize(numbers::read_u16(file, p));
     }
-    wide32(numbers::read_u32(file, p))
+    numbers::u32_to_usize(numbers::read_u32(file, p))
 }
 
 // The number that a lead byte itself holds: its place in its row of paper 01.
@@ -135,36 +135,18 @@ fn held(b: u8) -> usize
     ensures { λ r. ⌜ r ≡ heldBy b ⌝ }
 {
     if b < 0x80 {
-        return wide(b);
+        return numbers::u8_to_usize(b);
     }
     if b < 0xa0 {
-        return wide(b % 16);
+        return numbers::u8_to_usize(b % 16);
     }
     if b < 0xc0 {
-        return wide(b % 32);
+        return numbers::u8_to_usize(b % 32);
     }
     if b < 0xe0 {
         return 0;
     }
-    wide(b % 32)
-}
-
-fn wide(x: u8) -> usize
-    ensures { λ r. ⌜ r ≡ x ⌝ }
-{
-    x as usize
-}
-
-fn wide16(x: u16) -> usize
-    ensures { λ r. ⌜ r ≡ x ⌝ }
-{
-    x as usize
-}
-
-fn wide32(x: u32) -> usize
-    ensures { λ r. ⌜ r ≡ x ⌝ }
-{
-    x as usize
+    numbers::u8_to_usize(b % 32)
 }
 
 // The kind of each lead byte: 1 unsigned, 2 signed, 3 float, 4 string, 5 binary, 6 array, 7 map, and 0 for a byte that is not in the subset.

@@ -5,8 +5,8 @@ use mathlib.Core.List.{List, [], _∷_, _++_}
 use Prim.Native.Nat.{ℕ, zero, suc, _+_, _-_, _*_, _/_, _%_, _^_}
 use lib.Dec.{eqb, ltb}
 use lib.IntN.{ℤ, pos, negsuc}
-use Rattle.utf8.specs.Ascii.{ascii}
 use Rattle.text.specs.Decimal.{glyph, decimal}
+use Rattle.text.specs.Ascii.{ascii}
 use Rattle.lines.specs.declared.Places.{Places}
 use Rattle.lines.specs.declared.Places.the-variants.{Exactly, Endless}
 

@@ -3,7 +3,8 @@ ghost use mathlib.Core.Path.{_≡_};
 ghost use Prim.Native.Nat.{_+_, _<_, _≤_};
 ghost use lib.ListN.{length, take};
 ghost use Rattle.text.specs.Put.{Put};
-ghost use Rattle.lines.specs.Texts.{digits, placesOf, fractionText, magnitudeText, numberText, signText, leadOf, scaledOf, exponentText, finiteText, floatText, nameText};
+ghost use Rattle.lines.specs.Texts.{digits, placesOf, fractionText, magnitudeText, numberText, signText};
+ghost use Rattle.lines.specs.Texts.{leadOf, scaledOf, exponentText, finiteText, floatText, nameText};
 ghost use Rattle.lines.specs.Lines.{line, Lines, namesIn};
 
 // How many values were put as lines, and how many bytes these take.

@@ -7,7 +7,7 @@ use Prim.Native.String as Text
 use lib.Dec.{eqb}
 use lib.ListN.{length}
 use Rattle.refusal.specs.Table.{fileOverLimit, cutShort, leadByteUnknown, unsignedTooLarge, stringNotUtf8, nestedTooDeep, tooManyEntries, keyNotString, keyRepeated, outerNotMap, bytesAfter, fieldMissing, fieldType, columnShort, codecUnknown, headerRange, payloadSize, numberNotAllowed, lengthDiffers, countsDisagree, indexOutside, valueOutside, tooManyGroupTypes, versionNot1, bufferTooSmall, noSuchField, notExact, noSuchEntry, receiptMalformed}
-use Rattle.utf8.specs.Ascii.{ascii}
+use Rattle.text.specs.Ascii.{ascii}
 
 -- a refusal number and what it means
 pub record Meaning : Type 0 where

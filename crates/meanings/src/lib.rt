@@ -45,7 +45,7 @@ pub fn put_meaning(buffer: &mut [u8], at: usize, number: u8) -> usize
     let mut row: usize = 0;
     while row < TABLE_SIZE {
         let start = row + 2;
-        let end = start + wide(table[row + 1]);
+        let end = start + numbers::u8_to_usize(table[row + 1]);
         if table[row] == number {
             return text::put(buffer, at, &table[start..end]);
         }
@@ -59,11 +59,4 @@ fn table() -> [u8; TABLE_SIZE]
     ensures { λ r. ⌜ r ≡ meaningTable ⌝ }
 {
     TABLE
-}
-
-// A byte as a larger number.
-fn wide(x: u8) -> usize
-    ensures { λ r. ⌜ r ≡ x ⌝ }
-{
-    x as usize
 }

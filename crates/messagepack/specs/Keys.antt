@@ -1,4 +1,4 @@
--- The tables of keys that the walk lends down: a row for each key of each map that is open, 256 for each level.
+-- The tables of keys that the walk lends down: a row for each key of each map that is open, as many for each level as a map has entries at most.
 -- Contracts of functions inside this crate cite these; no public contract does. No lemma stands here. Assumes nothing.
 use mathlib.Core.Path.{_≡_}
 use mathlib.Core.Bool.{true, false, cond}
@@ -10,13 +10,13 @@ use Rattle.refusal.specs.Table.{keyRepeated}
 use Rattle.numbers.specs.BigEndian.{unsignedAt}
 use Rattle.heads.specs.Table.{leadTable}
 use Rattle.messagepack.specs.Limits.{fileLimit, nestingLimit, entryLimit}
-use Rattle.messagepack.specs.Walk.{keyAt, among}
+use Rattle.messagepack.specs.Walk.{keyAt, among, manyAt, entriesAt, valueAt}
 use Rattle.messagepack.specs.declared.Walk.{Walk}
 use Rattle.messagepack.specs.declared.Text.{Text}
 
--- 256 rows for each of 12 levels
+-- the rows of the largest map for each level
 abbrev pub tableLength : ℕ
-tableLength = 3072
+tableLength = nestingLimit * entryLimit
 
 -- the number of a key's first four bytes and its last four; of its last two where it has fewer, and 0 where it has fewer than that
 abbrev pub endsOf : List ℕ → ℕ
@@ -31,10 +31,14 @@ abbrev pub keyBytes : List ℕ → Text → List ℕ
 keyBytes s (Text.At a m) = take m (drop a s)
 keyBytes s (Text.Refused e) = []
 
+-- the bytes of the key at a place
+abbrev pub keyHere : List ℕ → ℕ → List ℕ
+keyHere s at = keyBytes s (keyAt s at)
+
 -- the keys in the first n rows, the last first: each row has the place where its key starts
 unfoldable pub keysOf : List ℕ → List ℕ → ℕ → List (List ℕ)
 keysOf s starts zero = []
-keysOf s starts (suc n) = keyBytes s (keyAt s (getD starts n 0)) ∷ keysOf s starts n
+keysOf s starts (suc n) = keyHere s (getD starts n 0) ∷ keysOf s starts n
 
 -- the keys in the rows from base up to end
 abbrev pub keysIn : List ℕ → List ℕ → ℕ → ℕ → List (List ℕ)
@@ -49,9 +53,9 @@ pub record KeyThere (s : List ℕ) (at : ℕ) : Type 0 where
 -- a row holds the place of a key, and its print
 pub record RowHolds (s starts prints : List ℕ) (i : ℕ) : Type 0 where
   pub key : KeyThere s (getD starts i 0)
-  pub print : getD prints i 0 ≡ printOf (keyBytes s (keyAt s (getD starts i 0)))
+  pub print : getD prints i 0 ≡ printOf (keyHere s (getD starts i 0))
 
--- so do the first n rows
+-- each of the first n rows holds the place of a key, and its print
 unfoldable pub Stored : List ℕ → List ℕ → List ℕ → ℕ → Type 0
 Stored s starts prints n = (i : ℕ) → i < n → RowHolds s starts prints i
 
@@ -69,10 +73,20 @@ pub record Kept (depth : ℕ) (old new : List ℕ) : Type 0 where
   pub same : drop (depth * entryLimit) new ≡ drop (depth * entryLimit) old
 
 -- a walk's answer, with the tables before and after
-pub record Walked (expected : Walk) (depth : ℕ) (starts prints : List ℕ) (r : Walk) (starts' prints' : List ℕ) : Type 0 where
+pub record KeysWalked (expected : Walk) (depth : ℕ) (starts prints : List ℕ) (r : Walk) (starts' prints' : List ℕ) : Type 0 where
   pub answer : r ≡ expected
   pub starts-kept : Kept depth starts starts'
   pub prints-kept : Kept depth prints prints'
+
+-- the walk of the value at a place, of n values, and of n entries, each with so many levels left
+abbrev pub ValueWalked : List ℕ → ℕ → ℕ → List ℕ → List ℕ → Walk → List ℕ → List ℕ → Type 0
+ValueWalked s depth at starts prints r starts' prints' = KeysWalked (valueAt s depth at) depth starts prints r starts' prints'
+
+abbrev pub ItemsWalked : List ℕ → ℕ → ℕ → ℕ → List ℕ → List ℕ → Walk → List ℕ → List ℕ → Type 0
+ItemsWalked s depth n at starts prints r starts' prints' = KeysWalked (manyAt (valueAt s depth) n at) depth starts prints r starts' prints'
+
+abbrev pub EntriesWalked : List ℕ → ℕ → ℕ → ℕ → List ℕ → List ℕ → Walk → List ℕ → List ℕ → Type 0
+EntriesWalked s depth n at starts prints r starts' prints' = KeysWalked (entriesAt s (valueAt s depth) n at) (depth + 1) starts prints r starts' prints'
 
 -- the rows from base up to end hold keys, and there is a row after them
 pub record Rows (s : List ℕ) (base end : ℕ) (starts prints : List ℕ) : Type 0 where
@@ -84,13 +98,13 @@ pub record Rows (s : List ℕ) (base end : ℕ) (starts prints : List ℕ) : Typ
   pub stored : Stored s (drop base starts) (drop base prints) (end - base)
 
 -- the key at a place is sought among them
-pub record Sought (s : List ℕ) (base end : ℕ) (starts prints : List ℕ) (at a m print : ℕ) : Type 0 where
+pub record Sought (s : List ℕ) (base end : ℕ) (starts prints : List ℕ) (at print : ℕ) : Type 0 where
   pub rows : Rows s base end starts prints
-  pub key : keyAt s at ≡ Text.At a m
-  pub is : print ≡ printOf (take m (drop a s))
+  pub key : KeyThere s at
+  pub is : print ≡ printOf (keyHere s at)
 
 -- what comes of the key at a place: a refusal, with the tables as they were; or its end, and a row more
-pub data Noted (s : List ℕ) (at base end : ℕ) (starts prints : List ℕ) : Walk → List ℕ → List ℕ → Type 0 where
-  refused : {e : ℕ} → keyAt s at ≡ Text.Refused e → Noted s at base end starts prints (Walk.Refused e) starts prints
-  repeated : {a m : ℕ} → keyAt s at ≡ Text.At a m → among (take m (drop a s)) (keysIn s starts base end) ≡ true → Noted s at base end starts prints (Walk.Refused keyRepeated) starts prints
-  noted : {a m print : ℕ} → Sought s base end starts prints at a m print → among (take m (drop a s)) (keysIn s starts base end) ≡ false → Noted s at base end starts prints (Walk.End (a + m)) (set starts end at) (set prints end print)
+pub data KeyNoted (s : List ℕ) (at base end : ℕ) (starts prints : List ℕ) : Walk → List ℕ → List ℕ → Type 0 where
+  refused : {e : ℕ} → keyAt s at ≡ Text.Refused e → KeyNoted s at base end starts prints (Walk.Refused e) starts prints
+  repeated : {a m : ℕ} → keyAt s at ≡ Text.At a m → among (keyHere s at) (keysIn s starts base end) ≡ true → KeyNoted s at base end starts prints (Walk.Refused keyRepeated) starts prints
+  noted : {a m print : ℕ} → keyAt s at ≡ Text.At a m → Sought s base end starts prints at print → among (keyHere s at) (keysIn s starts base end) ≡ false → KeyNoted s at base end starts prints (Walk.End (a + m)) (set starts end at) (set prints end print)

@@ -1,7 +1,6 @@
--- Documents, their writings, limits and the walk. To read: `Document`, `Limits`, `Rules`, `Equal`, `Walk`, `Read`. `Keys`
--- and `Quick` are for the code inside.
+-- Documents, their writings, limits and the walk. To read: `Document`, `Limits`, `Rules`, `Walk`, `Read`. `Keys` and
+-- `Quick` are for the code inside.
 pub mod Limits
-pub mod Equal
 pub mod Document
 pub mod Rules
 pub mod Walk

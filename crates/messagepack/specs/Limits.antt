@@ -12,7 +12,3 @@ nestingLimit = 12
 -- the entries of a map
 abbrev pub entryLimit : ℕ
 entryLimit = 256
-
--- the largest integer; the smallest is one further from 0
-abbrev pub integerLimit : ℕ
-integerLimit = 2147483647

@@ -5,8 +5,9 @@ use mathlib.Core.List.{List}
 use Prim.Native.Nat.{ℕ, suc, _≤_, max}
 use lib.IntN.{ℤ, pos, negsuc}
 use lib.ListN.{length}
+use Rattle.numbers.specs.Ranges.{integerLimit}
 use Rattle.utf8.specs.Utf8.{Utf8}
-use Rattle.messagepack.specs.Limits.{fileLimit, nestingLimit, entryLimit, integerLimit}
+use Rattle.messagepack.specs.Limits.{fileLimit, nestingLimit, entryLimit}
 use Rattle.messagepack.specs.Document.{Document, Documents, Entries, integer, float, string, binary, array, map, none, item, empty, entry, size, Writes}
 
 -- how deep arrays and maps stand in one another

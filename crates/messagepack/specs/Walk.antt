@@ -6,12 +6,13 @@ use Prim.Native.Nat.{ℕ, zero, suc, _+_}
 use lib.Dec.{leb, eqb}
 use lib.ListN.{length, take, drop}
 use Rattle.refusal.specs.Table.{accepted, fileOverLimit, cutShort, leadByteUnknown, unsignedTooLarge, stringNotUtf8, nestedTooDeep, tooManyEntries, keyNotString, keyRepeated, outerNotMap, bytesAfter}
+use Rattle.numbers.specs.Ranges.{integerLimit}
 use Rattle.utf8.specs.Check.{isUtf8}
+use Rattle.text.specs.Equal.{equal}
 use Rattle.heads.specs.Head.{kindAt, headAt}
 use Rattle.heads.specs.declared.Kind.{Kind}
 use Rattle.heads.specs.declared.Head.{Head}
-use Rattle.messagepack.specs.Limits.{fileLimit, nestingLimit, entryLimit, integerLimit}
-use Rattle.messagepack.specs.Equal.{equal}
+use Rattle.messagepack.specs.Limits.{fileLimit, nestingLimit, entryLimit}
 use Rattle.messagepack.specs.declared.Walk.{Walk}
 use Rattle.messagepack.specs.declared.Text.{Text}
 

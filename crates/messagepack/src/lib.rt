@@ -6,12 +6,13 @@ ghost use mathlib.Core.Logic.{_↔_};
 ghost use mathlib.Core.Bool.{true, false};
 ghost use Prim.Native.Nat.{ℕ, _+_, _≤_, _<_};
 ghost use lib.ListN.{length, getD, take, drop};
+ghost use Rattle.text.specs.Equal.{equal};
 ghost use Rattle.heads.specs.Table.{leadTable};
 ghost use Rattle.messagepack.specs.Limits.{fileLimit, nestingLimit};
 ghost use Rattle.messagepack.specs.Rules.{Container};
-ghost use Rattle.messagepack.specs.Equal.{equal};
-ghost use Rattle.messagepack.specs.Walk.{bodyAt, textAt, keyAt, integerAt, plainAt, binaryAt, stringAt, among, manyAt, entriesAt, valueAt, ended, containerNumber};
-ghost use Rattle.messagepack.specs.Keys.{printOf, keyBytes, keysIn, KeyThere, tableLength, Free, Walked, Rows, Sought, Noted};
+ghost use Rattle.messagepack.specs.Walk.{bodyAt, textAt, keyAt, integerAt, plainAt, binaryAt, stringAt, among, valueAt, ended, containerNumber};
+ghost use Rattle.messagepack.specs.Keys.{printOf, keyHere, keysIn, KeyThere, tableLength, Free, KeyNoted};
+ghost use Rattle.messagepack.specs.Keys.{ValueWalked, ItemsWalked, EntriesWalked, Rows, Sought};
 ghost use Rattle.messagepack.specs.Quick.{leafOf, leafAt, QuickSays, ShortSays, RunSays};
 use heads::Head;
 use heads::Kind;
@@ -25,8 +26,8 @@ pub const NESTING_LIMIT: usize = 12;
 // The most entries of a map.
 pub const ENTRY_LIMIT: usize = 256;
 
-// The largest integer; the smallest is one further from 0.
-pub const INTEGER_LIMIT: usize = 2_147_483_647;
+// The rows of a table of keys: those of the largest map for each level.
+const KEY_ROWS: usize = NESTING_LIMIT * ENTRY_LIMIT;
 
 // Where a value ends, or the number of its refusal.
 pub enum Walk {
@@ -149,23 +150,6 @@ fn key_at(leads: &[u8; 256], file: &[u8], at: usize) -> Text
     }
 }
 
-// Are two strings of bytes the same?
-pub fn same_bytes(x: &[u8], y: &[u8]) -> bool
-    ensures { λ r. ⌜ r ≡ equal (now (x .entry)) (now (y .entry)) ⌝ }
-{
-    if x.len() != y.len() {
-        return false;
-    }
-    let mut i: usize = 0;
-    while i < x.len() {
-        if x[i] != y[i] {
-            return false;
-        }
-        i += 1;
-    }
-    true
-}
-
 // A value at a place that is an integer in its lead byte, or a short string of bytes below 80: the commonest, found with no table.
 fn quick_at(file: &[u8], at: usize) -> Quick
     ensures { λ r. ⌜ QuickSays (now (file .entry)) at r ⌝ }
@@ -196,7 +180,7 @@ fn short_at(file: &[u8], at: usize) -> Short
     if 0xc0 <= b {
         return Short::Other;
     }
-    let n = wide_byte(b - 0xa0);
+    let n = numbers::u8_to_usize(b - 0xa0);
     let p = at + 1;
     if file.len() - p < n {
         return Short::Other;
@@ -242,7 +226,7 @@ fn integer_at(leads: &[u8; 256], file: &[u8], at: usize) -> Walk
     match heads::head_at(leads, file, at) {
         Head::Cut => Walk::Refused(refusal::CUT_SHORT),
         Head::At(n, p) => {
-            if n <= INTEGER_LIMIT {
+            if n <= numbers::INTEGER_LIMIT {
                 Walk::End(p)
             } else {
                 Walk::Refused(refusal::UNSIGNED_TOO_LARGE)
@@ -302,10 +286,10 @@ fn outer(leads: &[u8; 256], file: &[u8]) -> u8
 }
 
 // A table of keys with nothing in it.
-fn no_keys() -> [u32; 3072]
+fn no_keys() -> [u32; KEY_ROWS]
     ensures { λ r. ⌜ length r ≡ tableLength ⌝ }
 {
-    [0u32; 3072]
+    [0u32; KEY_ROWS]
 }
 
 // The value at a place, with so many levels left. It leaves alone the rows of the maps that are open.
@@ -314,11 +298,11 @@ fn value(
     file: &[u8],
     at: usize,
     depth: usize,
-    starts: &mut [u32; 3072],
-    prints: &mut [u32; 3072],
+    starts: &mut [u32; KEY_ROWS],
+    prints: &mut [u32; KEY_ROWS],
 ) -> Walk
     requires { ⌜ Free (now leads) (now file) depth (now starts) (now prints) ⌝ }
-    ensures { λ r. ⌜ Walked (valueAt (now (file .entry)) depth at) depth (now (starts .entry)) (now (prints .entry)) r (now (starts .exit)) (now (prints .exit)) ⌝ }
+    ensures { λ r. ⌜ ValueWalked (now (file .entry)) depth at (now (starts .entry)) (now (prints .entry)) r (now (starts .exit)) (now (prints .exit)) ⌝ }
 {
     match heads::kind_at(leads, file, at) {
         Kind::Missing => Walk::Refused(refusal::CUT_SHORT),
@@ -355,11 +339,11 @@ fn element(
     file: &[u8],
     at: usize,
     depth: usize,
-    starts: &mut [u32; 3072],
-    prints: &mut [u32; 3072],
+    starts: &mut [u32; KEY_ROWS],
+    prints: &mut [u32; KEY_ROWS],
 ) -> Walk
     requires { ⌜ Free (now leads) (now file) depth (now starts) (now prints) ⌝ }
-    ensures { λ r. ⌜ Walked (valueAt (now (file .entry)) depth at) depth (now (starts .entry)) (now (prints .entry)) r (now (starts .exit)) (now (prints .exit)) ⌝ }
+    ensures { λ r. ⌜ ValueWalked (now (file .entry)) depth at (now (starts .entry)) (now (prints .entry)) r (now (starts .exit)) (now (prints .exit)) ⌝ }
 {
     if let Quick::End(p) = quick_at(file, at) {
         return Walk::End(p);
@@ -379,11 +363,11 @@ fn array(
     n: usize,
     at: usize,
     depth: usize,
-    starts: &mut [u32; 3072],
-    prints: &mut [u32; 3072],
+    starts: &mut [u32; KEY_ROWS],
+    prints: &mut [u32; KEY_ROWS],
 ) -> Walk
     requires { ⌜ Free (now leads) (now file) depth (now starts) (now prints) ⌝ }
-    ensures { λ r. ⌜ Walked (manyAt (valueAt (now (file .entry)) depth) n at) depth (now (starts .entry)) (now (prints .entry)) r (now (starts .exit)) (now (prints .exit)) ⌝ }
+    ensures { λ r. ⌜ ItemsWalked (now (file .entry)) depth n at (now (starts .entry)) (now (prints .entry)) r (now (starts .exit)) (now (prints .exit)) ⌝ }
 {
     let first = leaves(leads, file, at, n);
     let mut left = first.left;
@@ -436,18 +420,18 @@ fn leaf_end(leads: &[u8; 256], file: &[u8], at: usize) -> Quick
     }
 }
 
-// The n entries of a map from a place on, each value with so many levels left. Its keys stand in the 256 rows from depth * 256 on.
+// The n entries of a map from a place on, each value with so many levels left. Its keys stand in the rows from depth * ENTRY_LIMIT on.
 fn map(
     leads: &[u8; 256],
     file: &[u8],
     n: usize,
     at: usize,
     depth: usize,
-    starts: &mut [u32; 3072],
-    prints: &mut [u32; 3072],
+    starts: &mut [u32; KEY_ROWS],
+    prints: &mut [u32; KEY_ROWS],
 ) -> Walk
     requires { ⌜ Free (now leads) (now file) (depth + 1) (now starts) (now prints) ⌝ }
-    ensures { λ r. ⌜ Walked (entriesAt (now (file .entry)) (valueAt (now (file .entry)) depth) n at) (depth + 1) (now (starts .entry)) (now (prints .entry)) r (now (starts .exit)) (now (prints .exit)) ⌝ }
+    ensures { λ r. ⌜ EntriesWalked (now (file .entry)) depth n at (now (starts .entry)) (now (prints .entry)) r (now (starts .exit)) (now (prints .exit)) ⌝ }
 {
     if ENTRY_LIMIT < n {
         return Walk::Refused(refusal::TOO_MANY_ENTRIES);
@@ -485,17 +469,17 @@ fn new_key(
     at: usize,
     base: usize,
     end: usize,
-    starts: &mut [u32; 3072],
-    prints: &mut [u32; 3072],
+    starts: &mut [u32; KEY_ROWS],
+    prints: &mut [u32; KEY_ROWS],
 ) -> Walk
     requires { ⌜ (now leads ≡ leadTable) × Rows (now file) base end (now starts) (now prints) ⌝ }
-    ensures { λ r. ⌜ Noted (now (file .entry)) at base end (now (starts .entry)) (now (prints .entry)) r (now (starts .exit)) (now (prints .exit)) ⌝ }
+    ensures { λ r. ⌜ KeyNoted (now (file .entry)) at base end (now (starts .entry)) (now (prints .entry)) r (now (starts .exit)) (now (prints .exit)) ⌝ }
 {
     match key_at(leads, file, at) {
         Text::Refused(e) => Walk::Refused(e),
         Text::At(a, m) => {
             let print = print_of(file, a, m);
-            if seen(leads, file, starts, prints, base, end, at, a, m, print) {
+            if seen(leads, file, starts, prints, base, end, at, print) {
                 return Walk::Refused(refusal::KEY_REPEATED);
             }
             starts[end] = at as u32;
@@ -505,21 +489,19 @@ fn new_key(
     }
 }
 
-// Is the key of m bytes at a, whose print is given, among those in the rows from base up to end?
+// Is the key at a place, whose print is given, among those in the rows from base up to end?
 fn seen(
     leads: &[u8; 256],
     file: &[u8],
-    starts: &[u32; 3072],
-    prints: &[u32; 3072],
+    starts: &[u32; KEY_ROWS],
+    prints: &[u32; KEY_ROWS],
     base: usize,
     end: usize,
     at: usize,
-    a: usize,
-    m: usize,
     print: u32,
 ) -> bool
-    requires { ⌜ (now leads ≡ leadTable) × Sought (now file) base end (now starts) (now prints) at a m print ⌝ }
-    ensures { λ r. ⌜ r ≡ among (take m (drop a (now (file .entry)))) (keysIn (now (file .entry)) (now (starts .entry)) base end) ⌝ }
+    requires { ⌜ (now leads ≡ leadTable) × Sought (now file) base end (now starts) (now prints) at print ⌝ }
+    ensures { λ r. ⌜ r ≡ among (keyHere (now (file .entry)) at) (keysIn (now (file .entry)) (now (starts .entry)) base end) ⌝ }
 {
     if hits(prints, base, end, print) == 0 {
         return false;
@@ -528,7 +510,7 @@ fn seen(
     while base < i {
         i -= 1;
         if prints[i] == print {
-            if same_key(leads, file, at, wide(starts[i])) {
+            if same_key(leads, file, at, numbers::u32_to_usize(starts[i])) {
                 return true;
             }
         }
@@ -537,7 +519,7 @@ fn seen(
 }
 
 // How many rows from base up to end have a print: it goes through all of them, so that several are compared at a time.
-fn hits(prints: &[u32; 3072], base: usize, end: usize, print: u32) -> u32
+fn hits(prints: &[u32; KEY_ROWS], base: usize, end: usize, print: u32) -> u32
     requires { ⌜ (base ≤ end) × (end ≤ tableLength) ⌝ }
     ensures { λ r. ⌜ (r ≡ 0 → (i : ℕ) → base ≤ i → i < end → getD (now (prints .entry)) i 0 ≡ print → ⊥) ⌝ }
 {
@@ -555,7 +537,7 @@ fn hits(prints: &[u32; 3072], base: usize, end: usize, print: u32) -> u32
 // Are the keys at two places the same?
 fn same_key(leads: &[u8; 256], file: &[u8], at: usize, other: usize) -> bool
     requires { ⌜ (now leads ≡ leadTable) × KeyThere (now file) at × KeyThere (now file) other ⌝ }
-    ensures { λ r. ⌜ r ≡ equal (keyBytes (now (file .entry)) (keyAt (now (file .entry)) at)) (keyBytes (now (file .entry)) (keyAt (now (file .entry)) other)) ⌝ }
+    ensures { λ r. ⌜ r ≡ equal (keyHere (now (file .entry)) at) (keyHere (now (file .entry)) other) ⌝ }
 {
     let Head::At(m, a) = heads::head_at(leads, file, at) else {
         return false;
@@ -563,7 +545,7 @@ fn same_key(leads: &[u8; 256], file: &[u8], at: usize, other: usize) -> bool
     let Head::At(n, b) = heads::head_at(leads, file, other) else {
         return false;
     };
-    same_bytes(&file[a..a + m], &file[b..b + n])
+    text::same_bytes(&file[a..a + m], &file[b..b + n])
 }
 
 // The print of the m bytes from a: a number of how many they are and of the first and the last of them.
@@ -582,16 +564,4 @@ fn print_of(file: &[u8], a: usize, m: usize) -> u32
     let first = numbers::read_u32(file, a);
     let last = numbers::read_u32(file, a + m - 4);
     std::num::wrapping_add_u32(size, std::num::wrapping_add_u32(first, last))
-}
-
-fn wide_byte(x: u8) -> usize
-    ensures { λ r. ⌜ r ≡ x ⌝ }
-{
-    x as usize
-}
-
-fn wide(x: u32) -> usize
-    ensures { λ r. ⌜ r ≡ x ⌝ }
-{
-    x as usize
 }

@@ -2,27 +2,36 @@
 use mathlib.Core.Bool.{cond}
 use mathlib.Core.List.{List}
 use Prim.Native.Nat.{ℕ}
+use lib.ListN.{length}
 use lib.Dec.{eqb}
 use lib.IntN.{ℤ, pos}
 use lib.Ieee.{Float}
+use mir.Syntax.{w32}
+use mir.Val.{ofZ}
+use Rattle.refusal.specs.declared.Answer.{Answer}
+use Rattle.refusal.specs.declared.Answer.the-variants as answer
 use Rattle.refusal.specs.Table.{accepted}
+use Rattle.refusal.specs.Answer.{answerNumber, answerCount}
 use Rattle.views.specs.declared.Place.{Place}
 use Rattle.views.specs.declared.Place.the-variants as place
-use Rattle.decoding.specs.declared.Decoded.{Decoded}
-use Rattle.decoding.specs.declared.Decoded.the-variants as decoded
+use Rattle.transforms.specs.Matrix.{matrixNumber, matrixOf}
+use Rattle.columns.specs.declared.Kind.{Kind}
+use Rattle.columns.specs.declared.Kind.the-variants as kind
+use Rattle.columns.specs.declared.Wanted.{Wanted}
+use Rattle.columns.specs.declared.Wanted.the-variants.{Only, Real}
+use Rattle.columns.specs.Decode.{decode}
+use Rattle.columns.specs.Buffer.{decodedAnswer}
+use Rattle.decoding.specs.Calls.{fixedAnswer}
+use Rattle.floats.specs.Calls.{exactly}
 use Rattle.decoding.specs.declared.Fixed.{Fixed}
 use Rattle.decoding.specs.declared.Fixed.the-variants as fixed
-use Rattle.floats.specs.declared.Floats.{Floats}
-use Rattle.floats.specs.declared.Floats.the-variants as floats
 use Rattle.cells.specs.declared.Cell.{Cell}
 use Rattle.cells.specs.declared.Cell.the-variants as cell
-use Rattle.encoding.specs.declared.Encoded.{Encoded}
-use Rattle.encoding.specs.declared.Encoded.the-variants as encoded
+use Rattle.encoding.specs.Demand.{Element, encoderSays, encoderLeaves}
 use Rattle.receipt.specs.Receipt.{numbersOf}
+use Rattle.receipt.specs.File.{receiptAnswer}
 use Rattle.receipt.specs.declared.Reading.{Reading}
 use Rattle.receipt.specs.declared.Reading.the-variants as reading
-use Rattle.receipt.specs.declared.Written.{Written}
-use Rattle.receipt.specs.declared.Written.the-variants as writing
 
 -- a view: the start and the length of the part afterwards
 abbrev pub viewStart : Place → ℕ → ℕ
@@ -34,19 +43,28 @@ viewLength (place.At start n) old = n
 viewLength (place.Refused r) old = old
 
 -- a matrix: the rows afterwards, as they were on refusal
-abbrev pub matrixRows : ℕ → List (List Float) → List (List Float) → List (List Float)
-matrixRows number rows old = cond (eqb number accepted) rows old
+abbrev pub matrixRows : List ℕ → ℕ → ℕ → List (List Float) → List (List Float)
+matrixRows file assembly transform old = cond (eqb (matrixNumber file assembly transform) accepted) (matrixOf file assembly transform) old
 
--- a decoder: its number, and its count afterwards
-abbrev pub decodedNumber : Decoded → ℕ
-decodedNumber (decoded.Count n) = accepted
-decodedNumber (decoded.Refused r) = r
+-- a decoder of a column s of the kind that is wanted, into a lent buffer: its number, and its count afterwards
+abbrev pub decodedNumber : {B : Type 0} → Wanted → List ℕ → List B → ℕ
+decodedNumber w s buffer = answerNumber (decodedAnswer (decode w s) (length buffer))
 
-abbrev pub decodedCount : Decoded → ℕ → ℕ
-decodedCount (decoded.Count n) old = n
-decodedCount (decoded.Refused r) old = old
+abbrev pub decodedCount : {B : Type 0} → Wanted → List ℕ → List B → ℕ → ℕ
+decodedCount w s buffer old = answerCount (decodedAnswer (decode w s) (length buffer)) old
 
--- a decoder of integers and divisor: its number, its count and its divisor afterwards
+-- the decoder of floats: its number, and its count afterwards
+abbrev pub floatsNumber : List ℕ → List ℕ → ℕ
+floatsNumber s buffer = answerNumber (decodedAnswer (exactly (decode Real s)) (length buffer))
+
+abbrev pub floatsCount : List ℕ → List ℕ → ℕ → ℕ
+floatsCount s buffer old = answerCount (decodedAnswer (exactly (decode Real s)) (length buffer)) old
+
+-- the answer of the decoder of integers and divisor
+abbrev pub fixedOf : List ℕ → List ℤ → Fixed
+fixedOf s buffer = fixedAnswer (decode (Only kind.FixedPoint) s) (length buffer)
+
+-- the decoder of integers and divisor: its number, and its count and its divisor afterwards
 abbrev pub fixedNumber : Fixed → ℕ
 fixedNumber (fixed.Column n d) = accepted
 fixedNumber (fixed.Refused r) = r
@@ -58,15 +76,6 @@ fixedCount (fixed.Refused r) old = old
 abbrev pub fixedDivisor : Fixed → ℤ → ℤ
 fixedDivisor (fixed.Column n d) old = d
 fixedDivisor (fixed.Refused r) old = old
-
--- a decoder of floats: its number, and its count afterwards
-abbrev pub floatsNumber : Floats → ℕ
-floatsNumber (floats.Count n) = accepted
-floatsNumber (floats.Refused r) = r
-
-abbrev pub floatsCount : Floats → ℕ → ℕ
-floatsCount (floats.Count n) old = n
-floatsCount (floats.Refused r) old = old
 
 -- a cell: its number; and kind (1 an integer, 2 a character, 3 a float), integer and float afterwards
 abbrev pub cellNumber : Cell → ℕ
@@ -93,23 +102,22 @@ cellReal (cell.Char b) old = old
 cellReal (cell.Float f) old = f
 cellReal (cell.Refused r) old = old
 
--- an encoder: its number, and the bytes written afterwards
-abbrev pub encodedNumber : Encoded → ℕ
-encodedNumber (encoded.Written n) = accepted
-encodedNumber (encoded.Refused r) = r
+-- an encoder of a kind, by its codec, its parameter (0 where the call takes none) and the elements: its number, and the bytes written and the buffer afterwards
+abbrev pub encodedNumber : (k : Kind) → ℤ → ℤ → List (Element k) → List ℕ → ℕ
+encodedNumber k codec m elements buffer = answerNumber (encoderSays k (ofZ w32 codec) (ofZ w32 m) elements (length buffer))
 
-abbrev pub encodedCount : Encoded → ℕ → ℕ
-encodedCount (encoded.Written n) old = n
-encodedCount (encoded.Refused r) old = old
+abbrev pub encodedCount : (k : Kind) → ℤ → ℤ → List (Element k) → List ℕ → ℕ → ℕ
+encodedCount k codec m elements buffer old = answerCount (encoderSays k (ofZ w32 codec) (ofZ w32 m) elements (length buffer)) old
+
+abbrev pub encodedLeaves : (k : Kind) → ℤ → ℤ → List (Element k) → List ℕ → List ℕ
+encodedLeaves k codec m elements buffer = encoderLeaves k (ofZ w32 codec) (ofZ w32 m) elements buffer
 
 -- a receipt written: its number, and the bytes written afterwards
-abbrev pub receiptNumber : Written → ℕ
-receiptNumber (writing.Bytes n) = accepted
-receiptNumber (writing.Refused r) = r
+abbrev pub receiptNumber : ℕ → ℕ → List ℕ → List ℕ → ℕ
+receiptNumber station job file buffer = answerNumber (receiptAnswer station job file (length buffer))
 
-abbrev pub receiptCount : Written → ℕ → ℕ
-receiptCount (writing.Bytes n) old = n
-receiptCount (writing.Refused r) old = old
+abbrev pub receiptCount : ℕ → ℕ → List ℕ → List ℕ → ℕ → ℕ
+receiptCount station job file buffer old = answerCount (receiptAnswer station job file (length buffer)) old
 
 -- a receipt read: its number, and the numbers of its lines in their order afterwards
 abbrev pub readNumber : Reading → ℕ

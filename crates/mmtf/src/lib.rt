@@ -3,34 +3,33 @@
 ghost use mathlib.Core.Path.{_≡_};
 ghost use mathlib.Core.Logic.{_↔_};
 ghost use lib.ListN.{length, take};
-ghost use mir.Syntax.{w32};
-ghost use mir.Val.{ofZ};
+ghost use lib.IntN.{pos};
+ghost use Rattle.refusal.specs.Answer.{answerNumber, answerCount};
 ghost use Rattle.messagepack.specs.Rules.{Container};
 ghost use Rattle.messagepack.specs.Walk.{containerNumber};
 ghost use Rattle.structure.specs.Accepted.{Accepted, verdictOf};
 ghost use Rattle.views.specs.View.{Viewable, viewNumber};
 ghost use Rattle.views.specs.Place.{placeOf};
-ghost use Rattle.transforms.specs.Matrix.{matrixNumber, matrixOf};
+ghost use Rattle.transforms.specs.Matrix.{matrixNumber};
 ghost use Rattle.columns.specs.Decode.{decode};
-ghost use Rattle.decoding.specs.Calls as decoding;
-ghost use Rattle.floats.specs.Calls as floats;
+ghost use Rattle.columns.specs.Buffer.{decodedBuffer};
+ghost use Rattle.decoding.specs.Calls.{numberBuffer, byteBuffer};
+ghost use Rattle.floats.specs.Calls.{exactly, floatBits};
 ghost use Rattle.cells.specs.Calls.{cellOf};
-ghost use Rattle.encoding.specs.Demand.{encoderSays, encoderLeaves};
 ghost use Rattle.receipt.specs.Receipt.{numbersOf};
 ghost use Rattle.receipt.specs.Reading.{readingOf};
-ghost use Rattle.receipt.specs.File as receipt;
-ghost use Rattle.receipt.specs.File.{Receipted};
-ghost use Rattle.mmtf.specs.Calls.{viewStart, viewLength, matrixRows, decodedNumber, decodedCount, fixedNumber, fixedCount, fixedDivisor, floatsNumber, floatsCount, cellNumber, cellKind, cellInteger, cellReal, encodedNumber, encodedCount, receiptNumber, receiptCount, readNumber, readNumbers};
+ghost use Rattle.receipt.specs.File.{Receipted, receiptBuffer};
+ghost use Rattle.mmtf.specs.Calls.{viewStart, viewLength, matrixRows, decodedNumber, decodedCount};
+ghost use Rattle.mmtf.specs.Calls.{floatsNumber, floatsCount, fixedOf, fixedNumber, fixedCount, fixedDivisor};
+ghost use Rattle.mmtf.specs.Calls.{cellNumber, cellKind, cellInteger, cellReal, encodedNumber, encodedCount, encodedLeaves};
+ghost use Rattle.mmtf.specs.Calls.{receiptNumber, receiptCount, readNumber, readNumbers};
 use cells::Cell;
 use columns::Kind;
 use columns::Wanted;
-use decoding::Decoded;
 use decoding::Fixed;
-use encoding::Encoded;
-use floats::Floats;
 use receipt::Reading;
 use receipt::Receipt;
-use receipt::Written;
+use refusal::Answer;
 use views::Place;
 
 // The refusal of a file as a container, 1 to 11, or 0.
@@ -78,7 +77,7 @@ pub extern "C" fn mmtf_matrix(
     rows: &mut [[f32; 4]; 4],
 ) -> u8
     ensures answer { λ r. ⌜ r ≡ matrixNumber (now (file .entry)) assembly transform ⌝ }
-    ensures rows { λ r. ⌜ now (rows .exit) ≡ matrixRows (matrixNumber (now (file .entry)) assembly transform) (matrixOf (now (file .entry)) assembly transform) (now (rows .entry)) ⌝ }
+    ensures rows { λ r. ⌜ now (rows .exit) ≡ matrixRows (now (file .entry)) assembly transform (now (rows .entry)) ⌝ }
 {
     let found = transforms::find(file, assembly, transform);
     if found.refusal != refusal::ACCEPTED {
@@ -92,9 +91,9 @@ pub extern "C" fn mmtf_matrix(
 // The integers of an int32 column (codecs 4, 7, 8, 14, 15).
 #[no_mangle]
 pub extern "C" fn mmtf_decode_int32(column: &[u8], buffer: &mut [i32], count: &mut u64) -> u8
-    ensures answer { λ r. ⌜ r ≡ decodedNumber (decoding.told (decode (Wanted.Only Kind.Int32) (now (column .entry))) (length (now (buffer .entry)))) ⌝ }
-    ensures count { λ r. ⌜ now (count .exit) ≡ decodedCount (decoding.told (decode (Wanted.Only Kind.Int32) (now (column .entry))) (length (now (buffer .entry)))) (now (count .entry)) ⌝ }
-    ensures buffer { λ r. ⌜ now (buffer .exit) ≡ decoding.left decoding.asNumber (decode (Wanted.Only Kind.Int32) (now (column .entry))) (now (buffer .entry)) ⌝ }
+    ensures answer { λ r. ⌜ r ≡ decodedNumber (Wanted.Only Kind.Int32) (now (column .entry)) (now (buffer .entry)) ⌝ }
+    ensures count { λ r. ⌜ now (count .exit) ≡ decodedCount (Wanted.Only Kind.Int32) (now (column .entry)) (now (buffer .entry)) (now (count .entry)) ⌝ }
+    ensures buffer { λ r. ⌜ now (buffer .exit) ≡ numberBuffer (decode (Wanted.Only Kind.Int32) (now (column .entry))) (now (buffer .entry)) ⌝ }
 {
     hand_count(decoding::decode_int32(column, buffer), count)
 }
@@ -102,9 +101,9 @@ pub extern "C" fn mmtf_decode_int32(column: &[u8], buffer: &mut [i32], count: &m
 // The integers of an int8 column (codecs 2, 16).
 #[no_mangle]
 pub extern "C" fn mmtf_decode_int8(column: &[u8], buffer: &mut [i32], count: &mut u64) -> u8
-    ensures answer { λ r. ⌜ r ≡ decodedNumber (decoding.told (decode (Wanted.Only Kind.Int8) (now (column .entry))) (length (now (buffer .entry)))) ⌝ }
-    ensures count { λ r. ⌜ now (count .exit) ≡ decodedCount (decoding.told (decode (Wanted.Only Kind.Int8) (now (column .entry))) (length (now (buffer .entry)))) (now (count .entry)) ⌝ }
-    ensures buffer { λ r. ⌜ now (buffer .exit) ≡ decoding.left decoding.asNumber (decode (Wanted.Only Kind.Int8) (now (column .entry))) (now (buffer .entry)) ⌝ }
+    ensures answer { λ r. ⌜ r ≡ decodedNumber (Wanted.Only Kind.Int8) (now (column .entry)) (now (buffer .entry)) ⌝ }
+    ensures count { λ r. ⌜ now (count .exit) ≡ decodedCount (Wanted.Only Kind.Int8) (now (column .entry)) (now (buffer .entry)) (now (count .entry)) ⌝ }
+    ensures buffer { λ r. ⌜ now (buffer .exit) ≡ numberBuffer (decode (Wanted.Only Kind.Int8) (now (column .entry))) (now (buffer .entry)) ⌝ }
 {
     hand_count(decoding::decode_int8(column, buffer), count)
 }
@@ -112,9 +111,9 @@ pub extern "C" fn mmtf_decode_int8(column: &[u8], buffer: &mut [i32], count: &mu
 // The integers of an int16 column (codec 3).
 #[no_mangle]
 pub extern "C" fn mmtf_decode_int16(column: &[u8], buffer: &mut [i32], count: &mut u64) -> u8
-    ensures answer { λ r. ⌜ r ≡ decodedNumber (decoding.told (decode (Wanted.Only Kind.Int16) (now (column .entry))) (length (now (buffer .entry)))) ⌝ }
-    ensures count { λ r. ⌜ now (count .exit) ≡ decodedCount (decoding.told (decode (Wanted.Only Kind.Int16) (now (column .entry))) (length (now (buffer .entry)))) (now (count .entry)) ⌝ }
-    ensures buffer { λ r. ⌜ now (buffer .exit) ≡ decoding.left decoding.asNumber (decode (Wanted.Only Kind.Int16) (now (column .entry))) (now (buffer .entry)) ⌝ }
+    ensures answer { λ r. ⌜ r ≡ decodedNumber (Wanted.Only Kind.Int16) (now (column .entry)) (now (buffer .entry)) ⌝ }
+    ensures count { λ r. ⌜ now (count .exit) ≡ decodedCount (Wanted.Only Kind.Int16) (now (column .entry)) (now (buffer .entry)) (now (count .entry)) ⌝ }
+    ensures buffer { λ r. ⌜ now (buffer .exit) ≡ numberBuffer (decode (Wanted.Only Kind.Int16) (now (column .entry))) (now (buffer .entry)) ⌝ }
 {
     hand_count(decoding::decode_int16(column, buffer), count)
 }
@@ -122,9 +121,9 @@ pub extern "C" fn mmtf_decode_int16(column: &[u8], buffer: &mut [i32], count: &m
 // The characters of a column (codec 6), a byte each.
 #[no_mangle]
 pub extern "C" fn mmtf_decode_chars(column: &[u8], buffer: &mut [u8], count: &mut u64) -> u8
-    ensures answer { λ r. ⌜ r ≡ decodedNumber (decoding.told (decode (Wanted.Only Kind.Chars) (now (column .entry))) (length (now (buffer .entry)))) ⌝ }
-    ensures count { λ r. ⌜ now (count .exit) ≡ decodedCount (decoding.told (decode (Wanted.Only Kind.Chars) (now (column .entry))) (length (now (buffer .entry)))) (now (count .entry)) ⌝ }
-    ensures buffer { λ r. ⌜ now (buffer .exit) ≡ decoding.left decoding.asByte (decode (Wanted.Only Kind.Chars) (now (column .entry))) (now (buffer .entry)) ⌝ }
+    ensures answer { λ r. ⌜ r ≡ decodedNumber (Wanted.Only Kind.Chars) (now (column .entry)) (now (buffer .entry)) ⌝ }
+    ensures count { λ r. ⌜ now (count .exit) ≡ decodedCount (Wanted.Only Kind.Chars) (now (column .entry)) (now (buffer .entry)) (now (count .entry)) ⌝ }
+    ensures buffer { λ r. ⌜ now (buffer .exit) ≡ byteBuffer (decode (Wanted.Only Kind.Chars) (now (column .entry))) (now (buffer .entry)) ⌝ }
 {
     hand_count(decoding::decode_chars(column, buffer), count)
 }
@@ -132,9 +131,9 @@ pub extern "C" fn mmtf_decode_chars(column: &[u8], buffer: &mut [u8], count: &mu
 // The bytes of a column of strings (codec 5); the count is in bytes.
 #[no_mangle]
 pub extern "C" fn mmtf_decode_strings(column: &[u8], buffer: &mut [u8], count: &mut u64) -> u8
-    ensures answer { λ r. ⌜ r ≡ decodedNumber (decoding.told (decode (Wanted.Only Kind.Strings) (now (column .entry))) (length (now (buffer .entry)))) ⌝ }
-    ensures count { λ r. ⌜ now (count .exit) ≡ decodedCount (decoding.told (decode (Wanted.Only Kind.Strings) (now (column .entry))) (length (now (buffer .entry)))) (now (count .entry)) ⌝ }
-    ensures buffer { λ r. ⌜ now (buffer .exit) ≡ decoding.left decoding.asByte (decode (Wanted.Only Kind.Strings) (now (column .entry))) (now (buffer .entry)) ⌝ }
+    ensures answer { λ r. ⌜ r ≡ decodedNumber (Wanted.Only Kind.Strings) (now (column .entry)) (now (buffer .entry)) ⌝ }
+    ensures count { λ r. ⌜ now (count .exit) ≡ decodedCount (Wanted.Only Kind.Strings) (now (column .entry)) (now (buffer .entry)) (now (count .entry)) ⌝ }
+    ensures buffer { λ r. ⌜ now (buffer .exit) ≡ byteBuffer (decode (Wanted.Only Kind.Strings) (now (column .entry))) (now (buffer .entry)) ⌝ }
 {
     hand_count(decoding::decode_strings(column, buffer), count)
 }
@@ -147,10 +146,10 @@ pub extern "C" fn mmtf_decode_fixed_point(
     count: &mut u64,
     divisor: &mut i32,
 ) -> u8
-    ensures answer { λ r. ⌜ r ≡ fixedNumber (decoding.toldFixed (decode (Wanted.Only Kind.FixedPoint) (now (column .entry))) (length (now (buffer .entry)))) ⌝ }
-    ensures count { λ r. ⌜ now (count .exit) ≡ fixedCount (decoding.toldFixed (decode (Wanted.Only Kind.FixedPoint) (now (column .entry))) (length (now (buffer .entry)))) (now (count .entry)) ⌝ }
-    ensures divisor { λ r. ⌜ now (divisor .exit) ≡ fixedDivisor (decoding.toldFixed (decode (Wanted.Only Kind.FixedPoint) (now (column .entry))) (length (now (buffer .entry)))) (now (divisor .entry)) ⌝ }
-    ensures buffer { λ r. ⌜ now (buffer .exit) ≡ decoding.left decoding.asNumber (decode (Wanted.Only Kind.FixedPoint) (now (column .entry))) (now (buffer .entry)) ⌝ }
+    ensures answer { λ r. ⌜ r ≡ fixedNumber (fixedOf (now (column .entry)) (now (buffer .entry))) ⌝ }
+    ensures count { λ r. ⌜ now (count .exit) ≡ fixedCount (fixedOf (now (column .entry)) (now (buffer .entry))) (now (count .entry)) ⌝ }
+    ensures divisor { λ r. ⌜ now (divisor .exit) ≡ fixedDivisor (fixedOf (now (column .entry)) (now (buffer .entry))) (now (divisor .entry)) ⌝ }
+    ensures buffer { λ r. ⌜ now (buffer .exit) ≡ numberBuffer (decode (Wanted.Only Kind.FixedPoint) (now (column .entry))) (now (buffer .entry)) ⌝ }
 {
     match decoding::decode_fixed_point(column, buffer) {
         Fixed::Refused(r) => r,
@@ -165,17 +164,11 @@ pub extern "C" fn mmtf_decode_fixed_point(
 // The floats of a real column (codecs 1, 9 to 13), as their IEEE bits.
 #[no_mangle]
 pub extern "C" fn mmtf_decode_float32(column: &[u8], buffer: &mut [u32], count: &mut u64) -> u8
-    ensures answer { λ r. ⌜ r ≡ floatsNumber (floats.told (floats.exactly (decode Wanted.Real (now (column .entry)))) (length (now (buffer .entry)))) ⌝ }
-    ensures count { λ r. ⌜ now (count .exit) ≡ floatsCount (floats.told (floats.exactly (decode Wanted.Real (now (column .entry)))) (length (now (buffer .entry)))) (now (count .entry)) ⌝ }
-    ensures buffer { λ r. ⌜ now (buffer .exit) ≡ floats.left (floats.exactly (decode Wanted.Real (now (column .entry)))) (now (buffer .entry)) ⌝ }
+    ensures answer { λ r. ⌜ r ≡ floatsNumber (now (column .entry)) (now (buffer .entry)) ⌝ }
+    ensures count { λ r. ⌜ now (count .exit) ≡ floatsCount (now (column .entry)) (now (buffer .entry)) (now (count .entry)) ⌝ }
+    ensures buffer { λ r. ⌜ now (buffer .exit) ≡ decodedBuffer floatBits (exactly (decode Wanted.Real (now (column .entry)))) (now (buffer .entry)) ⌝ }
 {
-    match floats::decode_float32(column, buffer) {
-        Floats::Refused(r) => r,
-        Floats::Count(n) => {
-            *count = n as u64;
-            refusal::ACCEPTED
-        }
-    }
+    hand_count(floats::decode_float32(column, buffer), count)
 }
 
 // One cell of a column: its kind (1 an integer, 2 a character, 3 a float), and its value in the out parameter of that kind.
@@ -220,11 +213,11 @@ pub extern "C" fn mmtf_encode_int32(
     buffer: &mut [u8],
     written: &mut u64,
 ) -> u8
-    ensures answer { λ r. ⌜ r ≡ encodedNumber (encoderSays Kind.Int32 (ofZ w32 codec) 0 (now (values .entry)) (length (now (buffer .entry)))) ⌝ }
-    ensures written { λ r. ⌜ now (written .exit) ≡ encodedCount (encoderSays Kind.Int32 (ofZ w32 codec) 0 (now (values .entry)) (length (now (buffer .entry)))) (now (written .entry)) ⌝ }
-    ensures buffer { λ r. ⌜ now (buffer .exit) ≡ encoderLeaves Kind.Int32 (ofZ w32 codec) 0 (now (values .entry)) (now (buffer .entry)) ⌝ }
+    ensures answer { λ r. ⌜ r ≡ encodedNumber Kind.Int32 codec (pos 0) (now (values .entry)) (now (buffer .entry)) ⌝ }
+    ensures written { λ r. ⌜ now (written .exit) ≡ encodedCount Kind.Int32 codec (pos 0) (now (values .entry)) (now (buffer .entry)) (now (written .entry)) ⌝ }
+    ensures buffer { λ r. ⌜ now (buffer .exit) ≡ encodedLeaves Kind.Int32 codec (pos 0) (now (values .entry)) (now (buffer .entry)) ⌝ }
 {
-    hand_written(encoding::encode_int32(codec, values, buffer), written)
+    hand_count(encoding::encode_int32(codec, values, buffer), written)
 }
 
 // A column of integers by codec 2 or 16.
@@ -235,11 +228,11 @@ pub extern "C" fn mmtf_encode_int8(
     buffer: &mut [u8],
     written: &mut u64,
 ) -> u8
-    ensures answer { λ r. ⌜ r ≡ encodedNumber (encoderSays Kind.Int8 (ofZ w32 codec) 0 (now (values .entry)) (length (now (buffer .entry)))) ⌝ }
-    ensures written { λ r. ⌜ now (written .exit) ≡ encodedCount (encoderSays Kind.Int8 (ofZ w32 codec) 0 (now (values .entry)) (length (now (buffer .entry)))) (now (written .entry)) ⌝ }
-    ensures buffer { λ r. ⌜ now (buffer .exit) ≡ encoderLeaves Kind.Int8 (ofZ w32 codec) 0 (now (values .entry)) (now (buffer .entry)) ⌝ }
+    ensures answer { λ r. ⌜ r ≡ encodedNumber Kind.Int8 codec (pos 0) (now (values .entry)) (now (buffer .entry)) ⌝ }
+    ensures written { λ r. ⌜ now (written .exit) ≡ encodedCount Kind.Int8 codec (pos 0) (now (values .entry)) (now (buffer .entry)) (now (written .entry)) ⌝ }
+    ensures buffer { λ r. ⌜ now (buffer .exit) ≡ encodedLeaves Kind.Int8 codec (pos 0) (now (values .entry)) (now (buffer .entry)) ⌝ }
 {
-    hand_written(encoding::encode_int8(codec, values, buffer), written)
+    hand_count(encoding::encode_int8(codec, values, buffer), written)
 }
 
 // A column of integers by codec 3.
@@ -250,11 +243,11 @@ pub extern "C" fn mmtf_encode_int16(
     buffer: &mut [u8],
     written: &mut u64,
 ) -> u8
-    ensures answer { λ r. ⌜ r ≡ encodedNumber (encoderSays Kind.Int16 (ofZ w32 codec) 0 (now (values .entry)) (length (now (buffer .entry)))) ⌝ }
-    ensures written { λ r. ⌜ now (written .exit) ≡ encodedCount (encoderSays Kind.Int16 (ofZ w32 codec) 0 (now (values .entry)) (length (now (buffer .entry)))) (now (written .entry)) ⌝ }
-    ensures buffer { λ r. ⌜ now (buffer .exit) ≡ encoderLeaves Kind.Int16 (ofZ w32 codec) 0 (now (values .entry)) (now (buffer .entry)) ⌝ }
+    ensures answer { λ r. ⌜ r ≡ encodedNumber Kind.Int16 codec (pos 0) (now (values .entry)) (now (buffer .entry)) ⌝ }
+    ensures written { λ r. ⌜ now (written .exit) ≡ encodedCount Kind.Int16 codec (pos 0) (now (values .entry)) (now (buffer .entry)) (now (written .entry)) ⌝ }
+    ensures buffer { λ r. ⌜ now (buffer .exit) ≡ encodedLeaves Kind.Int16 codec (pos 0) (now (values .entry)) (now (buffer .entry)) ⌝ }
 {
-    hand_written(encoding::encode_int16(codec, values, buffer), written)
+    hand_count(encoding::encode_int16(codec, values, buffer), written)
 }
 
 // A column of characters by codec 6.
@@ -265,11 +258,11 @@ pub extern "C" fn mmtf_encode_chars(
     buffer: &mut [u8],
     written: &mut u64,
 ) -> u8
-    ensures answer { λ r. ⌜ r ≡ encodedNumber (encoderSays Kind.Chars (ofZ w32 codec) 0 (now (values .entry)) (length (now (buffer .entry)))) ⌝ }
-    ensures written { λ r. ⌜ now (written .exit) ≡ encodedCount (encoderSays Kind.Chars (ofZ w32 codec) 0 (now (values .entry)) (length (now (buffer .entry)))) (now (written .entry)) ⌝ }
-    ensures buffer { λ r. ⌜ now (buffer .exit) ≡ encoderLeaves Kind.Chars (ofZ w32 codec) 0 (now (values .entry)) (now (buffer .entry)) ⌝ }
+    ensures answer { λ r. ⌜ r ≡ encodedNumber Kind.Chars codec (pos 0) (now (values .entry)) (now (buffer .entry)) ⌝ }
+    ensures written { λ r. ⌜ now (written .exit) ≡ encodedCount Kind.Chars codec (pos 0) (now (values .entry)) (now (buffer .entry)) (now (written .entry)) ⌝ }
+    ensures buffer { λ r. ⌜ now (buffer .exit) ≡ encodedLeaves Kind.Chars codec (pos 0) (now (values .entry)) (now (buffer .entry)) ⌝ }
 {
-    hand_written(encoding::encode_chars(codec, values, buffer), written)
+    hand_count(encoding::encode_chars(codec, values, buffer), written)
 }
 
 // A column of strings of `size` bytes each by codec 5.
@@ -281,11 +274,11 @@ pub extern "C" fn mmtf_encode_strings(
     buffer: &mut [u8],
     written: &mut u64,
 ) -> u8
-    ensures answer { λ r. ⌜ r ≡ encodedNumber (encoderSays Kind.Strings (ofZ w32 codec) (ofZ w32 size) (now (names .entry)) (length (now (buffer .entry)))) ⌝ }
-    ensures written { λ r. ⌜ now (written .exit) ≡ encodedCount (encoderSays Kind.Strings (ofZ w32 codec) (ofZ w32 size) (now (names .entry)) (length (now (buffer .entry)))) (now (written .entry)) ⌝ }
-    ensures buffer { λ r. ⌜ now (buffer .exit) ≡ encoderLeaves Kind.Strings (ofZ w32 codec) (ofZ w32 size) (now (names .entry)) (now (buffer .entry)) ⌝ }
+    ensures answer { λ r. ⌜ r ≡ encodedNumber Kind.Strings codec size (now (names .entry)) (now (buffer .entry)) ⌝ }
+    ensures written { λ r. ⌜ now (written .exit) ≡ encodedCount Kind.Strings codec size (now (names .entry)) (now (buffer .entry)) (now (written .entry)) ⌝ }
+    ensures buffer { λ r. ⌜ now (buffer .exit) ≡ encodedLeaves Kind.Strings codec size (now (names .entry)) (now (buffer .entry)) ⌝ }
 {
-    hand_written(
+    hand_count(
         encoding::encode_strings(codec, size, names, buffer),
         written,
     )
@@ -300,11 +293,12 @@ pub extern "C" fn mmtf_encode_fixed_point(
     buffer: &mut [u8],
     written: &mut u64,
 ) -> u8
-    ensures answer { λ r. ⌜ r ≡ encodedNumber (encoderSays Kind.FixedPoint (ofZ w32 codec) (ofZ w32 divisor) (now (values .entry)) (length (now (buffer .entry)))) ⌝ }
-    ensures written { λ r. ⌜ now (written .exit) ≡ encodedCount (encoderSays Kind.FixedPoint (ofZ w32 codec) (ofZ w32 divisor) (now (values .entry)) (length (now (buffer .entry)))) (now (written .entry)) ⌝ }
-    ensures buffer { λ r. ⌜ now (buffer .exit) ≡ encoderLeaves Kind.FixedPoint (ofZ w32 codec) (ofZ w32 divisor) (now (values .entry)) (now (buffer .entry)) ⌝ }
+    ensures answer { λ r. ⌜ r ≡ encodedNumber Kind.FixedPoint codec divisor (now (values .entry)) (now (buffer .entry)) ⌝ }
+    ensures written { λ r. ⌜ now (written .exit)
+        ≡ encodedCount Kind.FixedPoint codec divisor (now (values .entry)) (now (buffer .entry)) (now (written .entry)) ⌝ }
+    ensures buffer { λ r. ⌜ now (buffer .exit) ≡ encodedLeaves Kind.FixedPoint codec divisor (now (values .entry)) (now (buffer .entry)) ⌝ }
 {
-    hand_written(
+    hand_count(
         encoding::encode_fixed_point(codec, divisor, values, buffer),
         written,
     )
@@ -318,11 +312,11 @@ pub extern "C" fn mmtf_encode_float32(
     buffer: &mut [u8],
     written: &mut u64,
 ) -> u8
-    ensures answer { λ r. ⌜ r ≡ encodedNumber (encoderSays Kind.Float32 (ofZ w32 codec) 0 (now (bits .entry)) (length (now (buffer .entry)))) ⌝ }
-    ensures written { λ r. ⌜ now (written .exit) ≡ encodedCount (encoderSays Kind.Float32 (ofZ w32 codec) 0 (now (bits .entry)) (length (now (buffer .entry)))) (now (written .entry)) ⌝ }
-    ensures buffer { λ r. ⌜ now (buffer .exit) ≡ encoderLeaves Kind.Float32 (ofZ w32 codec) 0 (now (bits .entry)) (now (buffer .entry)) ⌝ }
+    ensures answer { λ r. ⌜ r ≡ encodedNumber Kind.Float32 codec (pos 0) (now (bits .entry)) (now (buffer .entry)) ⌝ }
+    ensures written { λ r. ⌜ now (written .exit) ≡ encodedCount Kind.Float32 codec (pos 0) (now (bits .entry)) (now (buffer .entry)) (now (written .entry)) ⌝ }
+    ensures buffer { λ r. ⌜ now (buffer .exit) ≡ encodedLeaves Kind.Float32 codec (pos 0) (now (bits .entry)) (now (buffer .entry)) ⌝ }
 {
-    hand_written(encoding::encode_float32(codec, bits, buffer), written)
+    hand_count(encoding::encode_float32(codec, bits, buffer), written)
 }
 
 // Writes the receipt of a file; or the refusal, 29 for a station or a job out of range, then 25.
@@ -334,15 +328,15 @@ pub extern "C" fn mmtf_write_receipt(
     buffer: &mut [u8],
     written: &mut u64,
 ) -> u8
-    ensures answer { λ r. ⌜ r ≡ receiptNumber (receipt.told station job (now (file .entry)) (length (now (buffer .entry)))) ⌝ }
-    ensures written { λ r. ⌜ now (written .exit) ≡ receiptCount (receipt.told station job (now (file .entry)) (length (now (buffer .entry)))) (now (written .entry)) ⌝ }
-    ensures buffer { λ r. ⌜ now (buffer .exit) ≡ receipt.left station job (now (file .entry)) (now (buffer .entry)) ⌝ }
+    ensures answer { λ r. ⌜ r ≡ receiptNumber station job (now (file .entry)) (now (buffer .entry)) ⌝ }
+    ensures written { λ r. ⌜ now (written .exit) ≡ receiptCount station job (now (file .entry)) (now (buffer .entry)) (now (written .entry)) ⌝ }
+    ensures buffer { λ r. ⌜ now (buffer .exit) ≡ receiptBuffer station job (now (file .entry)) (now (buffer .entry)) ⌝ }
     ensures receipt { λ r. ⌜ (r ≡ 0 → Receipted station job (now (file .entry)) (take (now (written .exit)) (now (buffer .exit)))) ⌝ }
 {
     match receipt::write(station, job, file, buffer) {
-        Written::Refused(r) => r,
-        Written::Bytes(n) => {
-            *written = n as u64;
+        Answer::Refused(number) => number,
+        Answer::Count(size) => {
+            *written = size as u64;
             refusal::ACCEPTED
         }
     }
@@ -381,29 +375,15 @@ fn in_order(receipt: Receipt) -> [u32; 10]
     ]
 }
 
-// Hands on a decoder's answer: the count where it succeeded.
-fn hand_count(answer: Decoded, count: &mut u64) -> u8
-    ensures number { λ r. ⌜ r ≡ decodedNumber answer ⌝ }
-    ensures count { λ r. ⌜ now (count .exit) ≡ decodedCount answer (now (count .entry)) ⌝ }
+// Hands on the answer of a call that fills a buffer: the count where it succeeded.
+fn hand_count(answer: Answer, count: &mut u64) -> u8
+    ensures number { λ r. ⌜ r ≡ answerNumber answer ⌝ }
+    ensures count { λ r. ⌜ now (count .exit) ≡ answerCount answer (now (count .entry)) ⌝ }
 {
     match answer {
-        Decoded::Refused(r) => r,
-        Decoded::Count(n) => {
+        Answer::Refused(r) => r,
+        Answer::Count(n) => {
             *count = n as u64;
-            refusal::ACCEPTED
-        }
-    }
-}
-
-// Hands on an encoder's answer: the bytes written where it succeeded.
-fn hand_written(answer: Encoded, written: &mut u64) -> u8
-    ensures number { λ r. ⌜ r ≡ encodedNumber answer ⌝ }
-    ensures written { λ r. ⌜ now (written .exit) ≡ encodedCount answer (now (written .entry)) ⌝ }
-{
-    match answer {
-        Encoded::Refused(r) => r,
-        Encoded::Written(n) => {
-            *written = n as u64;
             refusal::ACCEPTED
         }
     }

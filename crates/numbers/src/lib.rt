@@ -1,18 +1,26 @@
-// Big-endian numbers in bytes, of 16 and 32 bits, unsigned and signed in two's complement: read from a slice and written into a buffer.
-// Every call is total: a place where the bytes are not all inside reads as 0, and a write there changes nothing.
+// Numbers: big-endian in bytes, of 16 and 32 bits, unsigned and signed in two's complement, read from a slice and written into a buffer; casts
+// to wider types; tests of ranges; a float by its bits. Every call is total: a place where the bytes are not all inside reads as 0, and a
+// write there changes nothing.
 ghost use mathlib.Core.Path.{_≡_};
-ghost use Prim.Native.Nat.{_-_, _%_, _<_};
+ghost use Prim.Native.Nat.{_-_, _%_, _≤_, _<_};
 ghost use mir.Syntax.{w16, w32};
 ghost use mir.Val.{toZ, ofZ};
+ghost use mathlib.Core.Bool.{_&&_};
+ghost use lib.Ieee.{binary32, ofBits};
+ghost use lib.IntN.{pos};
 ghost use Rattle.numbers.specs.BigEndian.{unsignedAt, signedAt, writtenAt};
+ghost use Rattle.numbers.specs.Ranges.{between, lastIndex};
+
+// The largest integer of 32 bits.
+pub const INTEGER_LIMIT: usize = 2_147_483_647;
 
 // The unsigned number in the 2 bytes that start at `at`; 0 where they are not all inside.
 pub fn read_u16(bytes: &[u8], at: usize) -> u16
     ensures { λ r. ⌜ r ≡ unsignedAt 2 (now (bytes .entry)) at ⌝ }
 {
     if 2 <= room(bytes.len(), at) {
-        let a = wide(bytes[at]);
-        let b = wide(bytes[at + 1]);
+        let a = u8_to_u32(bytes[at]);
+        let b = u8_to_u32(bytes[at + 1]);
         (a * 256 + b) as u16
     } else {
         0
@@ -24,10 +32,10 @@ pub fn read_u32(bytes: &[u8], at: usize) -> u32
     ensures { λ r. ⌜ r ≡ unsignedAt 4 (now (bytes .entry)) at ⌝ }
 {
     if 4 <= room(bytes.len(), at) {
-        let a = wide(bytes[at]);
-        let b = wide(bytes[at + 1]);
-        let c = wide(bytes[at + 2]);
-        let d = wide(bytes[at + 3]);
+        let a = u8_to_u32(bytes[at]);
+        let b = u8_to_u32(bytes[at + 1]);
+        let c = u8_to_u32(bytes[at + 2]);
+        let d = u8_to_u32(bytes[at + 3]);
         ((a * 256 + b) * 256 + c) * 256 + d
     } else {
         0
@@ -136,17 +144,131 @@ fn room(length: usize, at: usize) -> usize
     if at <= length { length - at } else { 0 }
 }
 
+// The lowest byte of a number.
+pub fn low_byte(number: u32) -> u8
+    ensures { λ r. ⌜ r ≡ number % 256 ⌝ }
+{
+    (number % 256) as u8
+}
+
+// A byte as a number of 16 bits.
+pub fn u8_to_u16(byte: u8) -> u16
+    ensures is { λ r. ⌜ r ≡ byte ⌝ }
+    ensures bound { λ r. ⌜ r < 256 ⌝ }
+{
+    byte as u16
+}
+
 // A byte as a number of 32 bits.
-fn wide(byte: u8) -> u32
-    ensures { λ r. ⌜ r ≡ byte ⌝ }
-    ensures { λ r. ⌜ r < 256 ⌝ }
+pub fn u8_to_u32(byte: u8) -> u32
+    ensures is { λ r. ⌜ r ≡ byte ⌝ }
+    ensures bound { λ r. ⌜ r < 256 ⌝ }
 {
     byte as u32
 }
 
-// The lowest byte of a number.
-fn low_byte(number: u32) -> u8
-    ensures { λ r. ⌜ r ≡ number % 256 ⌝ }
+// A byte as a size.
+pub fn u8_to_usize(byte: u8) -> usize
+    ensures is { λ r. ⌜ r ≡ byte ⌝ }
+    ensures bound { λ r. ⌜ r < 256 ⌝ }
 {
-    (number % 256) as u8
+    byte as usize
+}
+
+// A byte as an integer.
+pub fn u8_to_i32(byte: u8) -> i32
+    ensures { λ r. ⌜ r ≡ pos byte ⌝ }
+{
+    byte as i32
+}
+
+// A number of 16 bits as a size.
+pub fn u16_to_usize(half: u16) -> usize
+    ensures { λ r. ⌜ r ≡ half ⌝ }
+{
+    half as usize
+}
+
+// A number of 32 bits as a size.
+pub fn u32_to_usize(word: u32) -> usize
+    ensures { λ r. ⌜ r ≡ word ⌝ }
+{
+    word as usize
+}
+
+// A number of 32 bits as one of 64.
+pub fn u32_to_u64(number: u32) -> u64
+    ensures is { λ r. ⌜ r ≡ number ⌝ }
+    ensures bound { λ r. ⌜ r ≤ 4294967295 ⌝ }
+{
+    number as u64
+}
+
+// A size as a number of 64 bits.
+pub fn usize_to_u64(size: usize) -> u64
+    ensures { λ r. ⌜ r ≡ size ⌝ }
+{
+    size as u64
+}
+
+// An integer of 8 bits as one of 32.
+pub fn i8_to_i32(small: i8) -> i32
+    ensures { λ r. ⌜ r ≡ small ⌝ }
+{
+    small as i32
+}
+
+// An integer of 16 bits as one of 32.
+pub fn i16_to_i32(short: i16) -> i32
+    ensures { λ r. ⌜ r ≡ short ⌝ }
+{
+    short as i32
+}
+
+// An integer of 32 bits as one of 64.
+pub fn i32_to_i64(number: i32) -> i64
+    ensures { λ r. ⌜ r ≡ number ⌝ }
+{
+    number as i64
+}
+
+// Whether a number lies between two others.
+pub fn is_between(number: i32, low: i32, high: i32) -> bool
+    ensures { λ r. ⌜ r ≡ between low high number ⌝ }
+{
+    if low <= number {
+        return number <= high;
+    }
+    false
+}
+
+// The last index of a table of n entries that an integer can hold, -1 where there is none.
+pub fn last_index(n: usize) -> i32
+    ensures { λ r. ⌜ r ≡ lastIndex n ⌝ }
+{
+    if n == 0 {
+        return -1;
+    }
+    if INTEGER_LIMIT < n {
+        return i32::MAX;
+    }
+    (n - 1) as i32
+}
+
+// Whether both of two hold.
+pub fn both(a: bool, b: bool) -> bool
+    ensures { λ r. ⌜ r ≡ (a && b) ⌝ }
+{
+    if a { b } else { false }
+}
+
+// The float of a bit pattern; a NaN's pattern gives a NaN.
+pub fn of_bits(bits: u32) -> f32
+    ensures { λ r. ⌜ r ≡ ofBits binary32 bits ⌝ }
+{
+    if bits % 0x8000_0000 <= 0x7f80_0000 {
+        f32::from_bits(bits)
+    } else {
+        0.0 / 0.0
+    }
 }

@@ -1,5 +1,5 @@
 -- What is proved of the definitions of `payloads`.
-pub mod Held
+pub mod Exact
 pub mod Items
 pub mod Scan
 pub mod Plain
@@ -10,4 +10,3 @@ pub mod Totals
 pub mod Runs
 pub mod Refusal
 pub mod Limits
-pub mod Parts

@@ -1,5 +1,5 @@
--- A payload read in one pass: `Held` and `Scan`. `Items` and `Results` are for the code inside.
-pub mod Held
+-- A payload read in one pass: `Exact` and `Scan`. `Items`, `Limits` and `Results` are for the code inside.
+pub mod Exact
 pub mod Scan
 pub mod Items
 pub mod Limits

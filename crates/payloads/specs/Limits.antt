@@ -5,7 +5,7 @@ use mathlib.Core.List.{List}
 use Prim.Native.Nat.{ℕ, zero, suc, _+_, _*_}
 use mir.Syntax.{w16}
 use Rattle.numbers.specs.BigEndian.{signedAt}
-use Rattle.codecs.specs.Packing.{isLimit}
+use Rattle.steps.specs.Packing.{isLimit}
 
 -- 1 where the number at a place is a limit, else 0
 abbrev pub limitAt : List ℕ → ℕ → ℕ

@@ -1,29 +1,16 @@
--- Results one after the other, and what is written of them: what the contracts inside this crate and those above it cite. No lemma
--- stands here: the laws are in Laws/Scan.antt and Laws/Writing.antt. Assumes nothing.
+-- What is written of a payload's results: what the contracts of the decoders' inner steps cite. No lemma stands here: the laws are in
+-- Laws/Writing.antt and Laws/Runs.antt. Assumes nothing.
 use mathlib.Core.Path.{_≡_}
-use mathlib.Core.Bool.{Bool, true, false}
+use mathlib.Core.Bool.{Bool, true}
 use mathlib.Core.Option.{some}
-use mathlib.Core.List.{List, [], _∷_, _++_, map}
+use mathlib.Core.List.{List, _++_, map}
 use Prim.Native.Nat.{ℕ, _+_, _≤_}
 use lib.ListN.{length, take, drop, replicate}
 use lib.IntN.{ℤ}
-use Rattle.codecs.specs.declared.Form.{Form}
-use Rattle.codecs.specs.Delta.{plusDelta}
-use Rattle.payloads.specs.Items.{readIn}
-
--- a result from the one before it and a value: their sum, or the value alone
-abbrev pub advance : Bool → ℤ → ℤ → ℤ
-advance true a v = plusDelta a v
-advance false a v = v
-
-unfoldable pub resultsFrom : Bool → ℤ → List ℤ → List ℤ
-resultsFrom d a [] = []
-resultsFrom d a (v ∷ vs) = advance d a v ∷ resultsFrom d (advance d a v) vs
-
--- the last result
-unfoldable pub lastFrom : Bool → ℤ → List ℤ → ℤ
-lastFrom d a [] = a
-lastFrom d a (v ∷ vs) = lastFrom d (advance d a v) vs
+use Rattle.steps.specs.declared.Form.{Form}
+use Rattle.steps.specs.Delta.{resultsFrom, lastFrom, sumsIf}
+use Rattle.steps.specs.Payload.{readIn}
+use Rattle.payloads.specs.Exact.{allExact}
 
 -- l in place of what stands from o on
 abbrev pub paste : {B : Type 0} → List B → ℕ → List B → List B
@@ -44,3 +31,11 @@ HasResults f s n = (l : List ℤ) × (readIn f s ≡ some l) × (length l ≡ n)
 -- n elements b, or more up to a bound, are written from a place on
 abbrev pub Covered : {B : Type 0} → B → List B → ℕ → ℕ → ℕ → List B → Type 0
 Covered b old from n bound new = (m : ℕ) × (n ≤ m) × (m ≤ bound) × (new ≡ paste old from (replicate m b))
+
+-- what a writer leaves: the results of a payload as elements g at the buffer's start
+abbrev pub Wrote : {B : Type 0} → (ℤ → B) → Form → Bool → List ℕ → List B → List B → Type 0
+Wrote g f d s old new = (l : List ℤ) → readIn f s ≡ some l → new ≡ map g (sumsIf d l) ++ drop (length l) old
+
+-- all results of a payload are exact in single precision
+abbrev pub ResultsExact : Form → Bool → List ℕ → Type 0
+ResultsExact f d s = (l : List ℤ) → readIn f s ≡ some l → allExact (sumsIf d l) ≡ true

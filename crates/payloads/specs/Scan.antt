@@ -8,13 +8,14 @@ use lib.ListN.{length}
 use lib.IntN.{ℤ}
 use lib.Dec.{eqb}
 use Rattle.refusal.specs.Table.{numberNotAllowed, lengthDiffers}
-use Rattle.codecs.specs.declared.Size.the-variants.{One, Two, Four}
-use Rattle.codecs.specs.declared.Form.{Form}
-use Rattle.codecs.specs.declared.Form.the-variants.{Plain, Packed, Runs, Names}
-use Rattle.codecs.specs.Delta.{sumsIf}
+use Rattle.refusal.specs.First.{unless}
+use Rattle.steps.specs.declared.Size.the-variants.{One, Two, Four}
+use Rattle.steps.specs.declared.Form.{Form}
+use Rattle.steps.specs.declared.Form.the-variants.{Plain, Packed, Runs, Names}
+use Rattle.steps.specs.Delta.{sumsIf}
 use Rattle.payloads.specs.declared.Outcome.{Outcome}
 use Rattle.payloads.specs.declared.Outcome.the-variants.{Fine, Refused}
-use Rattle.payloads.specs.Held.{allExact}
+use Rattle.payloads.specs.Exact.{allExact}
 
 -- The forms whose results are judged to be exact: those that a divisor may follow. Of the others the scan says no.
 abbrev pub judgesExact : Form → Bool → Bool
@@ -33,4 +34,4 @@ scanOf f d n (some l) = cond (eqb (length l) n) (Fine (judgesExact f d && allExa
 -- the refusal of n results, or 0
 abbrev pub refusalOf : ℕ → Option (List ℤ) → ℕ
 refusalOf n none = numberNotAllowed
-refusalOf n (some l) = cond (eqb (length l) n) 0 lengthDiffers
+refusalOf n (some l) = unless (eqb (length l) n) lengthDiffers

@@ -7,16 +7,20 @@ ghost use lib.ListN.{length};
 ghost use lib.IntN.{pos};
 ghost use lib.Dec.{eqb, leb};
 ghost use Rattle.refusal.specs.Table.{lengthDiffers};
+ghost use Rattle.steps.specs.Delta.{advance, plusTimes, afterRun};
+ghost use Rattle.steps.specs.Payload.{readIn, heldIn};
 ghost use Rattle.columns.specs.Table.{elements};
-ghost use Rattle.payloads.specs.Held.{heldIn, exact};
+ghost use Rattle.payloads.specs.Exact.{exact};
 ghost use Rattle.payloads.specs.Scan.{scanOf, judgesExact, refusalOf};
-ghost use Rattle.payloads.specs.Results.{advance};
 ghost use Rattle.payloads.specs.Limits.{limitAt, limitsIn, endsAtLimit};
-ghost use Rattle.payloads.specs.Items.{readIn, itemAt, told, plusTimes, afterRun};
-use codecs::Form;
-use codecs::Range;
-use codecs::Size;
-use codecs::Turn;
+ghost use Rattle.payloads.specs.Items.{itemAt, outcomeRefusal};
+use steps::Form;
+use steps::Range;
+use steps::Size;
+use steps::Turn;
+
+// The largest whole number up to which all are exact in single precision.
+pub const EXACT_LIMIT: i32 = 16_777_216;
 
 // What a scan answers: whether the results are of a form that is judged, and exact; or the refusal.
 pub enum Outcome {
@@ -67,10 +71,10 @@ pub fn refusal_of(payload: &[u8], form: Form, size: usize, length: usize) -> u8
 pub fn is_exact(number: i32) -> bool
     ensures { λ r. ⌜ r ≡ exact number ⌝ }
 {
-    if number < -16777216 {
+    if number < -EXACT_LIMIT {
         return false;
     }
-    number <= 16777216
+    number <= EXACT_LIMIT
 }
 
 // The result after `sum`, by a value.
@@ -78,7 +82,7 @@ pub fn next_result(sum: i32, value: i32, delta: bool) -> i32
     ensures { λ r. ⌜ r ≡ advance delta sum value ⌝ }
 {
     if delta {
-        return codecs::add_delta(sum, value);
+        return steps::add_delta(sum, value);
     }
     value
 }
@@ -122,7 +126,7 @@ pub fn item_at(payload: &[u8], at: usize, form: Form) -> Item
 fn scan_plain(payload: &[u8], size: Size, delta: bool, length: usize) -> Outcome
     ensures { λ r. ⌜ r ≡ scanOf (Form.Plain size) delta length (readIn (Form.Plain size) (now (payload .entry))) ⌝ }
 {
-    let k = codecs::bytes(size);
+    let k = steps::bytes(size);
     if payload.len() / k != length {
         return Outcome::Refused(refusal::LENGTH_DIFFERS);
     }
@@ -144,7 +148,7 @@ fn scan_names(payload: &[u8], size: usize, length: usize) -> Outcome
 fn scan_packed(payload: &[u8], size: Size, delta: bool, length: usize) -> Outcome
     ensures { λ r. ⌜ r ≡ scanOf (Form.Packed size) delta length (readIn (Form.Packed size) (now (payload .entry))) ⌝ }
 {
-    let k = codecs::bytes(size);
+    let k = steps::bytes(size);
     let mut i: usize = 0;
     let mut part: i32 = 0;
     let mut begun = false;
@@ -152,16 +156,16 @@ fn scan_packed(payload: &[u8], size: Size, delta: bool, length: usize) -> Outcom
     let mut sum: i32 = 0;
     let mut exact = true;
     while k <= payload.len() - i {
-        let number = codecs::number_at(payload, i, size);
+        let number = steps::number_at(payload, i, size);
         i += k;
-        match codecs::unpack_one(part, number, size) {
+        match steps::unpack_one(part, number, size) {
             Turn::More(s) => {
                 part = s;
                 begun = true;
             }
             Turn::Done(s) => {
                 sum = next_result(sum, s, delta);
-                exact = both(exact, is_exact(sum));
+                exact = numbers::both(exact, is_exact(sum));
                 count += 1;
                 part = 0;
                 begun = false;
@@ -191,14 +195,14 @@ fn scan_two(payload: &[u8], delta: bool, length: usize) -> Outcome
     let mut total: i32 = 0;
     let mut exact = true;
     while 2 <= payload.len() - i {
-        let number = codecs::number_at(payload, i, Size::Two);
+        let number = steps::number_at(payload, i, Size::Two);
         i += 2;
-        total = codecs::add_delta(total, number);
-        last = codecs::is_limit(number, Size::Two);
+        total = steps::add_delta(total, number);
+        last = steps::is_limit(number, Size::Two);
         if last {
             limits += 1;
         } else {
-            exact = both(exact, is_exact(total));
+            exact = numbers::both(exact, is_exact(total));
             total = total_after(total, delta);
         }
     }
@@ -216,7 +220,7 @@ fn scan_two(payload: &[u8], delta: bool, length: usize) -> Outcome
 
 // The refusal that a scan answers, or 0.
 fn refusal_in(outcome: Outcome) -> u8
-    ensures { λ r. ⌜ r ≡ told outcome ⌝ }
+    ensures { λ r. ⌜ r ≡ outcomeRefusal outcome ⌝ }
 {
     match outcome {
         Outcome::Refused(r) => r,
@@ -228,7 +232,7 @@ fn refusal_in(outcome: Outcome) -> u8
 fn names_refusal(payload: &[u8], size: usize, length: usize) -> u8
     ensures { λ r. ⌜ r ≡ refusalOf (elements Form.Names length size) (heldIn Form.Names size (now (payload .entry))) ⌝ }
 {
-    if !codecs::are_names(payload, size) {
+    if !steps::are_names(payload, size) {
         return refusal::NUMBER_NOT_ALLOWED;
     }
     if !is_product(payload.len(), length, size) {
@@ -276,8 +280,8 @@ fn ends_at_limit(payload: &[u8], count: usize) -> bool
     if count == 0 {
         return false;
     }
-    codecs::is_limit(
-        codecs::number_at(payload, 2 * (count - 1), Size::Two),
+    steps::is_limit(
+        steps::number_at(payload, 2 * (count - 1), Size::Two),
         Size::Two,
     )
 }
@@ -316,18 +320,12 @@ fn limit_at(payload: &[u8], at: usize) -> u16
     requires { ⌜ at + 2 ≤ length (now payload) ⌝ }
     ensures { λ r. ⌜ r ≡ limitAt (now (payload .entry)) at ⌝ }
 {
-    let bits = wide(payload[at + 1]) * 256 + wide(payload[at]);
+    let bits = numbers::u8_to_u16(payload[at + 1]) * 256 + numbers::u8_to_u16(payload[at]);
     let moved = std::num::wrapping_add_u16(bits, 129);
     if moved == 0 {
         return 1;
     }
     if moved == 257 { 1 } else { 0 }
-}
-
-fn wide(byte: u8) -> u16
-    ensures { λ r. ⌜ (r ≡ byte) × (r < 256) ⌝ }
-{
-    byte as u16
 }
 
 // The total after a result: with delta it goes on.
@@ -360,7 +358,7 @@ fn scan_runs(payload: &[u8], range: Range, delta: bool, length: usize) -> Outcom
             Item::Run(value, count, next) => {
                 over = either(over, left < count);
                 left = less(left, count);
-                exact = both(exact, is_exact(value));
+                exact = numbers::both(exact, is_exact(value));
                 at = next;
             }
             Item::Wrong => {
@@ -431,11 +429,11 @@ fn plain_item(payload: &[u8], at: usize, size: Size) -> Item
     requires { ⌜ at ≤ length (now payload) ⌝ }
     ensures { λ r. ⌜ r ≡ itemAt (Form.Plain size) (now (payload .entry)) at ⌝ }
 {
-    let k = codecs::bytes(size);
+    let k = steps::bytes(size);
     if payload.len() - at < k {
         return Item::End;
     }
-    Item::Run(codecs::number_at(payload, at, size), 1, at + k)
+    Item::Run(steps::number_at(payload, at, size), 1, at + k)
 }
 
 // One byte of a name.
@@ -443,8 +441,8 @@ fn name_item(payload: &[u8], at: usize) -> Item
     requires { ⌜ at < length (now payload) ⌝ }
     ensures { λ r. ⌜ r ≡ itemAt Form.Names (now (payload .entry)) at ⌝ }
 {
-    let value = codecs::number_at(payload, at, Size::One);
-    if codecs::is_in(value, Range::Ascii) {
+    let value = steps::number_at(payload, at, Size::One);
+    if steps::is_in(value, Range::Ascii) {
         return Item::Run(value, 1, at + 1);
     }
     Item::Wrong
@@ -455,13 +453,13 @@ fn packed_item(payload: &[u8], at: usize, size: Size) -> Item
     requires { ⌜ at ≤ length (now payload) ⌝ }
     ensures { λ r. ⌜ r ≡ itemAt (Form.Packed size) (now (payload .entry)) at ⌝ }
 {
-    let k = codecs::bytes(size);
+    let k = steps::bytes(size);
     let mut i = at;
     let mut sum: i32 = 0;
     while k <= payload.len() - i {
-        let number = codecs::number_at(payload, i, size);
+        let number = steps::number_at(payload, i, size);
         let j = i + k;
-        match codecs::unpack_one(sum, number, size) {
+        match steps::unpack_one(sum, number, size) {
             Turn::More(s) => {
                 sum = s;
             }
@@ -493,7 +491,7 @@ fn run_item(payload: &[u8], at: usize, range: Range) -> Item
     if count < 1 {
         return Item::Wrong;
     }
-    if codecs::is_in(value, range) {
+    if steps::is_in(value, range) {
         return Item::Run(value, numbers::to_u32(count) as usize, at + 8);
     }
     Item::Wrong
@@ -510,10 +508,4 @@ fn either(a: bool, b: bool) -> bool
     ensures { λ r. ⌜ r ≡ (a || b) ⌝ }
 {
     if a { true } else { b }
-}
-
-fn both(a: bool, b: bool) -> bool
-    ensures { λ r. ⌜ r ≡ (a && b) ⌝ }
-{
-    if a { b } else { false }
 }

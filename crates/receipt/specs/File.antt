@@ -3,19 +3,20 @@
 -- own number, `verdictOf`, which is defined by the order of the refusals. Then what writing a receipt answers, and what it leaves in the buffer.
 -- No lemma stands here: the laws are in Laws/File.antt. Assumes nothing.
 use mathlib.Core.Bool.{cond}
-use mathlib.Core.List.{List, _++_}
+use mathlib.Core.List.{List}
 use Prim.Native.Nat.{ℕ}
 use lib.Count.{ones}
-use lib.Dec.{eqb, leb}
-use lib.ListN.{length, drop}
-use Rattle.refusal.specs.Table.{accepted, bufferTooSmall, receiptMalformed}
+use lib.Dec.{eqb}
+use lib.ListN.{length}
+use Rattle.refusal.specs.Table.{accepted, receiptMalformed}
+use Rattle.refusal.specs.Answer.{answered, leaves}
+use Rattle.refusal.specs.declared.Answer.{Answer}
+use Rattle.refusal.specs.declared.Answer.the-variants.{Refused}
 use Rattle.structure.specs.Accepted.{Accepted, verdictOf}
 use Rattle.structure.specs.Summary.{acceptedSummary, refused, summaryOf}
 use Rattle.structure.specs.declared.Summary.{Summary}
 use Rattle.receipt.specs.Receipt.{numbered, written, IsReceipt}
 use Rattle.receipt.specs.declared.Receipt.{Receipt}
-use Rattle.receipt.specs.declared.Written.{Written}
-use Rattle.receipt.specs.declared.Written.the-variants as writing
 
 -- one unit for verdict 0, none for any other
 abbrev pub unitsOf : ℕ → ℕ
@@ -54,15 +55,9 @@ unfoldable pub receiptText : ℕ → ℕ → List ℕ → List ℕ
 receiptText station job file = written (receiptBy station job (summaryOf file))
 
 -- what writing answers for a buffer of n bytes: 29 for a station or a job out of range, then 25, else the number of bytes
-unfoldable pub told : ℕ → ℕ → List ℕ → ℕ → Written
-told station job file n =
-    cond (numbered station job)
-    (cond (leb (length (receiptText station job file)) n) (writing.Bytes (length (receiptText station job file))) (writing.Refused bufferTooSmall))
-    (writing.Refused receiptMalformed)
+unfoldable pub receiptAnswer : ℕ → ℕ → List ℕ → ℕ → Answer
+receiptAnswer station job file n = cond (numbered station job) (answered (length (receiptText station job file)) n) (Refused receiptMalformed)
 
 -- what the buffer holds afterwards: the receipt and then what was there; on refusal what was there
-unfoldable pub left : ℕ → ℕ → List ℕ → List ℕ → List ℕ
-left station job file buffer =
-    cond (numbered station job)
-    (cond (leb (length (receiptText station job file)) (length buffer)) (receiptText station job file ++ drop (length (receiptText station job file)) buffer) buffer)
-    buffer
+unfoldable pub receiptBuffer : ℕ → ℕ → List ℕ → List ℕ → List ℕ
+receiptBuffer station job file buffer = cond (numbered station job) (leaves (receiptText station job file) buffer) buffer

@@ -3,24 +3,25 @@
 -- here. Assumes nothing.
 use mathlib.Core.Bool.{cond, _&&_}
 use mathlib.Core.List.{List, [], _∷_}
-use Prim.Native.Nat.{ℕ, _+_, _*_, _-_}
-use lib.Dec.{eqb, ltb, leb}
+use Prim.Native.Nat.{ℕ, _-_}
+use lib.Dec.{eqb}
 use lib.ListN.{getD}
 use Rattle.refusal.specs.Table.{receiptMalformed}
-use Rattle.messagepack.specs.Equal.{equal}
-use Rattle.receipt.specs.Receipt.{allowed, written}
+use Rattle.text.specs.Equal.{equal}
+use Rattle.text.specs.Decimal.{isDigit, withDigit}
+use Rattle.receipt.specs.Receipt.{written, rulesKept}
 use Rattle.receipt.specs.declared.Receipt.{Receipt}
 use Rattle.receipt.specs.declared.Reading.{Reading}
 use Rattle.receipt.specs.declared.Reading.the-variants.{Numbers, Refused}
 
--- a number with one digit more; as it was where the byte is no digit, or the number has nine digits already
-unfoldable pub shifted : ℕ → ℕ → ℕ
-shifted n b = cond (leb 48 b && (leb b 57 && ltb n 100000000)) (n * 10 + (b - 48)) n
+-- a number with one digit more; as it was where the byte is no digit
+abbrev pub withByte : ℕ → ℕ → ℕ
+withByte n b = cond (isDigit b) (withDigit n (b - 48)) n
 
 -- the numbers at the ends of lines, where n has been read of the first
-unfoldable pub numbersIn : List ℕ → ℕ → List ℕ
-numbersIn [] n = []
-numbersIn (b ∷ bytes) n = cond (eqb b 0x0a) (n ∷ numbersIn bytes 0) (numbersIn bytes (shifted n b))
+unfoldable pub lineNumbers : List ℕ → ℕ → List ℕ
+lineNumbers [] n = []
+lineNumbers (b ∷ bytes) n = cond (eqb b 0x0a) (n ∷ lineNumbers bytes 0) (lineNumbers bytes (withByte n b))
 
 -- the first ten numbers as a receipt's, with 0 for each that is not there
 abbrev pub receiptFrom : List ℕ → Receipt
@@ -39,9 +40,9 @@ receiptFrom ns = record {
 
 -- the only receipt that the bytes can be
 unfoldable pub readFrom : List ℕ → Receipt
-readFrom bytes = receiptFrom (numbersIn bytes 0)
+readFrom bytes = receiptFrom (lineNumbers bytes 0)
 
 -- the numbers at the ends of the lines, if they keep the rules and their text is the bytes; else 29
 unfoldable pub readingOf : List ℕ → Reading
 readingOf bytes =
-    cond (allowed (readFrom bytes) && equal (written (readFrom bytes)) bytes) (Numbers (readFrom bytes)) (Refused receiptMalformed)
+    cond (rulesKept (readFrom bytes) && equal (written (readFrom bytes)) bytes) (Numbers (readFrom bytes)) (Refused receiptMalformed)

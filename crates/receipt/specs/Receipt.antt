@@ -6,11 +6,12 @@ use mathlib.Core.List.{List, [], _∷_, _++_}
 use Prim.Native.Nat.{ℕ}
 use Prim.Native.String as Text
 use lib.Dec.{eqb, leb}
-use Rattle.refusal.specs.Table.{accepted, receiptMalformed}
-use Rattle.utf8.specs.Ascii.{ascii}
-use Rattle.fields.specs.Table.{fieldCount}
+use Rattle.refusal.specs.Table.{accepted, versionNot1, receiptMalformed}
+use Rattle.numbers.specs.Ranges.{within}
+use Rattle.fields.specs.Table.{fieldCount, requiredFields}
 use Rattle.counts.specs.Counts.{countLimit}
 use Rattle.text.specs.Decimal.{decimal}
+use Rattle.text.specs.Ascii.{ascii}
 use Rattle.receipt.specs.declared.Receipt.{Receipt}
 use Rattle.receipt.specs.declared.Reading.{Reading}
 use Rattle.receipt.specs.declared.Reading.the-variants.{Numbers, Refused}
@@ -24,18 +25,21 @@ jobLimit = 999999
 
 -- the last verdict on a file
 abbrev pub verdictLimit : ℕ
-verdictLimit = 24
+verdictLimit = versionNot1
 
 -- the required fields are 16, the named ones 39
 abbrev pub fieldsLeast : ℕ
-fieldsLeast = 16
+fieldsLeast = requiredFields
 
 abbrev pub fieldsMost : ℕ
 fieldsMost = fieldCount
 
--- is n from low to high?
-abbrev pub within : ℕ → ℕ → ℕ → Bool
-within low high n = leb low n && leb n high
+-- the most bytes of a receipt that keeps the rules, and the room of a page for ten lines with any numbers of 32 bits
+abbrev pub receiptLimit : ℕ
+receiptLimit = 128
+
+abbrev pub pageRoom : ℕ
+pageRoom = 176
 
 -- station 1 to 99, job 1 to 999,999
 abbrev pub numbered : ℕ → ℕ → Bool
@@ -54,8 +58,8 @@ refusedRight r =
     && (eqb (r .fields) 0 && eqb (r .units) 0)
 
 -- station and job are in range, the verdict is 0 to 24, and the lines after it are right
-unfoldable pub allowed : Receipt → Bool
-allowed r =
+unfoldable pub rulesKept : Receipt → Bool
+rulesKept r =
     numbered (r .station) (r .job) && (leb (r .verdict) verdictLimit && cond (eqb (r .verdict) accepted) (acceptedRight r) (refusedRight r))
 
 -- the ten numbers in the order of the lines
@@ -87,7 +91,7 @@ written r =
 
 -- the bytes are the receipt r
 pub record IsReceipt (bytes : List ℕ) (r : Receipt) : Type 0 where
-  pub rules : allowed r ≡ true
+  pub rules : rulesKept r ≡ true
   pub text : bytes ≡ written r
 
 -- what reading answers: the numbers of the receipt that the bytes are; 29 where they are none

@@ -10,7 +10,12 @@ firstLines r = namedLine "station" (r .station) ++ namedLine "job" (r .job) ++ n
 
 -- the lines of the five counts
 abbrev pub countsLines : Receipt → List ℕ
-countsLines r = namedLine "models" (r .models) ++ namedLine "chains" (r .chains) ++ namedLine "groups" (r .groups) ++ namedLine "atoms" (r .atoms) ++ namedLine "bonds" (r .bonds)
+countsLines r =
+    namedLine "models" (r .models)
+    ++ namedLine "chains" (r .chains)
+    ++ namedLine "groups" (r .groups)
+    ++ namedLine "atoms" (r .atoms)
+    ++ namedLine "bonds" (r .bonds)
 
 -- the lines of fields and units
 abbrev pub lastLines : Receipt → List ℕ

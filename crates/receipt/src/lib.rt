@@ -1,32 +1,34 @@
-// Receipts: what a lab is billed by. One is written for a file, whatever its bytes, and shows one unit exactly if the file is accepted; and one is
+// Receipts: what a lab is billed by. One is written for a file, whatever its bytes, and shows one unit exactly when the file is accepted; and one is
 // read back from bytes that are a receipt by the rules of paper 01.
 ghost use mathlib.Core.Path.{_≡_};
-ghost use mathlib.Core.Bool.{_&&_};
 ghost use Prim.Native.Nat.{ℕ};
 ghost use lib.ListN.{length, set, take, replicate};
 ghost use lib.Seq.{sets};
+ghost use Rattle.numbers.specs.Ranges.{within};
 ghost use Rattle.text.specs.Put.{Put};
-ghost use Rattle.receipt.specs.Receipt.{within, numbered, acceptedRight, refusedRight, allowed, line, written};
+ghost use Rattle.receipt.specs.Receipt.{pageRoom, numbered, acceptedRight, refusedRight, line, written, rulesKept};
 ghost use Rattle.structure.specs.Summary.{summaryOf};
-ghost use Rattle.receipt.specs.File.{unitsOf, receiptBy, Receipted, told, left};
-ghost use Rattle.receipt.specs.Reading.{shifted, numbersIn, receiptFrom, readingOf};
+ghost use Rattle.receipt.specs.File.{unitsOf, receiptBy, Receipted, receiptAnswer, receiptBuffer};
+ghost use Rattle.receipt.specs.Reading.{withByte, receiptFrom, readingOf, lineNumbers};
 ghost use Rattle.receipt.specs.Steps.{countsLines, firstLines, lastLines};
+use refusal::Answer;
 
-// The last station, job and verdict, the most atoms or other counts, and the fewest and the most fields.
+// The last station and job.
 pub const STATION_LIMIT: u32 = 99;
 
 pub const JOB_LIMIT: u32 = 999_999;
 
-pub const VERDICT_LIMIT: u32 = 24;
+// The last verdict on a file, the most of each count, and the fewest and the most fields.
+const VERDICT_LIMIT: u32 = refusal::VERSION_NOT_1 as u32;
 
-pub const COUNT_LIMIT: u32 = 16_777_216;
+const COUNT_LIMIT: u32 = counts::COUNT_LIMIT as u32;
 
-pub const FIELDS_LEAST: u32 = 16;
+const FIELDS_LEAST: u32 = fields::REQUIRED_FIELDS as u32;
 
-pub const FIELDS_MOST: u32 = 39;
+const FIELDS_MOST: u32 = fields::FIELD_COUNT as u32;
 
-// Room for every receipt: ten names with their signs and line feeds, 76 bytes, and ten digits for each number.
-pub const ROOM: usize = 176;
+// Room on a page for ten lines: their names, signs and line feeds, 76 bytes, and ten digits for each number.
+const ROOM: usize = 176;
 
 // The ten numbers of a receipt, in the order of its lines.
 pub struct Receipt {
@@ -48,28 +50,22 @@ pub enum Reading {
     Refused(u8),
 }
 
-// What writing answers: how many bytes the receipt has, or the refusal.
-pub enum Written {
-    Bytes(usize),
-    Refused(u8),
-}
-
 // Writes the receipt of a file into the buffer: 29 for a station or a job out of range, then 25. A refused file gets its receipt too.
-pub fn write(station: u32, job: u32, file: &[u8], buffer: &mut [u8]) -> Written
-    ensures answer { λ r. ⌜ r ≡ told station job (now (file .entry)) (length (now (buffer .entry))) ⌝ }
-    ensures buffer { λ r. ⌜ now (buffer .exit) ≡ left station job (now (file .entry)) (now (buffer .entry)) ⌝ }
-    ensures receipt { λ r. ⌜ ((n : ℕ) → r ≡ Written.Bytes n → Receipted station job (now (file .entry)) (take n (now (buffer .exit)))) ⌝ }
+pub fn write(station: u32, job: u32, file: &[u8], buffer: &mut [u8]) -> Answer
+    ensures answer { λ r. ⌜ r ≡ receiptAnswer station job (now (file .entry)) (length (now (buffer .entry))) ⌝ }
+    ensures buffer { λ r. ⌜ now (buffer .exit) ≡ receiptBuffer station job (now (file .entry)) (now (buffer .entry)) ⌝ }
+    ensures receipt { λ r. ⌜ ((n : ℕ) → r ≡ Answer.Count n → Receipted station job (now (file .entry)) (take n (now (buffer .exit)))) ⌝ }
 {
     if !is_numbered(station, job) {
-        return Written::Refused(refusal::RECEIPT_MALFORMED);
+        return Answer::Refused(refusal::RECEIPT_MALFORMED);
     }
     let mut page = blank();
     let end = put_receipt(&mut page, receipt_of(station, job, file));
     if buffer.len() < end {
-        return Written::Refused(refusal::BUFFER_TOO_SMALL);
+        return Answer::Refused(refusal::BUFFER_TOO_SMALL);
     }
     text::put(buffer, 0, &page[..end]);
-    Written::Bytes(end)
+    Answer::Count(end)
 }
 
 // The numbers of the receipt of a file.
@@ -80,7 +76,7 @@ fn receipt_of(station: u32, job: u32, file: &[u8]) -> Receipt
     Receipt {
         station,
         job,
-        verdict: wide(summary.verdict),
+        verdict: numbers::u8_to_u32(summary.verdict),
         models: summary.models,
         chains: summary.chains,
         groups: summary.groups,
@@ -101,7 +97,7 @@ fn units_of(verdict: u8) -> u32
     0
 }
 
-// Reads a receipt: its numbers exactly if the bytes are a receipt, else 29.
+// Reads a receipt: its numbers exactly when the bytes are a receipt, else 29.
 pub fn read(bytes: &[u8]) -> Reading
     ensures { λ r. ⌜ r ≡ readingOf (now (bytes .entry)) ⌝ }
 {
@@ -115,7 +111,7 @@ pub fn read(bytes: &[u8]) -> Reading
     }
     let mut page = blank();
     let end = put_receipt(&mut page, receipt);
-    if !messagepack::same_bytes(&page[..end], bytes) {
+    if !text::same_bytes(&page[..end], bytes) {
         return Reading::Refused(refusal::RECEIPT_MALFORMED);
     }
     Reading::Numbers(receipt)
@@ -123,7 +119,7 @@ pub fn read(bytes: &[u8]) -> Reading
 
 // The numbers at the ends of the first ten lines, whatever the lines are: those of a receipt, if the bytes are one.
 fn numbers_in(bytes: &[u8]) -> [u32; 10]
-    ensures { λ r. ⌜ r ≡ sets (replicate 10 0) 0 (numbersIn (now (bytes .entry)) 0) ⌝ }
+    ensures { λ r. ⌜ r ≡ sets (replicate 10 0) 0 (lineNumbers (now (bytes .entry)) 0) ⌝ }
 {
     let mut numbers = [0u32; 10];
     let mut line: usize = 0;
@@ -136,7 +132,7 @@ fn numbers_in(bytes: &[u8]) -> [u32; 10]
             line += 1;
             number = 0;
         } else {
-            number = with_digit(number, byte);
+            number = with_byte(number, byte);
         }
         i += 1;
     }
@@ -152,9 +148,9 @@ fn store(numbers: &mut [u32], line: usize, number: u32)
     }
 }
 
-// A number with one digit more; as it was where the byte is no digit, or the number has nine digits already.
-fn with_digit(number: u32, byte: u8) -> u32
-    ensures value { λ r. ⌜ r ≡ shifted number byte ⌝ }
+// A number with one digit more; as it was where the byte is no digit.
+fn with_byte(number: u32, byte: u8) -> u32
+    ensures { λ r. ⌜ r ≡ withByte number byte ⌝ }
 {
     if byte < b'0' {
         return number;
@@ -162,16 +158,7 @@ fn with_digit(number: u32, byte: u8) -> u32
     if b'9' < byte {
         return number;
     }
-    if 100_000_000 <= number {
-        return number;
-    }
-    number * 10 + wide(byte - b'0')
-}
-
-fn wide(x: u8) -> u32
-    ensures { λ r. ⌜ r ≡ x ⌝ }
-{
-    x as u32
+    text::with_digit(number, byte - b'0')
 }
 
 // Ten numbers as a receipt's.
@@ -194,7 +181,7 @@ fn from_numbers(numbers: &[u32; 10]) -> Receipt
 
 // Whether the numbers are those of a receipt.
 fn is_allowed(receipt: Receipt) -> bool
-    ensures { λ r. ⌜ r ≡ allowed receipt ⌝ }
+    ensures { λ r. ⌜ r ≡ rulesKept receipt ⌝ }
 {
     if !is_numbered(receipt.station, receipt.job) {
         return false;
@@ -212,7 +199,7 @@ fn is_allowed(receipt: Receipt) -> bool
 fn is_numbered(station: u32, job: u32) -> bool
     ensures { λ r. ⌜ r ≡ numbered station job ⌝ }
 {
-    both(
+    numbers::both(
         is_within(1, STATION_LIMIT, station),
         is_within(1, JOB_LIMIT, job),
     )
@@ -222,44 +209,38 @@ fn is_numbered(station: u32, job: u32) -> bool
 fn is_accepted(receipt: Receipt) -> bool
     ensures { λ r. ⌜ r ≡ acceptedRight receipt ⌝ }
 {
-    let inner = both(receipt.atoms <= COUNT_LIMIT, receipt.bonds <= COUNT_LIMIT);
-    let middle = both(receipt.groups <= COUNT_LIMIT, inner);
-    let outer = both(receipt.chains <= COUNT_LIMIT, middle);
-    let counts = both(receipt.models <= COUNT_LIMIT, outer);
+    let inner = numbers::both(receipt.atoms <= COUNT_LIMIT, receipt.bonds <= COUNT_LIMIT);
+    let middle = numbers::both(receipt.groups <= COUNT_LIMIT, inner);
+    let outer = numbers::both(receipt.chains <= COUNT_LIMIT, middle);
+    let counts = numbers::both(receipt.models <= COUNT_LIMIT, outer);
     let fields = is_within(FIELDS_LEAST, FIELDS_MOST, receipt.fields);
-    both(counts, both(fields, receipt.units == 1))
+    numbers::both(counts, numbers::both(fields, receipt.units == 1))
 }
 
 // Whether the seven lines after another verdict are right: all 0.
 fn is_refused(receipt: Receipt) -> bool
     ensures { λ r. ⌜ r ≡ refusedRight receipt ⌝ }
 {
-    let inner = both(receipt.atoms == 0, receipt.bonds == 0);
-    let middle = both(receipt.groups == 0, inner);
-    let outer = both(receipt.chains == 0, middle);
-    let counts = both(receipt.models == 0, outer);
-    both(counts, both(receipt.fields == 0, receipt.units == 0))
+    let inner = numbers::both(receipt.atoms == 0, receipt.bonds == 0);
+    let middle = numbers::both(receipt.groups == 0, inner);
+    let outer = numbers::both(receipt.chains == 0, middle);
+    let counts = numbers::both(receipt.models == 0, outer);
+    numbers::both(
+        counts,
+        numbers::both(receipt.fields == 0, receipt.units == 0),
+    )
 }
 
 // Whether a number is between two others, these included.
 fn is_within(low: u32, high: u32, number: u32) -> bool
     ensures { λ r. ⌜ r ≡ within low high number ⌝ }
 {
-    both(low <= number, number <= high)
-}
-
-fn both(a: bool, b: bool) -> bool
-    ensures { λ r. ⌜ r ≡ (a && b) ⌝ }
-{
-    if a {
-        return b;
-    }
-    false
+    numbers::both(low <= number, number <= high)
 }
 
 // A page with nothing on it.
 fn blank() -> [u8; ROOM]
-    ensures { λ r. ⌜ length r ≡ 176 ⌝ }
+    ensures { λ r. ⌜ length r ≡ pageRoom ⌝ }
 {
     [0u8; ROOM]
 }

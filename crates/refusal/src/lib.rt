@@ -1,7 +1,9 @@
-// The table of refusal numbers: one number for each meaning, the same in every call, output and format.
-// A number is bound to its meaning by name and not by place, so that a new row moves no other.
+// The table of refusal numbers: one number for each meaning, the same in every call, output and format. A number is bound to its meaning by
+// name and not by place, so that a new row moves no other. Numbers of rules are joined in their order, and a call that fills a lent buffer
+// answers a count or a number.
 ghost use mathlib.Core.Path.{_≡_};
 ghost use Rattle.refusal.specs.Table.{refusalNumber};
+ghost use Rattle.refusal.specs.First.{unless as numberUnless};
 
 // accepted
 pub const ACCEPTED: u8 = 0;
@@ -98,6 +100,12 @@ pub enum Refusal {
     ReceiptMalformed,
 }
 
+// What a call answers that fills a lent buffer: how many elements it wrote, or the number of its refusal.
+pub enum Answer {
+    Count(usize),
+    Refused(u8),
+}
+
 // The number of a meaning.
 pub fn number(refusal: Refusal) -> u8
     ensures { λ r. ⌜ r ≡ refusalNumber refusal ⌝ }
@@ -134,4 +142,14 @@ pub fn number(refusal: Refusal) -> u8
         Refusal::NoSuchEntry => NO_SUCH_ENTRY,
         Refusal::ReceiptMalformed => RECEIPT_MALFORMED,
     }
+}
+
+// The number of a rule, unless it holds.
+pub fn unless(holds: bool, number: u8) -> u8
+    ensures { λ r. ⌜ r ≡ numberUnless holds number ⌝ }
+{
+    if holds {
+        return ACCEPTED;
+    }
+    number
 }

@@ -4,8 +4,8 @@ use mathlib.Core.List.{List, _++_}
 use Prim.Native.Nat.{ℕ}
 use lib.Dec.{eqb}
 use Rattle.refusal.specs.Table.{accepted}
-use Rattle.utf8.specs.Ascii.{ascii}
 use Rattle.text.specs.Decimal.{decimal}
+use Rattle.text.specs.Ascii.{ascii}
 use Rattle.meanings.specs.Meanings.{meaningOf}
 use Rattle.sentences.specs.declared.Sentence.{Sentence}
 use Rattle.sentences.specs.declared.Sentence.the-variants.{Verdict, NoView, NoColumn, NoReceipt, TooLong, Unreadable, NoCommand, NoNumber}

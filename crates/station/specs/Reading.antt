@@ -1,8 +1,8 @@
 -- What is read and decoded lies within its buffer. No lemma stands here: the laws are in Laws/Reading.antt. Assumes nothing.
 use Prim.Native.Nat.{ℕ, _≤_}
 use lib.IntN.{pos}
-use Rattle.decoding.specs.declared.Decoded.{Decoded}
-use Rattle.decoding.specs.declared.Decoded.the-variants as decoded
+use Rattle.refusal.specs.declared.Answer.{Answer}
+use Rattle.refusal.specs.declared.Answer.the-variants as answer
 use Rattle.decoding.specs.declared.Fixed.{Fixed}
 use Rattle.decoding.specs.declared.Fixed.the-variants as fixed
 use Rattle.station.specs.declared.files.Contents.{Contents}
@@ -15,15 +15,15 @@ Within TooLong room = Unit {0}
 Within Failed room = Unit {0}
 
 -- a decoder's count is within the room of its buffer
-abbrev pub DecodedWithin : Decoded → ℕ → Type 0
-DecodedWithin (decoded.Count n) room = n ≤ room
-DecodedWithin (decoded.Refused r) room = Unit {0}
+abbrev pub AnswerWithin : Answer → ℕ → Type 0
+AnswerWithin (answer.Count n) room = n ≤ room
+AnswerWithin (answer.Refused r) room = Unit {0}
 
 abbrev pub FixedWithin : Fixed → ℕ → Type 0
 FixedWithin (fixed.Column n d) room = n ≤ room
 FixedWithin (fixed.Refused r) room = Unit {0}
 
 -- an answer about integers, with the divisor 1
-abbrev pub wholeOf : Decoded → Fixed
-wholeOf (decoded.Count n) = fixed.Column n (pos 1)
-wholeOf (decoded.Refused r) = fixed.Refused r
+abbrev pub wholeOf : Answer → Fixed
+wholeOf (answer.Count n) = fixed.Column n (pos 1)
+wholeOf (answer.Refused r) = fixed.Refused r

@@ -2,8 +2,8 @@
 use mathlib.Core.Bool.{cond}
 use mathlib.Core.List.{List}
 use Prim.Native.Nat.{ℕ}
-use Rattle.messagepack.specs.Equal.{equal}
-use Rattle.utf8.specs.Ascii.{ascii}
+use Rattle.text.specs.Equal.{equal}
+use Rattle.text.specs.Ascii.{ascii}
 use Rattle.station.specs.declared.words.Command.{Command}
 use Rattle.station.specs.declared.words.Command.the-variants.{Check, Receipt, View, Column, Help, Unknown}
 

@@ -7,7 +7,7 @@ mod shown;
 mod words;
 
 use files::Contents;
-use receipt::Written;
+use refusal::Answer;
 use sentences::Sentence;
 use text::Number;
 use words::Command;
@@ -78,8 +78,8 @@ fn write_receipt(path: &[u8], file: &[u8]) {
     };
     let mut buffer = io::buffer();
     match receipt::write(station, job, file, &mut buffer) {
-        Written::Refused(r) => say::say(path, b"", Sentence::NoReceipt(r)),
-        Written::Bytes(n) => {
+        Answer::Refused(r) => say::say(path, b"", Sentence::NoReceipt(r)),
+        Answer::Count(n) => {
             output::write(&buffer[..n]);
             check(path, file);
         }

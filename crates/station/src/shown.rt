@@ -1,14 +1,13 @@
 // A column's values on standard output, by its own codec.
 ghost use mathlib.Core.Path.{_≡_};
 ghost use lib.ListN.{length};
-ghost use Rattle.station.specs.Reading.{wholeOf, FixedWithin, DecodedWithin};
+ghost use Rattle.station.specs.Reading.{wholeOf, FixedWithin, AnswerWithin};
 use crate::output;
 use columns::Header;
 use columns::Kind;
 use columns::Wanted;
-use decoding::Decoded;
 use decoding::Fixed;
-use floats::Floats;
+use refusal::Answer;
 
 // The most values that are shown, and the most floats that a file of 65,536 bytes can hold.
 const VALUES: usize = 65536;
@@ -62,12 +61,12 @@ fn decode_numbers(column: &[u8], kind: Kind, buffer: &mut [i32]) -> Fixed
 }
 
 // An answer about integers, with the divisor 1.
-fn whole(answer: Decoded) -> Fixed
+fn whole(answer: Answer) -> Fixed
     ensures { λ r. ⌜ r ≡ wholeOf answer ⌝ }
 {
     match answer {
-        Decoded::Count(n) => Fixed::Column(n, 1),
-        Decoded::Refused(r) => Fixed::Refused(r),
+        Answer::Count(n) => Fixed::Column(n, 1),
+        Answer::Refused(r) => Fixed::Refused(r),
     }
 }
 
@@ -75,8 +74,8 @@ fn whole(answer: Decoded) -> Fixed
 fn show_floats(column: &[u8]) -> u8 {
     let mut buffer = no_floats();
     match floats::decode_float32(column, &mut buffer) {
-        Floats::Refused(r) => r,
-        Floats::Count(n) => {
+        Answer::Refused(r) => r,
+        Answer::Count(n) => {
             output::write_floats(&buffer[..n]);
             refusal::ACCEPTED
         }
@@ -87,8 +86,8 @@ fn show_floats(column: &[u8]) -> u8 {
 fn show_bytes(column: &[u8], kind: Kind, size: usize) -> u8 {
     let mut buffer = io::large_buffer();
     match decode_bytes(column, kind, &mut buffer) {
-        Decoded::Refused(r) => r,
-        Decoded::Count(n) => {
+        Answer::Refused(r) => r,
+        Answer::Count(n) => {
             output::write_names(&buffer[..n], size);
             refusal::ACCEPTED
         }
@@ -96,8 +95,8 @@ fn show_bytes(column: &[u8], kind: Kind, size: usize) -> u8 {
 }
 
 // Decodes a column of characters or strings.
-fn decode_bytes(column: &[u8], kind: Kind, buffer: &mut [u8]) -> Decoded
-    ensures { λ r. ⌜ DecodedWithin r (length (now (buffer .exit))) ⌝ }
+fn decode_bytes(column: &[u8], kind: Kind, buffer: &mut [u8]) -> Answer
+    ensures { λ r. ⌜ AnswerWithin r (length (now (buffer .exit))) ⌝ }
 {
     match kind {
         Kind::Strings => decoding::decode_strings(column, buffer),

@@ -18,19 +18,19 @@ pub enum Command {
 pub(crate) fn command_of(word: &[u8]) -> Command
     ensures { λ r. ⌜ r ≡ commandOf (now (word .entry)) ⌝ }
 {
-    if messagepack::same_bytes(word, b"check") {
+    if text::same_bytes(word, b"check") {
         return Command::Check;
     }
-    if messagepack::same_bytes(word, b"receipt") {
+    if text::same_bytes(word, b"receipt") {
         return Command::Receipt;
     }
-    if messagepack::same_bytes(word, b"view") {
+    if text::same_bytes(word, b"view") {
         return Command::View;
     }
-    if messagepack::same_bytes(word, b"column") {
+    if text::same_bytes(word, b"column") {
         return Command::Column;
     }
-    if messagepack::same_bytes(word, b"help") {
+    if text::same_bytes(word, b"help") {
         return Command::Help;
     }
     Command::Unknown

@@ -4,12 +4,13 @@ use mathlib.Core.Bool.{cond}
 use mathlib.Core.List.{List}
 use Prim.Native.Nat.{ℕ}
 use lib.Dec.{eqb}
+use lib.IntN.{natAbs}
 use Rattle.refusal.specs.Table.{accepted}
 use Rattle.messagepack.specs.Document.{Entries}
 use Rattle.messagepack.specs.Read.{documentOf}
 use Rattle.values.specs.Parts.{entriesOf}
 use Rattle.fields.specs.Fields.{presenceOf}
-use Rattle.counts.specs.Counts.{natural}
+use Rattle.counts.specs.Counts.{countedOf}
 use Rattle.structure.specs.Accepted.{verdictOf}
 use Rattle.structure.specs.declared.Summary.{Summary}
 
@@ -18,11 +19,11 @@ abbrev pub acceptedSummary : Entries → Summary
 acceptedSummary es =
     record {
       verdict = accepted;
-      models = natural "numModels" es;
-      chains = natural "numChains" es;
-      groups = natural "numGroups" es;
-      atoms = natural "numAtoms" es;
-      bonds = natural "numBonds" es;
+      models = natAbs (countedOf es .numModels);
+      chains = natAbs (countedOf es .numChains);
+      groups = natAbs (countedOf es .numGroups);
+      atoms = natAbs (countedOf es .numAtoms);
+      bonds = natAbs (countedOf es .numBonds);
       presence = presenceOf es;
     }
 

@@ -1,6 +1,7 @@
 -- The worked lines of paper 01 that are marked P, in its order: what each line says, and the paper's table. That every line holds is `worked` in
 -- Laws/Worked.antt. No lemma stands here. Assumes nothing.
 use mathlib.Core.Path.{_≡_}
+use mathlib.Core.Bool.{true}
 use mathlib.Core.List.{List, [], _∷_, _++_}
 use Prim.Native.Nat.{ℕ}
 use lib.ListN.{length}
@@ -9,11 +10,11 @@ use Rattle.refusal.specs.Table.{cutShort, unsignedTooLarge, fieldMissing, numbe
 use Rattle.messagepack.specs.Limits.{nestingLimit}
 use Rattle.messagepack.specs.Walk.{valueAt}
 use Rattle.messagepack.specs.declared.Walk.{Walk}
-use Rattle.codecs.specs.declared.Size.{Size}
-use Rattle.codecs.specs.declared.Size.the-variants.{One, Two, Four}
-use Rattle.codecs.specs.Numbers.{bytesFor}
-use Rattle.codecs.specs.Delta.{sumsFrom}
-use Rattle.codecs.specs.Packing.{pack}
+use Rattle.steps.specs.declared.Size.{Size}
+use Rattle.steps.specs.declared.Size.the-variants.{One, Two, Four}
+use Rattle.steps.specs.Numbers.{bytesFor}
+use Rattle.steps.specs.Delta.{sumsIf}
+use Rattle.steps.specs.Packing.{pack}
 use Rattle.columns.specs.declared.Kind.the-variants as kind
 use Rattle.columns.specs.declared.Wanted.the-variants.{Any}
 use Rattle.columns.specs.Header.{headerBytes}
@@ -50,14 +51,14 @@ lines =
     ∷ []
 
 -- a column of n results by the codec c, whose payload is numbers of a size
-abbrev pub columnOf : ℕ → ℕ → Size → List ℤ → List ℕ
-columnOf c n z numbers = headerBytes c n 0 ++ bytesFor z numbers
+abbrev pub columnBytes : ℕ → ℕ → Size → List ℤ → List ℕ
+columnBytes c n z numbers = headerBytes c n 0 ++ bytesFor z numbers
 
 -- what a line says; the codecs of the lines are all of int32 columns
 abbrev pub Says : Line → Type 0
-Says (reads c z numbers cells) = decode Any (columnOf c (length cells) z numbers) ≡ column kind.Int32 0 cells
-Says (refuses c z numbers r) = decode Any (columnOf c (length numbers) z numbers) ≡ Decoding.refused r
-Says (sums deltas cells) = sumsFrom (pos 0) deltas ≡ cells
+Says (reads c z numbers cells) = decode Any (columnBytes c (length cells) z numbers) ≡ column kind.Int32 0 cells
+Says (refuses c z numbers r) = decode Any (columnBytes c (length numbers) z numbers) ≡ Decoding.refused r
+Says (sums deltas cells) = sumsIf true deltas ≡ cells
 Says (packs z numbers packed) = pack z numbers ≡ packed
 Says (value v n) = valueAt v nestingLimit 0 ≡ Walk.Refused n
 Says (file f n) = verdictOf f ≡ n

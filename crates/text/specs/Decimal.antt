@@ -36,6 +36,10 @@ valueFrom n (b ∷ s) = valueFrom (n * 10 + (b - 48)) s
 abbrev pub most : ℕ → ℕ
 most n = min n 4294967295
 
+-- a number with one digit more
+abbrev pub withDigit : ℕ → ℕ → ℕ
+withDigit n digit = most (n * 10 + digit)
+
 -- the number that a word says: one digit at least, and nothing but digits
 unfoldable pub numberIn : List ℕ → Number
 numberIn [] = None

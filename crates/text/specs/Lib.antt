@@ -1,4 +1,6 @@
--- Text put into a buffer, and numbers in decimal.
+-- Bytes as text: `Ascii` is how definitions write it, `Equal` the test of equal bytes, `Put` text put into a buffer, `Decimal` numbers in decimal.
+pub mod Ascii
+pub mod Equal
 pub mod Put
 pub mod Decimal
 pub mod Laws

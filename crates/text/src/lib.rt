@@ -1,15 +1,32 @@
-// Text put into a lent buffer, one piece after the other, and decimal words read as numbers. Every call is total: of what goes beyond
-// the buffer's end nothing is put.
+// Bytes as text: whether two strings of bytes are the same, text put into a lent buffer, one piece after the other, and decimal words read as
+// numbers. Every call is total: of what goes beyond the buffer's end nothing is put.
 ghost use mathlib.Core.Path.{_≡_};
 ghost use mathlib.Core.List.{[], _∷_};
-ghost use Prim.Native.Nat.{_+_, _*_};
+ghost use Rattle.text.specs.Equal.{equal};
 ghost use Rattle.text.specs.Put.{Put};
-ghost use Rattle.text.specs.Decimal.{glyph, decimal, most, numberIn};
+ghost use Rattle.text.specs.Decimal.{glyph, decimal, withDigit, numberIn};
 
 // The number that a word says, or that it is none.
 pub enum Number {
     Is(u32),
     None,
+}
+
+// Whether two strings of bytes are the same.
+pub fn same_bytes(x: &[u8], y: &[u8]) -> bool
+    ensures { λ r. ⌜ r ≡ equal (now (x .entry)) (now (y .entry)) ⌝ }
+{
+    if x.len() != y.len() {
+        return false;
+    }
+    let mut i: usize = 0;
+    while i < x.len() {
+        if x[i] != y[i] {
+            return false;
+        }
+        i += 1;
+    }
+    true
 }
 
 // Puts a byte at a place, and gives the place after it.
@@ -79,8 +96,8 @@ pub fn number_of(word: &[u8]) -> Number
 }
 
 // A number with a digit more; the largest of 32 bits where that is larger.
-fn with_digit(number: u32, digit: u8) -> u32
-    ensures { λ r. ⌜ r ≡ most (number * 10 + digit) ⌝ }
+pub fn with_digit(number: u32, digit: u8) -> u32
+    ensures { λ r. ⌜ r ≡ withDigit number digit ⌝ }
 {
     let sum = (number as u64) * 10 + (digit as u64);
     if sum <= 4294967295 {

@@ -12,9 +12,8 @@ use Rattle.refusal.specs.Table.{accepted, fieldType, noSuchField, noSuchEntry}
 use Rattle.messagepack.specs.Document.{Document, Documents, none, item}
 use Rattle.messagepack.specs.Walk.{containerNumber}
 use Rattle.messagepack.specs.Read.{documentOf}
-use Rattle.values.specs.Parts.{bitsOf, itemsOf, entriesOf}
-use Rattle.fields.specs.Types.{FieldType, arrayOf, mapWith, look}
-use Rattle.utf8.specs.Ascii.{ascii}
+use Rattle.values.specs.Parts.{bitsOf, itemsOf, under, itemsIn}
+use Rattle.fields.specs.Types.{FieldType, arrayOf, mapWith}
 use Rattle.fields.specs.Table.{assemblyRows}
 use Rattle.fields.specs.Tests.{isThere, typed}
 
@@ -31,13 +30,8 @@ itemIn i nothing = nothing
 
 -- the value under a key of a map, if there is one
 abbrev pub keyIn : Text.String → Option Document → Option Document
-keyIn name (some x) = look (ascii name) (entriesOf x)
+keyIn name (some x) = under name x
 keyIn name nothing = nothing
-
--- the values of an array, if there is one
-abbrev pub itemsIn : Option Document → Documents
-itemsIn (some x) = itemsOf x
-itemsIn nothing = none
 
 -- the type of bioAssemblyList
 abbrev pub assembliesType : FieldType
@@ -45,7 +39,7 @@ assembliesType = arrayOf (mapWith assemblyRows)
 
 -- bioAssemblyList in a file, if it is there
 abbrev pub assembliesOf : List ℕ → Option Document
-assembliesOf file = keyIn "bioAssemblyList" (some (documentOf file))
+assembliesOf file = under "bioAssemblyList" (documentOf file)
 
 -- the transform with the number t of the assembly with the number a, if there is one
 abbrev pub transformIn : ℕ → ℕ → Option Document → Option Document

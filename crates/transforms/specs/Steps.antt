@@ -1,11 +1,13 @@
 -- What the functions inside this crate say of whatever stands at a place. No lemma stands here. Assumes nothing.
+use mathlib.Core.Path.{_≡_}
 use mathlib.Core.List.{List}
 use mathlib.Core.Option.{Option, some, none as nothing}
-use Prim.Native.Nat.{ℕ}
+use Prim.Native.Nat.{ℕ, _<_}
 use lib.Ieee.{Float}
-use Rattle.messagepack.specs.Document.{Document}
-use Rattle.values.specs.Places.{At}
-use Rattle.transforms.specs.Matrix.{zeros, handed}
+use Rattle.heads.specs.Table.{leadTable}
+use Rattle.messagepack.specs.Document.{Document, Documents, count}
+use Rattle.values.specs.Places.{At, AtAll}
+use Rattle.transforms.specs.Matrix.{zeros, handed, assembliesNumber, transformIn, matrixIn}
 use Rattle.transforms.specs.declared.Found.{Found}
 use Rattle.transforms.specs.declared.Transform.{Transform}
 
@@ -18,6 +20,14 @@ pub data FoundSays (s : List ℕ) : Found → Option Document → Type 0 where
 abbrev pub refusedBy : ℕ → Transform
 refusedBy number = record { refusal = number; floats = zeros }
 
+-- a promise on a walked file by the values of an array that stand from a place on, more than n of them
+abbrev pub WalkedPast : List ℕ → List ℕ → ℕ → ℕ → (Documents → Type 0) → Type 0
+WalkedPast leads file at n P = leads ≡ leadTable → (ds : Documents) (e : ℕ) → AtAll file at ds e → n < count ds → P ds
+
 -- what is answered with a number and the floats of a matrix
 abbrev pub answer : ℕ → List Float → Transform
 answer number floats = record { refusal = number; floats = handed number floats }
+
+-- what is answered for a transform by bioAssemblyList
+abbrev pub answerOf : ℕ → ℕ → Option Document → Transform
+answerOf a t o = answer (assembliesNumber a t o) (matrixIn (transformIn a t o))

@@ -3,15 +3,14 @@
 ghost use mathlib.Core.Path.{_≡_};
 ghost use mathlib.Core.Bool.{true};
 ghost use mathlib.Core.Option.{some};
-ghost use Prim.Native.Nat.{ℕ, _+_, _≤_, _<_};
+ghost use Prim.Native.Nat.{_+_, _≤_};
 ghost use lib.ListN.{take, drop};
-ghost use Rattle.heads.specs.Table.{leadTable};
-ghost use Rattle.messagepack.specs.Document.{Document, Documents, count};
+ghost use Rattle.messagepack.specs.Document.{count};
 ghost use Rattle.values.specs.Parts.{bitsOf, itemsOf};
-ghost use Rattle.values.specs.Places.{At, AtAll};
+ghost use Rattle.values.specs.Walked.{Walked, WalkedAll};
 ghost use Rattle.fields.specs.Tests.{typed};
-ghost use Rattle.transforms.specs.Matrix.{nth, assembliesType, assembliesNumber, transformIn, matrixNumber, matrixIn, floatsOf, zeros, matrixFloats, rowsOf, matrixOf};
-ghost use Rattle.transforms.specs.Steps.{FoundSays, refusedBy, answer};
+ghost use Rattle.transforms.specs.Matrix.{nth, assembliesType, matrixNumber, floatsOf, zeros, matrixFloats, rowsOf, matrixOf};
+ghost use Rattle.transforms.specs.Steps.{FoundSays, WalkedPast, refusedBy, answerOf};
 use heads::Head;
 use heads::Kind;
 
@@ -53,11 +52,11 @@ pub fn find(file: &[u8], assembly: u64, transform: u64) -> Transform
         return refused(number);
     }
     let leads = heads::leads();
-    let at = keys::find(&leads, file, 0, b"bioAssemblyList");
+    let at = values::keys::find(&leads, file, 0, b"bioAssemblyList");
     if at == 0 {
         return refused(refusal::NO_SUCH_FIELD);
     }
-    if !fields::is_typed(&leads, file, at, ASSEMBLIES) {
+    if !fields::is_typed(&leads, file, at, fields::BIO_ASSEMBLY_LIST) {
         return refused(refusal::FIELD_TYPE);
     }
     transform_in(&leads, file, at, assembly, transform)
@@ -108,16 +107,16 @@ fn transform_in(
     assembly: u64,
     transform: u64,
 ) -> Transform
-    ensures { λ r. ⌜ (now (leads .entry) ≡ leadTable → (x : Document) (e : ℕ) → At (now (file .entry)) at x e → typed assembliesType x ≡ true → r ≡ answer (assembliesNumber assembly transform (some x)) (matrixIn (transformIn assembly transform (some x)))) ⌝ }
+    ensures { λ r. ⌜ Walked (now (leads .entry)) (now (file .entry)) at (λ x e. typed assembliesType x ≡ true → r ≡ answerOf assembly transform (some x)) ⌝ }
 {
     let Found::At(a) = item(leads, file, at, assembly) else {
         return refused(refusal::NO_SUCH_ENTRY);
     };
-    let list = keys::find(leads, file, a, b"transformList");
+    let list = values::keys::find(leads, file, a, b"transformList");
     let Found::At(t) = item(leads, file, list, transform) else {
         return refused(refusal::NO_SUCH_ENTRY);
     };
-    let floats = floats_at(leads, file, keys::find(leads, file, t, b"matrix"));
+    let floats = floats_at(leads, file, values::keys::find(leads, file, t, b"matrix"));
     Transform {
         refusal: refusal::ACCEPTED,
         floats: floats,
@@ -126,7 +125,7 @@ fn transform_in(
 
 // The value with a number in the array at a place.
 fn item(leads: &[u8; 256], file: &[u8], at: usize, number: u64) -> Found
-    ensures { λ r. ⌜ (now (leads .entry) ≡ leadTable → (x : Document) (e : ℕ) → At (now (file .entry)) at x e → FoundSays (now (file .entry)) r (nth number (itemsOf x))) ⌝ }
+    ensures { λ r. ⌜ Walked (now (leads .entry)) (now (file .entry)) at (λ x e. FoundSays (now (file .entry)) r (nth number (itemsOf x))) ⌝ }
 {
     let part = values::items_at(leads, file, at);
     let n = number as usize;
@@ -138,7 +137,7 @@ fn item(leads: &[u8; 256], file: &[u8], at: usize, number: u64) -> Found
 
 // The place after n values from a place on.
 fn past(leads: &[u8; 256], file: &[u8], at: usize, n: usize) -> usize
-    ensures { λ r. ⌜ (now (leads .entry) ≡ leadTable → (ds : Documents) (e : ℕ) → AtAll (now (file .entry)) at ds e → n < count ds → FoundSays (now (file .entry)) (Found.At r) (nth n ds)) ⌝ }
+    ensures { λ r. ⌜ WalkedPast (now (leads .entry)) (now (file .entry)) at n (λ ds. FoundSays (now (file .entry)) (Found.At r) (nth n ds)) ⌝ }
 {
     let mut left = n;
     let mut p = at;
@@ -151,7 +150,7 @@ fn past(leads: &[u8; 256], file: &[u8], at: usize, n: usize) -> usize
 
 // The floats of the array at a place that has sixteen values.
 fn floats_at(leads: &[u8; 256], file: &[u8], at: usize) -> [f32; 16]
-    ensures { λ r. ⌜ (now (leads .entry) ≡ leadTable → (x : Document) (e : ℕ) → At (now (file .entry)) at x e → count (itemsOf x) ≡ 16 → r ≡ floatsOf (itemsOf x)) ⌝ }
+    ensures { λ r. ⌜ Walked (now (leads .entry)) (now (file .entry)) at (λ x e. count (itemsOf x) ≡ 16 → r ≡ floatsOf (itemsOf x)) ⌝ }
 {
     let part = values::items_at(leads, file, at);
     floats_from(leads, file, part.at)
@@ -159,13 +158,13 @@ fn floats_at(leads: &[u8; 256], file: &[u8], at: usize) -> [f32; 16]
 
 // The floats of sixteen values from a place on.
 fn floats_from(leads: &[u8; 256], file: &[u8], at: usize) -> [f32; 16]
-    ensures { λ r. ⌜ (now (leads .entry) ≡ leadTable → (ds : Documents) (e : ℕ) → AtAll (now (file .entry)) at ds e → count ds ≡ 16 → r ≡ floatsOf ds) ⌝ }
+    ensures { λ r. ⌜ WalkedAll (now (leads .entry)) (now (file .entry)) 16 at (λ ds e. r ≡ floatsOf ds) ⌝ }
 {
     let mut floats = no_floats();
     let mut i: usize = 0;
     let mut p = at;
     while i < 16 {
-        floats[i] = floats::of_bits(bits_at(leads, file, p));
+        floats[i] = numbers::of_bits(bits_at(leads, file, p));
         p = values::skip(leads, file, p);
         i += 1;
     }
@@ -174,7 +173,7 @@ fn floats_from(leads: &[u8; 256], file: &[u8], at: usize) -> [f32; 16]
 
 // The bits of the float at a place; of another value 0.
 fn bits_at(leads: &[u8; 256], file: &[u8], at: usize) -> u32
-    ensures { λ r. ⌜ (now (leads .entry) ≡ leadTable → (x : Document) (e : ℕ) → At (now (file .entry)) at x e → r ≡ bitsOf x) ⌝ }
+    ensures { λ r. ⌜ Walked (now (leads .entry)) (now (file .entry)) at (λ x e. r ≡ bitsOf x) ⌝ }
 {
     let Head::At(n, _) = heads::head_at(leads, file, at) else {
         return 0;
@@ -184,6 +183,3 @@ fn bits_at(leads: &[u8; 256], file: &[u8], at: usize) -> u32
         _ => 0,
     }
 }
-
-// The number of bioAssemblyList among the named fields.
-const ASSEMBLIES: usize = 37;

@@ -3,11 +3,8 @@
 use mathlib.Core.Bool.{Bool, true, cond, _&&_, _||_}
 use mathlib.Core.List.{List, [], _∷_}
 use Prim.Native.Nat.{ℕ, zero, suc}
-use lib.Dec.{ltb, leb, eqb}
-
--- the byte lies within lo and hi, both included
-abbrev pub within : ℕ → ℕ → ℕ → Bool
-within lo hi b = leb lo b && leb b hi
+use lib.Dec.{ltb, eqb}
+use Rattle.numbers.specs.Ranges.{within}
 
 -- a byte that starts a character
 unfoldable pub isLead : ℕ → Bool

@@ -1,5 +1,4 @@
--- UTF-8: `Utf8` is the rule, `Check` the test; `Ascii` is how definitions write text. `Step` is for the code inside.
-pub mod Ascii
+-- UTF-8: `Utf8` is the rule, `Check` the test. `Step` is for the code inside.
 pub mod Utf8
 pub mod Check
 pub mod Step

@@ -7,7 +7,7 @@ use Prim.Native.Nat.{ℕ, _+_, _-_}
 use lib.Dec.{eqb, leb, ltb}
 use lib.IntN.{ℤ, pos}
 use lib.ListN.{length, getD}
-use Rattle.heads.specs.Table.{kindNumber, kindBy, headBy}
+use Rattle.heads.specs.Table.{kindCell, kindBy, headBy}
 use Rattle.heads.specs.declared.Kind.{Kind}
 use Rattle.heads.specs.declared.Head.{Head}
 use Rattle.values.specs.Places.{unsignedBy, signedBy}
@@ -15,25 +15,25 @@ use Rattle.values.specs.declared.Part.{Part}
 
 -- kinds told apart
 abbrev pub isInteger : Kind → Bool
-isInteger k = cond (eqb (kindNumber k) 1) true (eqb (kindNumber k) 2)
+isInteger k = cond (eqb (kindCell k) (kindCell Kind.Unsigned)) true (eqb (kindCell k) (kindCell Kind.Signed))
 
 abbrev pub isSigned : Kind → Bool
-isSigned k = eqb (kindNumber k) 2
+isSigned k = eqb (kindCell k) (kindCell Kind.Signed)
 
 abbrev pub isFloat : Kind → Bool
-isFloat k = eqb (kindNumber k) 3
+isFloat k = eqb (kindCell k) (kindCell Kind.Float)
 
 abbrev pub isString : Kind → Bool
-isString k = eqb (kindNumber k) 4
+isString k = eqb (kindCell k) (kindCell Kind.Str)
 
 abbrev pub isBinary : Kind → Bool
-isBinary k = eqb (kindNumber k) 5
+isBinary k = eqb (kindCell k) (kindCell Kind.Bin)
 
 abbrev pub isArray : Kind → Bool
-isArray k = eqb (kindNumber k) 6
+isArray k = eqb (kindCell k) (kindCell Kind.Array)
 
 abbrev pub isMap : Kind → Bool
-isMap k = eqb (kindNumber k) 7
+isMap k = eqb (kindCell k) (kindCell Kind.Map)
 
 -- the part of a value that has none
 abbrev pub noPart : Part

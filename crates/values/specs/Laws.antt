@@ -2,3 +2,6 @@
 pub mod Standing
 pub mod Places
 pub mod Heads
+pub mod Parts
+pub mod Seeking
+pub mod Integers

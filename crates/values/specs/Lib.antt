@@ -4,4 +4,6 @@ pub mod Places
 pub mod Heads
 pub mod Standing
 pub mod Walked
+pub mod Seeking
+pub mod Integers
 pub mod Laws

@@ -1,8 +1,13 @@
 -- The parts of a document, each total: of a document of another kind nothing. No place, no reader and no lemma stands here. Assumes nothing.
+use mathlib.Core.Bool.{cond}
 use mathlib.Core.List.{List, []}
+use mathlib.Core.Option.{Option, some, none as nothing}
 use Prim.Native.Nat.{ℕ}
+use Prim.Native.String as Text
 use lib.IntN.{ℤ, pos}
-use Rattle.messagepack.specs.Document.{Document, Documents, Entries, integer, float, string, binary, array, map, none, empty}
+use Rattle.text.specs.Ascii.{ascii}
+use Rattle.text.specs.Equal.{equal}
+use Rattle.messagepack.specs.Document.{Document, Documents, Entries, integer, float, string, binary, array, map, none, empty, entry}
 
 -- an integer, else 0
 abbrev pub integerOf : Document → ℤ
@@ -48,3 +53,17 @@ entriesOf (float bits) = empty
 entriesOf (string t) = empty
 entriesOf (binary t) = empty
 entriesOf (array ds) = empty
+
+-- the value under a key: the first, though by the rules of a container there is one at most
+unfoldable pub look : List ℕ → Entries → Option Document
+look k empty = nothing
+look k (entry l x es) = cond (equal l k) (some x) (look k es)
+
+-- the value under a key of a map, by its name
+abbrev pub under : Text.String → Document → Option Document
+under name x = look (ascii name) (entriesOf x)
+
+-- the values of an array, if there is one
+abbrev pub itemsIn : Option Document → Documents
+itemsIn (some x) = itemsOf x
+itemsIn nothing = none

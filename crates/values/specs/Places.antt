@@ -8,9 +8,9 @@ use Prim.Native.Nat.{ℕ, _+_, _-_, _<_}
 use lib.Dec.{eqb, leb, ltb}
 use lib.IntN.{ℤ, pos, negsuc}
 use lib.ListN.{take, drop}
+use Rattle.numbers.specs.Ranges.{integerLimit}
 use Rattle.heads.specs.Span.{Span}
 use Rattle.messagepack.specs.Document.{Document, Documents, Entries, integer, float, string, binary, array, map, Writes, WritesAll, WritesEntries, count, size}
-use Rattle.messagepack.specs.Limits.{integerLimit}
 use Rattle.messagepack.specs.Rules.{Keeps, KeepsAll, KeepsEntries, Distinct}
 use Rattle.values.specs.Parts.{textOf, itemsOf, entriesOf}
 use Rattle.values.specs.declared.Part.{Part}

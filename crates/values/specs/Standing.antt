@@ -25,7 +25,7 @@ pairsOver size n p = cond (leb (p + (n + n)) size) (Over.On p (n + n)) Over.Stop
 
 -- the n values from a place on are integers in their lead bytes
 pub record LowRun (s : List ℕ) (at n : ℕ) : Type 0 where
-  pub within : at + n ≤ length s
+  pub inside : at + n ≤ length s
   pub low : (i : ℕ) → i < n → getD s (at + i) 0 < 0x80
 
 -- a step to n values, or over all of them

@@ -4,31 +4,30 @@
 -- program reach have no such condition: those that take a file walk it first, and all promise their results for all bytes.
 --
 -- These inner steps promise a result for any table that is lent (*heads* `Table`, *values* `Heads`), and its meaning for a walked file:
---   heads::kind_at             the kind of the value at a place
---   heads::head_at             the number that the head at a place holds, and where the head ends
---   values::integer_at         the integer at a place, else 0
---   values::text_at            the bytes of the string or the binary at a place, else none
---   values::items_at           the values of the array at a place, else none
---   values::entries_at         the entries of the map at a place, else none
+--   heads::kind_at                 the kind of the value at a place
+--   heads::head_at                 the number that the head at a place holds, and where the head ends
+--   values::integer_at             the integer at a place, else 0
+--   values::text_at                the bytes of the string or the binary at a place, else none
+--   values::items_at               the values of the array at a place, else none
+--   values::entries_at             the entries of the map at a place, else none
 --
 -- These promise only what they mean for a walked file:
---   values::skip               where the value at a place ends
---   fields::note               where the named fields of a map's entries stand, which are there, and whether each has its type
---   fields::refusal_of         the refusal 12, 13 or 24 by what `fields::note` noted, or 0
---   fields::is_typed           whether the value at a place has the type of a named field
---   keys::find                 the place of the value under a key of the map at a place, or 0
---   lists::sum_at              the sum of the integers of the array at a place, in a file within the limit
---   lists::all_between         whether the integers of the array at a place lie between two numbers
---   groups::group_at           rule 5 for the group type at a place, its atoms, its bonds and its end, in a file within the limit
---   groups::inside             whether the integers of the array at a place are indices of a table of n entries
---   groups::list_at            whether an array stands at a place, and how many values it has
---   indices::all_inside        whether the chains that entities or transforms list are inside the chains
---   indices::assemblies_inside whether the chains that the transforms of assemblies list are inside the chains
---   counts::columns_refusal    the refusal of the first column that has one, 14 to 19, or 0
---   counts::lengths_agree      whether each column has its length, where the columns decode
---   counts::list_at            the length of the column at a place, which decodes
---   counts::all_between        whether the cells of the column at a place, which decodes, lie between two numbers
---   counts::totals             the sums of two tables over the cells of the column at a place, which decodes
+--   values::skip                   where the value at a place ends
+--   values::keys::find             the place of the value under a key of the map at a place, or 0
+--   values::lists::sum_at          the sum of the integers of the array at a place, in a file within the limit
+--   values::lists::all_between     whether the integers of the array at a place lie between two numbers
+--   values::lists::inside          whether the integers of the array at a place are indices of a table of n entries
+--   values::lists::length_at       whether an array stands at a place, and how many values it has
+--   fields::note                   where the named fields of a map's entries stand, which are there, and whether each has its type
+--   fields::refusal_of             the refusal 12, 13 or 24 by what `fields::note` noted, or 0
+--   fields::is_typed               whether the value at a place has the type of a named field
+--   file_columns::columns_refusal  the refusal of the first column that has one, 14 to 19, or 0
+--   file_columns::lengths_fit      whether each column has its length, where the columns decode
+--   file_columns::length_at        the length of the column at a place, which decodes
+--   file_columns::all_between      whether the cells of the column at a place, which decodes, lie between two numbers
+--   file_columns::totals           the sums of two tables over the cells of the column at a place, which decodes
+--   counts::counts_at              the five num fields at their places, where the required fields are there and the columns decode
+--   counts::refusal_of             the refusal by the eleven rules, 20 to 23, or 0, where the required fields are there and the columns decode
 --
 -- No lemma stands here. Assumes nothing.
 use mathlib.Core.Path.{_≡_}

@@ -2,6 +2,9 @@
 // file that has been walked (specs/Walked.antt). The table of lead bytes is lent (`heads::leads`). The commonest lead bytes are looked at before
 // the table, since files are mostly made of them: `text_at` says so by a case of its definition. What `skip` answers by another table is left
 // free, since it goes by the lead bytes and by the table that is lent.
+pub mod keys;
+pub mod lists;
+
 ghost use mathlib.Core.Path.{_≡_};
 ghost use mathlib.Core.Logic.{_↔_};
 ghost use mathlib.Core.Bool.{true};
@@ -96,19 +99,13 @@ fn step_over(leads: &[u8; 256], file: &[u8], at: usize) -> Over
             return step_by_table(leads, file, at);
         }
         if b < 0xc0 {
-            return past(file, wide(b - 0xa0), at + 1);
+            return past(file, numbers::u8_to_usize(b - 0xa0), at + 1);
         }
         if b == 0xca {
             return past(file, 4, at + 1);
         }
     }
     step_by_table(leads, file, at)
-}
-
-fn wide(x: u8) -> usize
-    ensures { λ r. ⌜ r ≡ x ⌝ }
-{
-    x as usize
 }
 
 // A step over the head of the value at a place, and the body of a string or a binary, by the table of lead bytes.
@@ -178,13 +175,7 @@ pub fn integer_at(leads: &[u8; 256], file: &[u8], at: usize) -> i32
     match heads::kind_at(leads, file, at) {
         Kind::Unsigned => unsigned(n),
         Kind::Signed => signed(n, less(p, at)),
-        Kind::Float => 0,
-        Kind::Str => 0,
-        Kind::Bin => 0,
-        Kind::Array => 0,
-        Kind::Map => 0,
-        Kind::Outside => 0,
-        Kind::Missing => 0,
+        _ => 0,
     }
 }
 
@@ -192,7 +183,7 @@ pub fn integer_at(leads: &[u8; 256], file: &[u8], at: usize) -> i32
 fn unsigned(n: usize) -> i32
     ensures { λ r. ⌜ r ≡ unsignedBy n ⌝ }
 {
-    if n <= messagepack::INTEGER_LIMIT {
+    if n <= numbers::INTEGER_LIMIT {
         return n as i32;
     }
     0
@@ -260,7 +251,7 @@ pub fn text_at(leads: &[u8; 256], file: &[u8], at: usize) -> Part
             return text_by_table(leads, file, at);
         }
         if b < 0xc0 {
-            return body(file, wide(b - 0xa0), at + 1);
+            return body(file, numbers::u8_to_usize(b - 0xa0), at + 1);
         }
     }
     text_by_table(leads, file, at)
@@ -278,13 +269,7 @@ fn text_by_table(leads: &[u8; 256], file: &[u8], at: usize) -> Part
     match heads::kind_at(leads, file, at) {
         Kind::Str => body(file, n, p),
         Kind::Bin => body(file, n, p),
-        Kind::Unsigned => Part { at: 0, count: 0 },
-        Kind::Signed => Part { at: 0, count: 0 },
-        Kind::Float => Part { at: 0, count: 0 },
-        Kind::Array => Part { at: 0, count: 0 },
-        Kind::Map => Part { at: 0, count: 0 },
-        Kind::Outside => Part { at: 0, count: 0 },
-        Kind::Missing => Part { at: 0, count: 0 },
+        _ => Part { at: 0, count: 0 },
     }
 }
 
@@ -312,14 +297,7 @@ pub fn items_at(leads: &[u8; 256], file: &[u8], at: usize) -> Part
     };
     match heads::kind_at(leads, file, at) {
         Kind::Array => values_from(file, n, p),
-        Kind::Unsigned => Part { at: 0, count: 0 },
-        Kind::Signed => Part { at: 0, count: 0 },
-        Kind::Float => Part { at: 0, count: 0 },
-        Kind::Str => Part { at: 0, count: 0 },
-        Kind::Bin => Part { at: 0, count: 0 },
-        Kind::Map => Part { at: 0, count: 0 },
-        Kind::Outside => Part { at: 0, count: 0 },
-        Kind::Missing => Part { at: 0, count: 0 },
+        _ => Part { at: 0, count: 0 },
     }
 }
 
@@ -343,13 +321,6 @@ pub fn entries_at(leads: &[u8; 256], file: &[u8], at: usize) -> Part
     };
     match heads::kind_at(leads, file, at) {
         Kind::Map => Part { at: p, count: n },
-        Kind::Unsigned => Part { at: 0, count: 0 },
-        Kind::Signed => Part { at: 0, count: 0 },
-        Kind::Float => Part { at: 0, count: 0 },
-        Kind::Str => Part { at: 0, count: 0 },
-        Kind::Bin => Part { at: 0, count: 0 },
-        Kind::Array => Part { at: 0, count: 0 },
-        Kind::Outside => Part { at: 0, count: 0 },
-        Kind::Missing => Part { at: 0, count: 0 },
+        _ => Part { at: 0, count: 0 },
     }
 }

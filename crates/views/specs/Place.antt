@@ -1,32 +1,25 @@
 -- The place and the part of a view by a definition, for any bytes and any name: what the calls answer. The entries are read in their order, with
 -- the heads of `heads` and the walk of `messagepack`. In a file that passes as a container no head that is met is cut short, and each value ends.
 -- That the place and the part are those of View.antt is `placeOf-is` and `partOf-is` of Laws/View.antt. No lemma stands here. Assumes nothing.
-use mathlib.Core.Bool.{Bool, true, false, cond}
+use mathlib.Core.Bool.{Bool, cond, _||_}
 use mathlib.Core.List.{List, []}
 use Prim.Native.Nat.{ℕ, zero, suc, _+_, _-_}
 use lib.Dec.{eqb}
 use lib.ListN.{take, drop}
 use Rattle.refusal.specs.Table.{accepted, noSuchField}
+use Rattle.text.specs.Equal.{equal}
 use Rattle.heads.specs.Head.{kindAt, headAt}
 use Rattle.heads.specs.declared.Kind.{Kind}
 use Rattle.heads.specs.declared.Head.{Head}
 use Rattle.messagepack.specs.Limits.{nestingLimit}
-use Rattle.messagepack.specs.Equal.{equal}
 use Rattle.messagepack.specs.Walk.{valueAt, containerNumber}
 use Rattle.messagepack.specs.declared.Walk.{Walk}
+use Rattle.values.specs.Heads.{isString, isBinary}
 use Rattle.views.specs.declared.Place.{Place}
 
 -- is a kind that of a string or a binary?
 abbrev pub isText : Kind → Bool
-isText Kind.Str = true
-isText Kind.Bin = true
-isText Kind.Unsigned = false
-isText Kind.Signed = false
-isText Kind.Float = false
-isText Kind.Array = false
-isText Kind.Map = false
-isText Kind.Outside = false
-isText Kind.Missing = false
+isText k = isString k || isBinary k
 
 -- an answer by a head's number and the place after the head; 26 where the head is cut short
 abbrev pub afterHead : Head → (ℕ → ℕ → Place) → Place

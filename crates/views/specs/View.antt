@@ -8,11 +8,11 @@ use Prim.Native.Nat.{ℕ, suc, _+_, _-_, _<_}
 use lib.Dec.{eqb}
 use lib.ListN.{length}
 use Rattle.refusal.specs.Table.{accepted, noSuchField}
+use Rattle.text.specs.Equal.{equal}
 use Rattle.heads.specs.Head.{HeadOf}
 use Rattle.heads.specs.declared.Kind.{Kind}
 use Rattle.messagepack.specs.Document.{Document, Entries, integer, float, string, binary, array, map, empty, entry, size, TextOf, Writes, WritesEntries}
 use Rattle.messagepack.specs.Rules.{Container}
-use Rattle.messagepack.specs.Equal.{equal}
 use Rattle.messagepack.specs.Walk.{containerNumber}
 use Rattle.messagepack.specs.Read.{documentOf}
 use Rattle.values.specs.Parts.{entriesOf}
@@ -22,16 +22,16 @@ use Rattle.views.specs.declared.Place.{Place}
 pub record EntryIn (file name : List ℕ) (x : Document) (w : List ℕ) : Type 0 where
   pub before : Entries
   pub after : Entries
-  pub h : List ℕ
-  pub u : List ℕ
-  pub a : List ℕ
-  pub v : List ℕ
-  pub head : HeadOf Kind.Map (size before + suc (size after)) h
-  pub earlier : WritesEntries before u
-  pub key : TextOf Kind.Str name a
+  pub head-bytes : List ℕ
+  pub earlier-bytes : List ℕ
+  pub key-bytes : List ℕ
+  pub later-bytes : List ℕ
+  pub head : HeadOf Kind.Map (size before + suc (size after)) head-bytes
+  pub earlier : WritesEntries before earlier-bytes
+  pub key : TextOf Kind.Str name key-bytes
   pub value : Writes x w
-  pub later : WritesEntries after v
-  pub is : file ≡ h ++ (u ++ (a ++ (w ++ v)))
+  pub later : WritesEntries after later-bytes
+  pub is : file ≡ head-bytes ++ (earlier-bytes ++ (key-bytes ++ (w ++ later-bytes)))
 
 -- what is shown of a value with the writing w: the body of a string or a binary, else the whole writing
 abbrev pub shown : Document → List ℕ → List ℕ
@@ -52,7 +52,7 @@ pub record Viewable (file name : List ℕ) : Type 0 where
 -- where the part starts: after what stands before the value, and after the head of a string or a binary
 abbrev pub startOf : {file name : List ℕ} → Viewable file name → ℕ
 startOf v =
-    length (v .entry-is .h) + length (v .entry-is .u) + length (v .entry-is .a) + (length (v .w) - length (shown (v .x) (v .w)))
+    length (v .entry-is .head-bytes) + length (v .entry-is .earlier-bytes) + length (v .entry-is .key-bytes) + (length (v .w) - length (shown (v .x) (v .w)))
 
 -- is name a key of the entries?
 unfoldable pub hasKey : List ℕ → Entries → Bool

@@ -66,7 +66,7 @@ fn entry(leads: &[u8; 256], file: &[u8], name: &[u8], n: usize, at: usize) -> Pl
             return Place::Refused(refusal::NO_SUCH_FIELD);
         };
         let value = a + m;
-        if messagepack::same_bytes(&file[a..value], name) {
+        if text::same_bytes(&file[a..value], name) {
             return part(leads, file, value);
         }
         p = values::skip(leads, file, value);
@@ -93,13 +93,7 @@ fn is_text(kind: Kind) -> bool
     match kind {
         Kind::Str => true,
         Kind::Bin => true,
-        Kind::Unsigned => false,
-        Kind::Signed => false,
-        Kind::Float => false,
-        Kind::Array => false,
-        Kind::Map => false,
-        Kind::Outside => false,
-        Kind::Missing => false,
+        _ => false,
     }
 }
 

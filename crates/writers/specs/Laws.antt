@@ -1,4 +1,6 @@
 -- What is proved of the definitions of `writers`.
 pub mod Placed
 pub mod Numbers
-pub mod Steps
+pub mod Plain
+pub mod Packed
+pub mod Runs

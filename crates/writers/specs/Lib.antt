@@ -1,4 +1,4 @@
--- What a writer of a payload leaves: `Placed`. `Steps` is for the code inside.
+-- What a writer of a payload says and leaves: `Placed`. `Bits` is for the code inside.
 pub mod Placed
-pub mod Steps
+pub mod Bits
 pub mod Laws

@@ -1,13 +1,21 @@
-// What the writers of payloads share: what they say, whether a form may hold a column's cells (18), room (25), and delta.
-// Every call is total.
+// The writers of payloads: `plain` for numbers, floats and names of one number a cell, `packed`, and `runs`. Here is what they share: what
+// they say, whether a form may hold a column's cells (18), room (25), delta, and the bytes of one number. Every call of a module is total,
+// and where it refuses it changes nothing.
+pub mod packed;
+pub mod plain;
+pub mod runs;
+
 ghost use mathlib.Core.Path.{_≡_};
 ghost use mathlib.Core.List.{map};
-ghost use Prim.Native.Nat.{_+_};
+ghost use Prim.Native.Nat.{_+_, _≤_};
+ghost use lib.ListN.{length};
 ghost use lib.IntN.{pos};
 ghost use lib.Dec.{leb};
-ghost use Rattle.codecs.specs.Payload.{allIn};
-ghost use Rattle.writers.specs.Steps.{stepOf};
-use codecs::Range;
+ghost use Rattle.numbers.specs.BigEndian.{bytesOf};
+ghost use Rattle.steps.specs.Delta.{deltaIf};
+ghost use Rattle.steps.specs.Payload.{allIn};
+ghost use Rattle.writers.specs.Placed.{over};
+use steps::Range;
 
 // What a writer says: how many bytes it put, that a cell is not allowed, or that there is no room.
 pub enum Placed {
@@ -17,7 +25,7 @@ pub enum Placed {
 }
 
 // Whether n bytes from `at` on are inside a buffer.
-pub fn fits(n: usize, length: usize, at: usize) -> bool
+fn fits(n: usize, length: usize, at: usize) -> bool
     ensures { λ r. ⌜ r ≡ leb (at + n) length ⌝ }
 {
     if length < at {
@@ -27,7 +35,7 @@ pub fn fits(n: usize, length: usize, at: usize) -> bool
 }
 
 // Whether every value is of a range.
-pub fn all_in(values: &[i32], range: Range) -> bool
+fn all_in(values: &[i32], range: Range) -> bool
     ensures { λ r. ⌜ r ≡ allIn range (now (values .entry)) ⌝ }
 {
     match range {
@@ -45,14 +53,14 @@ fn each_in(values: &[i32], range: Range) -> bool
     let mut ok = true;
     let mut i: usize = 0;
     while i < values.len() {
-        ok = ok & codecs::is_in(values[i], range);
+        ok = ok & steps::is_in(values[i], range);
         i += 1;
     }
     ok
 }
 
 // Whether every byte is ASCII.
-pub fn all_ascii(values: &[u8]) -> bool
+fn all_ascii(values: &[u8]) -> bool
     ensures { λ r. ⌜ r ≡ allIn Range.Ascii (map pos (now (values .entry))) ⌝ }
 {
     let mut ok = true;
@@ -66,12 +74,36 @@ pub fn all_ascii(values: &[u8]) -> bool
 }
 
 // What a payload holds for a cell, by the cell before it.
-pub fn step(before: i32, x: i32, delta: bool) -> i32
-    ensures { λ r. ⌜ r ≡ stepOf delta before x ⌝ }
+fn delta_if(before: i32, x: i32, delta: bool) -> i32
+    ensures { λ r. ⌜ r ≡ deltaIf delta before x ⌝ }
 {
-    if delta {
-        codecs::delta_of(x, before)
-    } else {
-        x
-    }
+    if delta { steps::delta_of(x, before) } else { x }
+}
+
+// The lowest byte.
+fn put_one(buffer: &mut [u8], at: usize, bits: u32)
+    requires { ⌜ at + 1 ≤ length (now buffer) ⌝ }
+    ensures { λ r. ⌜ now (buffer .exit) ≡ over (now (buffer .entry)) at (bytesOf 1 bits) ⌝ }
+{
+    buffer[at] = numbers::low_byte(bits);
+}
+
+// The two lowest bytes.
+fn put_two(buffer: &mut [u8], at: usize, bits: u32)
+    requires { ⌜ at + 2 ≤ length (now buffer) ⌝ }
+    ensures { λ r. ⌜ now (buffer .exit) ≡ over (now (buffer .entry)) at (bytesOf 2 bits) ⌝ }
+{
+    buffer[at] = numbers::low_byte(bits / 256);
+    buffer[at + 1] = numbers::low_byte(bits);
+}
+
+// All four bytes.
+fn put_four(buffer: &mut [u8], at: usize, bits: u32)
+    requires { ⌜ at + 4 ≤ length (now buffer) ⌝ }
+    ensures { λ r. ⌜ now (buffer .exit) ≡ over (now (buffer .entry)) at (bytesOf 4 bits) ⌝ }
+{
+    buffer[at] = numbers::low_byte(bits / 256 / 256 / 256);
+    buffer[at + 1] = numbers::low_byte(bits / 256 / 256);
+    buffer[at + 2] = numbers::low_byte(bits / 256);
+    buffer[at + 3] = numbers::low_byte(bits);
 }

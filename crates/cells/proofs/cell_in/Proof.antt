@@ -4,9 +4,8 @@ use native.Mathlib.Omega.{arith}
 use mir.Syntax.{w32}
 use mir.Facts.{toZ-ofZ}
 use borrow.Author.Needs.{needs}
-use Rattle.numbers.specs.Laws.BigEndian.{bytes-of}
-use Rattle.codecs.specs.Payload.{valuesIn}
-use Rattle.columns.specs.Decode.{judgedValues}
+use Rattle.columns.specs.declared.Header.the-variants.{Good}
+use Rattle.columns.specs.Decode.{judgedPayload}
 use Rattle.payloads.specs.Laws.Judged.{Holds, judged-refused, read-fine}
 use Rattle.cells.specs.Calls.{valueOf}
 use Rattle.cells.specs.Laws.Table.{direct-other}
@@ -17,15 +16,14 @@ use Rattle.cells.proofs.cell_in.Tie as tie
 returns : tie.Need-returns
 returns c =
     let a = c .before .before .before .args in
-    cell-refused (judgedValues (a .n) (a .m) (a .kind) (a .form) (a .delta) (valuesIn (a .form) (a .payload .now))) (c .before .refusal-of .result) (a .index)
+    cell-refused (judgedPayload (Good (a .n) (a .m) (a .kind) (a .form) (a .delta)) (a .payload .now)) (c .before .refusal-of .result) (a .index)
     (judged-refused (a .n) (a .m) (a .kind) (a .form) (a .delta) (a .payload .now) (c .before .refusal-of .result) (c .before .refusal-of .ensures) (c .if1 .taken))
 
 -- the column that is not refused
 held : (c : tie.Else1) → Holds (c .before .before .before .args .n) (c .before .before .before .args .m) (c .before .before .before .args .kind) (c .before .before .before .args .form) (c .before .before .before .args .delta) (c .before .before .before .args .payload .now)
 held c =
     let a = c .before .before .before in
-    let b = bytes-of (a .args .payload .now) (λ i. omega (arith, c .before .before .shared-slice-known .given i)) in
-    read-fine (a .args .n) (a .args .m) (a .args .kind) (a .args .form) (a .args .delta) (a .args .payload .now) (direct-other (a .args .form) (a .args .delta) (a .pre .1)) b (sym (c .if1 .left) ∙ c .before .refusal-of .ensures)
+    read-fine (a .args .n) (a .args .m) (a .args .kind) (a .args .form) (a .args .delta) (a .args .payload .now) (direct-other (a .args .form) (a .args .delta) (a .pre .1)) (sym (c .if1 .left) ∙ c .before .refusal-of .ensures)
 
 returns-2 : tie.Need-returns-2
 returns-2 c =

@@ -10,12 +10,13 @@ use lib.IntN.{ℤ, pos}
 use mir.Syntax.{w32}
 use mir.Facts.{toZ-ofZ}
 use borrow.Author.Needs.{needs}
-use Rattle.codecs.specs.declared.Form.{Form}
-use Rattle.codecs.specs.declared.Form.the-variants.{Packed}
-use Rattle.codecs.specs.Width.{sizeOf}
-use Rattle.codecs.specs.Delta.{sumsIf}
-use Rattle.payloads.specs.Items.{readIn}
-use Rattle.cells.specs.Calls.{isDirect}
+use Rattle.steps.specs.declared.Form.{Form}
+use Rattle.steps.specs.declared.Form.the-variants.{Packed}
+use Rattle.steps.specs.Width.{sizeOf}
+use Rattle.steps.specs.Delta.{sumsIf}
+use Rattle.steps.specs.Payload.{readIn}
+use Rattle.steps.specs.Laws.Delta.{results-plain}
+use Rattle.cells.specs.Steps.{isDirect}
 use Rattle.cells.specs.Laws.Table.{direct-plain, direct-names}
 use Rattle.cells.specs.Laws.Found.{plain-here}
 use Rattle.cells.proofs.number_in.Statement.{statement}
@@ -41,7 +42,7 @@ returns c =
     let z = c .before .before .before .form .given .0 .0 in
     let e = c .before .before .before .form .given .1 in
     let d = direct-plain z (a .args .delta) (sym (ap (λ (f : Form). isDirect f (a .args .delta)) e) ∙ a .pre .1) in
-    toZ-ofZ {w = w32} (record { sfits = c .number-at .ok }) ∙ (rw (c .before .bytes .ensures) at (c .number-at .ensures)) ∙ plain-here z (a .args .payload .now) (a .args .index) l (by-form a e q) h .1 ∙ ap (λ (t : Bool). getD (sumsIf t l) (a .args .index) (pos 0)) (sym d)
+    toZ-ofZ {w = w32} (record { sfits = c .number-at .ok }) ∙ (rw (c .before .bytes .ensures) at (c .number-at .ensures)) ∙ plain-here z (a .args .payload .now) (a .args .index) l (by-form a e q) h .1 ∙ ap (λ (t : List ℤ). getD t (a .args .index) (pos 0)) (sym (results-plain (pos 0) l)) ∙ ap (λ (t : Bool). getD (sumsIf t l) (a .args .index) (pos 0)) (sym d)
 
 returns-2 : tie.Need-returns-2
 returns-2 c = λ l q h. toZ-ofZ {w = w32} (record { sfits = c .packed-at .ok }) ∙ c .packed-at .ensures l (by-form (c .before .before .before .before .before .before .before) (c .before .before .before .before .form2 .given .1 ∙ ap Packed (c .before .enum-told .given .1)) q) h

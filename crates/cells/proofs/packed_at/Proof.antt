@@ -7,19 +7,18 @@ use native.Mathlib.Omega.{arith}
 use lib.ListN.{length}
 use lib.IntN.{ℤ}
 use mir.Syntax.{w32}
-use mir.Val.{toZ, ofZ, SFits}
+use mir.Val.{toZ, ofZ}
 use mir.Facts.{toZ-ofZ}
 use borrow.Author.Needs.{needs}
 use borrow.Author.Tests.{not-true, not-false}
 use Rattle.numbers.specs.BigEndian.{signedAt}
-use Rattle.numbers.specs.Laws.BigEndian.{bytes-of}
-use Rattle.codecs.specs.declared.Form.the-variants.{Packed}
-use Rattle.codecs.specs.Width.{widthOf, sizeOf, upper, lower}
-use Rattle.codecs.specs.Delta.{plusDelta}
-use Rattle.codecs.specs.Packing.{isLimit}
-use Rattle.codecs.specs.Laws.Numbers.{size-pos}
-use Rattle.payloads.specs.Items.{readIn}
-use Rattle.cells.specs.Laws.Found.{size-fits, Sought, sought-start, sought-end, sought-more, sought-done, sought-here}
+use Rattle.steps.specs.declared.Form.the-variants.{Packed}
+use Rattle.steps.specs.Width.{widthOf, sizeOf, upper, lower}
+use Rattle.steps.specs.Delta.{plusDelta}
+use Rattle.steps.specs.Packing.{isLimit}
+use Rattle.steps.specs.Laws.Numbers.{size-pos}
+use Rattle.steps.specs.Payload.{readIn}
+use Rattle.cells.specs.Laws.Found.{Sought, sought-start, sought-end, sought-more, sought-done, sought-here}
 use Rattle.cells.proofs.packed_at.Statement.{statement}
 use Rattle.cells.proofs.packed_at.Tie as tie
 
@@ -33,12 +32,9 @@ abbrev μ-loop : tie.MeasureT-loop
 loop-holds : tie.Need-loop-holds Inv-loop μ-loop
 loop-holds c = let a = c .before .before .args in (omega arith, (λ l e. sought-start (a .size) (a .delta) (a .index) (a .payload .now) l e))
 
--- there are bytes for a number, which has 32 bits
+-- there are bytes for a number
 room : (c : tie.After-is-limit Inv-loop μ-loop) → c .before .before .before .before .loop .at + sizeOf (c .before .before .before .before .before .before .before .args .size) ≤ length (c .before .before .before .before .before .before .before .args .payload .now)
 room c = omega (arith, c .before .before .before .before .before .bytes .ensures)
-
-fits : (c : tie.After-is-limit Inv-loop μ-loop) → SFits w32 (signedAt (widthOf (c .before .before .before .before .before .before .before .args .size)) (c .before .before .before .before .before .before .before .args .payload .now) (c .before .before .before .before .loop .at))
-fits c = size-fits (c .before .before .before .before .before .before .before .args .size) (c .before .before .before .before .before .before .before .args .payload .now) (c .before .before .before .before .loop .at) (bytes-of (c .before .before .before .before .before .before .before .args .payload .now) (λ j. omega (arith, c .before .before .before .before .before .before .shared-slice-known .given j))) (room c)
 
 -- the number, whether it is a limit, and the total with it
 number : (c : tie.After-is-limit Inv-loop μ-loop) → toZ w32 (ofZ w32 (c .before .before .number-at .result)) ≡ signedAt (widthOf (c .before .before .before .before .before .before .before .args .size)) (c .before .before .before .before .before .before .before .args .payload .now) (c .before .before .before .before .loop .at)
@@ -60,7 +56,7 @@ returns : tie.Need-returns Inv-loop μ-loop
 returns c =
     let a = c .before .before .before .before .before .before .before .before .before .args in
     let p = c .before .before .before .before .before .before .loop in
-    λ l e h. sought-here (a .size) (a .delta) (a .index) (a .payload .now) l e (p .at) (p .left) (toZ w32 (p .total)) (p .inv .1 l e) (room (c .before .before)) (fits (c .before .before)) (toZ w32 (ofZ w32 (c .before .before .before .add-delta .result))) (total (c .before .before)) (limit (c .before .before) ∙ not-true _ (c .before .if1 .taken)) (c .if2 .taken)
+    λ l e h. sought-here (a .size) (a .delta) (a .index) (a .payload .now) l e (p .at) (p .left) (toZ w32 (p .total)) (p .inv .1 l e) (room (c .before .before)) (toZ w32 (ofZ w32 (c .before .before .before .add-delta .result))) (total (c .before .before)) (limit (c .before .before) ∙ not-true _ (c .before .if1 .taken)) (c .if2 .taken)
 
 loop-less : tie.Need-loop-less Inv-loop μ-loop
 loop-less c = let o = size-pos (c .before .before .before .before .before .before .before .before .before .before .args .size) in omega (arith, c .before .before .before .before .before .before .before .before .bytes .ensures)
@@ -72,7 +68,7 @@ loop-again c =
     let b = c .before .before .before .before .before .before .before .before .bytes .ensures in
     let o = toZ-ofZ {w = w32} {z = c .before .before .before .before .add-delta .result} (record { sfits = c .before .before .before .before .add-delta .ok }) in
     let t = toZ-ofZ {w = w32} (record { sfits = c .total-after .ok }) ∙ c .total-after .ensures in
-    (omega arith, (λ l e. rw (b, t) (sought-done (a .size) (a .delta) (a .index) (a .payload .now) l e (p .at) (p .left) (toZ w32 (p .total)) (p .inv .1 l e) (room (c .before .before .before)) (fits (c .before .before .before)) (toZ w32 (ofZ w32 (c .before .before .before .before .add-delta .result))) (total (c .before .before .before)) (limit (c .before .before .before) ∙ not-true _ (c .before .before .if1 .taken)) (rw o (record { sfits = c .before .before .before .before .add-delta .ok })) (omega arith))))
+    (omega arith, (λ l e. rw (b, t) (sought-done (a .size) (a .delta) (a .index) (a .payload .now) l e (p .at) (p .left) (toZ w32 (p .total)) (p .inv .1 l e) (room (c .before .before .before)) (toZ w32 (ofZ w32 (c .before .before .before .before .add-delta .result))) (total (c .before .before .before)) (limit (c .before .before .before) ∙ not-true _ (c .before .before .if1 .taken)) (rw o (record { sfits = c .before .before .before .before .add-delta .ok })) (omega arith))))
 
 loop-less-2 : tie.Need-loop-less-2 Inv-loop μ-loop
 loop-less-2 c = let o = size-pos (c .before .before .before .before .before .before .before .before .args .size) in omega (arith, c .before .before .before .before .before .before .bytes .ensures)
@@ -82,7 +78,7 @@ loop-again-2 c =
     let a = c .before .before .before .before .before .before .before .before .args in
     let p = c .before .before .before .before .before .loop in
     let b = c .before .before .before .before .before .before .bytes .ensures in
-    (omega arith, (λ l e. rw b (sought-more (a .size) (a .delta) (a .index) (a .payload .now) l e (p .at) (p .left) (toZ w32 (p .total)) (p .inv .1 l e) (room (c .before)) (fits (c .before)) (toZ w32 (ofZ w32 (c .before .before .add-delta .result))) (total (c .before)) (limit (c .before) ∙ not-false _ (c .if1 .left)))))
+    (omega arith, (λ l e. rw b (sought-more (a .size) (a .delta) (a .index) (a .payload .now) l e (p .at) (p .left) (toZ w32 (p .total)) (p .inv .1 l e) (room (c .before)) (toZ w32 (ofZ w32 (c .before .before .add-delta .result))) (total (c .before)) (limit (c .before) ∙ not-false _ (c .if1 .left)))))
 
 returns-2 : tie.Need-returns-2 Inv-loop μ-loop
 returns-2 c = let a = c .before .before .before .before .args in let p = c .before .loop in λ l e h. sought-end (a .size) (a .delta) (a .index) (a .payload .now) l e (p .at) (p .left) (toZ w32 (p .total)) (p .inv .1 l e) (omega (arith, c .before .before .bytes .ensures)) h

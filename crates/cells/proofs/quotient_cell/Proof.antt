@@ -1,13 +1,12 @@
 -- Where number and divisor are exact both may be converted (`exact-in`), else 27.
 use mathlib.Core.Path.{_≡_, sym, ap, _∙_}
-use mathlib.Core.Bool.{Bool, true, _&&_}
+use mathlib.Core.Bool.{Bool, true, _&&_, and-eq-true-iff}
 use lib.IntN.{ℤ, pos}
 use mir.Syntax.{w32}
 use mir.Facts.{toZ-ofZ}
+use Rattle.payloads.specs.Exact.{exact}
 use borrow.Author.Needs.{needs}
-use Rattle.payloads.specs.Held.{exact}
 use Rattle.floats.specs.Calls.{quotient}
-use Rattle.floats.specs.Laws.Tests.{and-both}
 use Rattle.floats.specs.Laws.Quotient.{exact-in}
 use Rattle.cells.specs.declared.Cell.the-variants.{Float}
 use Rattle.cells.proofs.quotient_cell.Statement.{statement}
@@ -20,7 +19,7 @@ tested c =
     sym (c .are-exact .ensures ∙ ap (λ (t : Bool). t && exact (pos (a .args .divisor))) (c .before .is-exact .ensures ∙ ap exact (toZ-ofZ {w = w32} (a .fits .x))))
 
 both : (c : tie.Then1) → (exact (c .before .before .before .args .x) ≡ true) × (exact (pos (c .before .before .before .args .divisor)) ≡ true)
-both c = and-both _ _ (tested (c .before) ∙ c .if1 .taken)
+both c = and-eq-true-iff _ _ .0 (tested (c .before) ∙ c .if1 .taken)
 
 int-to-float-t5 : tie.Need-int-to-float-t5
 int-to-float-t5 c = let a = c .before .before .before .before in rw (toZ-ofZ {w = w32} (a .fits .x)) (exact-in (a .args .x) (both (c .before) .0))

@@ -12,10 +12,11 @@ use mir.Val.{toZ, ofZ}
 use mir.Facts.{toZ-ofZ}
 use borrow.Author.Needs.{needs}
 use Rattle.numbers.specs.BigEndian.{signedAt}
-use Rattle.codecs.specs.declared.Range.{Range}
-use Rattle.codecs.specs.declared.Form.the-variants.{Runs}
-use Rattle.payloads.specs.Items.{readIn, afterRun}
-use Rattle.payloads.specs.Laws.Parts.{part-number}
+use Rattle.steps.specs.declared.Range.{Range}
+use Rattle.steps.specs.declared.Form.the-variants.{Runs}
+use Rattle.steps.specs.Delta.{afterRun}
+use Rattle.steps.specs.Payload.{readIn}
+use Rattle.payloads.specs.Laws.Runs.{part-number}
 use Rattle.cells.specs.Laws.Found.{Reaching, reaching-start, reaching-end, reaching-more, reaching-here}
 use Rattle.cells.proofs.run_at.Statement.{statement}
 use Rattle.cells.proofs.run_at.Tie as tie

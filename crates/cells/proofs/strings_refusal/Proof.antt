@@ -3,7 +3,7 @@ use mathlib.Core.Path.{sym, _∙_}
 use mathlib.Core.Bool.{false}
 use borrow.Author.Needs.{needs}
 use Rattle.columns.specs.declared.Kind.the-variants as kind
-use Rattle.codecs.specs.declared.Form.the-variants.{Names}
+use Rattle.steps.specs.declared.Form.the-variants.{Names}
 use Rattle.payloads.specs.Laws.Judged.{judged-refused, judged-fine}
 use Rattle.cells.specs.Laws.Calls.{cell-refused, cell-strings}
 use Rattle.cells.proofs.strings_refusal.Statement.{statement}

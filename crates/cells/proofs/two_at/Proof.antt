@@ -8,18 +8,17 @@ use native.Mathlib.Omega.{arith}
 use lib.ListN.{length}
 use lib.IntN.{ℤ}
 use mir.Syntax.{w16, w32}
-use mir.Val.{toZ, ofZ, SFits}
+use mir.Val.{toZ, ofZ}
 use mir.Facts.{toZ-ofZ}
 use borrow.Author.Needs.{needs}
 use borrow.Author.Tests.{not-true, not-false}
 use Rattle.numbers.specs.BigEndian.{signedAt}
-use Rattle.numbers.specs.Laws.BigEndian.{bytes-of}
-use Rattle.codecs.specs.declared.Size.the-variants.{Two}
-use Rattle.codecs.specs.declared.Form.the-variants.{Packed}
-use Rattle.codecs.specs.Delta.{plusDelta}
-use Rattle.codecs.specs.Packing.{isLimit}
-use Rattle.payloads.specs.Items.{readIn}
-use Rattle.cells.specs.Laws.Found.{size-fits, Sought, sought-start, sought-end, sought-more, sought-done, sought-here}
+use Rattle.steps.specs.declared.Size.the-variants.{Two}
+use Rattle.steps.specs.declared.Form.the-variants.{Packed}
+use Rattle.steps.specs.Delta.{plusDelta}
+use Rattle.steps.specs.Packing.{isLimit}
+use Rattle.steps.specs.Payload.{readIn}
+use Rattle.cells.specs.Laws.Found.{Sought, sought-start, sought-end, sought-more, sought-done, sought-here}
 use Rattle.cells.proofs.two_at.Statement.{statement}
 use Rattle.cells.proofs.two_at.Tie as tie
 
@@ -34,9 +33,6 @@ loop-holds : tie.Need-loop-holds Inv-loop μ-loop
 loop-holds c = let a = c .before .args in (omega arith, (λ l e. sought-start Two (a .delta) (a .index) (a .payload .now) l e))
 
 -- the number, whether it is a limit, and the total with it
-fits : (c : tie.After-is-limit Inv-loop μ-loop) → SFits w32 (signedAt w16 (c .before .before .before .before .before .before .args .payload .now) (c .before .before .before .before .loop .at))
-fits c = size-fits Two (c .before .before .before .before .before .before .args .payload .now) (c .before .before .before .before .loop .at) (bytes-of (c .before .before .before .before .before .before .args .payload .now) (λ j. omega (arith, c .before .before .before .before .before .shared-slice-known .given j))) (omega arith)
-
 number : (c : tie.After-is-limit Inv-loop μ-loop) → toZ w32 (ofZ w32 (c .before .before .number-at .result)) ≡ signedAt w16 (c .before .before .before .before .before .before .args .payload .now) (c .before .before .before .before .loop .at)
 number c = toZ-ofZ {w = w32} (record { sfits = c .before .before .number-at .ok }) ∙ c .before .before .number-at .ensures
 
@@ -50,7 +46,7 @@ returns : tie.Need-returns Inv-loop μ-loop
 returns c =
     let a = c .before .before .before .before .before .before .before .before .args in
     let p = c .before .before .before .before .before .before .loop in
-    λ l e h. sought-here Two (a .delta) (a .index) (a .payload .now) l e (p .at) (p .left) (toZ w32 (p .total)) (p .inv .1 l e) (omega arith) (fits (c .before .before)) (toZ w32 (ofZ w32 (c .before .before .before .add-delta .result))) (total (c .before .before)) (limit (c .before .before) ∙ not-true _ (c .before .if1 .taken)) (c .if2 .taken)
+    λ l e h. sought-here Two (a .delta) (a .index) (a .payload .now) l e (p .at) (p .left) (toZ w32 (p .total)) (p .inv .1 l e) (omega arith) (toZ w32 (ofZ w32 (c .before .before .before .add-delta .result))) (total (c .before .before)) (limit (c .before .before) ∙ not-true _ (c .before .if1 .taken)) (c .if2 .taken)
 
 loop-again : tie.Need-loop-again Inv-loop μ-loop
 loop-again c =
@@ -58,13 +54,13 @@ loop-again c =
     let p = c .before .before .before .before .before .before .before .loop in
     let o = toZ-ofZ {w = w32} {z = c .before .before .before .before .add-delta .result} (record { sfits = c .before .before .before .before .add-delta .ok }) in
     let t = toZ-ofZ {w = w32} (record { sfits = c .total-after .ok }) ∙ c .total-after .ensures in
-    (omega arith, (λ l e. rw t (sought-done Two (a .delta) (a .index) (a .payload .now) l e (p .at) (p .left) (toZ w32 (p .total)) (p .inv .1 l e) (omega arith) (fits (c .before .before .before)) (toZ w32 (ofZ w32 (c .before .before .before .before .add-delta .result))) (total (c .before .before .before)) (limit (c .before .before .before) ∙ not-true _ (c .before .before .if1 .taken)) (rw o (record { sfits = c .before .before .before .before .add-delta .ok })) (omega arith))))
+    (omega arith, (λ l e. rw t (sought-done Two (a .delta) (a .index) (a .payload .now) l e (p .at) (p .left) (toZ w32 (p .total)) (p .inv .1 l e) (omega arith) (toZ w32 (ofZ w32 (c .before .before .before .before .add-delta .result))) (total (c .before .before .before)) (limit (c .before .before .before) ∙ not-true _ (c .before .before .if1 .taken)) (rw o (record { sfits = c .before .before .before .before .add-delta .ok })) (omega arith))))
 
 loop-again-2 : tie.Need-loop-again-2 Inv-loop μ-loop
 loop-again-2 c =
     let a = c .before .before .before .before .before .before .before .args in
     let p = c .before .before .before .before .before .loop in
-    (omega arith, (λ l e. sought-more Two (a .delta) (a .index) (a .payload .now) l e (p .at) (p .left) (toZ w32 (p .total)) (p .inv .1 l e) (omega arith) (fits (c .before)) (toZ w32 (ofZ w32 (c .before .before .add-delta .result))) (total (c .before)) (limit (c .before) ∙ not-false _ (c .if1 .left))))
+    (omega arith, (λ l e. sought-more Two (a .delta) (a .index) (a .payload .now) l e (p .at) (p .left) (toZ w32 (p .total)) (p .inv .1 l e) (omega arith) (toZ w32 (ofZ w32 (c .before .before .add-delta .result))) (total (c .before)) (limit (c .before) ∙ not-false _ (c .if1 .left))))
 
 returns-2 : tie.Need-returns-2 Inv-loop μ-loop
 returns-2 c = let a = c .before .before .before .args in let p = c .before .loop in λ l e h. sought-end Two (a .delta) (a .index) (a .payload .now) l e (p .at) (p .left) (toZ w32 (p .total)) (p .inv .1 l e) (omega arith) h

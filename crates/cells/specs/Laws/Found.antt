@@ -1,8 +1,8 @@
 -- Laws of a number that is found after its payload was checked: the place of a plain number, and the walk over packed numbers and over
 -- runs. Assumes nothing.
-use mathlib.Core.Path.{_≡_, refl, sym, ap, subst, _∙_}
+use mathlib.Core.Path.{_≡_, refl, sym, ap, _∙_}
 use mathlib.Core.Bool.{Bool, true, false, cond, _&&_}
-use mathlib.Core.Option.{Option, none, some, Option·map}
+use mathlib.Core.Option.{Option, some, Option·map}
 use mathlib.Core.List.{List, [], _∷_, _++_, append-nil, append-assoc}
 use Prim.Native.Nat.{ℕ, zero, suc, _+_, _-_, _*_, _/_, _<_, _≤_}
 use native.Mathlib.Omega.{arith}
@@ -14,46 +14,40 @@ use mir.Syntax.{w32}
 use mir.Val.{ofZ, SFits}
 use borrow.Author.Tests.{eq-eqb, ltb-true, ltb-false}
 use Rattle.refusal.specs.Table.{numberNotAllowed, lengthDiffers}
-use Rattle.numbers.specs.BigEndian.{Bytes, signedAt}
-use Rattle.codecs.specs.declared.Size.{Size}
-use Rattle.codecs.specs.declared.Size.the-variants.{One, Two, Four}
-use Rattle.codecs.specs.declared.Range.{Range}
-use Rattle.codecs.specs.declared.Form.the-variants.{Plain, Packed, Runs}
-use Rattle.codecs.specs.declared.Turn.the-variants.{More, Done}
-use Rattle.codecs.specs.Width.{widthOf, sizeOf, upper, lower}
-use Rattle.codecs.specs.Numbers.{numbersIn}
-use Rattle.codecs.specs.Delta.{plusDelta, sumsIf}
-use Rattle.codecs.specs.Packing.{isLimit}
-use Rattle.codecs.specs.Steps.{turnOf}
-use Rattle.codecs.specs.Fits.{Every}
-use Rattle.codecs.specs.Laws.Numbers.{numbers-step, length-numbers}
-use Rattle.codecs.specs.Laws.NumbersBack.{drop-bytes, numbersIn-fit}
-use Rattle.codecs.specs.Laws.Packing.{turn-inside, turn-outside}
+use Rattle.numbers.specs.BigEndian.{signedAt}
+use Rattle.steps.specs.declared.Size.{Size}
+use Rattle.steps.specs.declared.Range.{Range}
+use Rattle.steps.specs.declared.Form.the-variants.{Plain, Packed, Runs}
+use Rattle.steps.specs.declared.Turn.the-variants.{More, Done}
+use Rattle.steps.specs.Width.{widthOf, sizeOf, upper, lower}
+use Rattle.steps.specs.Numbers.{numbersIn}
+use Rattle.steps.specs.Delta.{plusDelta, sumsIf, advance, resultsFrom, lastFrom, afterRun}
+use Rattle.steps.specs.Packing.{isLimit}
+use Rattle.steps.specs.Steps.{turnOf}
+use Rattle.steps.specs.Laws.Numbers.{length-numbers}
+use Rattle.steps.specs.Laws.NumbersBack.{signedAt-32}
+use Rattle.steps.specs.Laws.Packing.{turn-inside, turn-outside}
+use Rattle.steps.specs.Payload.{readIn}
+use Rattle.steps.specs.Laws.Delta.{length-results, results-append, last-append, run-at, run-last}
 use Rattle.payloads.specs.declared.Outcome.{Outcome}
 use Rattle.payloads.specs.declared.Outcome.the-variants.{Fine, Refused}
-use Rattle.payloads.specs.Held.{exact, allExact}
 use Rattle.payloads.specs.Scan.{judgesExact, scanOf}
-use Rattle.payloads.specs.Items.{readIn, afterRun}
-use Rattle.payloads.specs.Results.{advance, resultsFrom, lastFrom}
 use Rattle.payloads.specs.Laws.Items.{from, runs-end}
 use Rattle.payloads.specs.Laws.Plain.{place-in, number-at-place}
-use Rattle.payloads.specs.Laws.Scan.{results-if, length-results, results-append, last-append, run-at, run-last, getD-left, getD-right, map-id, map-both}
+use Rattle.payloads.specs.Laws.Scan.{getD-left, getD-right, map-id, map-both, rest-of}
 use Rattle.payloads.specs.Laws.Packed.{Unpacked, unpacked-start, unpacked-more, unpacked-done, unpacked-wrong, unpacked-unfinished, unpacked-other}
 use Rattle.payloads.specs.Laws.Totals.{total-more, total-start}
 use Rattle.payloads.specs.Laws.Runs.{run-here}
+use Rattle.payloads.specs.Exact.{exact, allExact}
 
 -- Values before a place
-
-rest-of : (p l : List ℤ) (o : Option (List ℤ)) → some l ≡ Option·map (λ (m : List ℤ). p ++ m) o → (m : List ℤ) × (o ≡ some m) × (l ≡ p ++ m)
-rest-of p l none q = let y : _≡_ {A = ℕ} 0 1 = cc in absurd (omega arith)
-rest-of p l (some m) q = let y : l ≡ p ++ m = cc in (m, refl, y)
 
 -- a result of the values before the place
 result-before : (d : Bool) (p l : List ℤ) (o : Option (List ℤ)) (i : ℕ) → some l ≡ Option·map (λ (m : List ℤ). p ++ m) o → i < length p → getD (resultsFrom d (pos 0) p) i (pos 0) ≡ getD (sumsIf d l) i (pos 0)
 result-before d p l o i q h =
     let m = rest-of p l o q in
     let k = length-results d (pos 0) p in
-    sym (ap (λ (t : List ℤ). getD t i (pos 0)) (results-if d l ∙ ap (resultsFrom d (pos 0)) (m .2) ∙ results-append d (pos 0) p (m .0)) ∙ getD-left (resultsFrom d (pos 0) p) (resultsFrom d (lastFrom d (pos 0) p) (m .0)) i (omega arith))
+    sym (ap (λ (t : List ℤ). getD t i (pos 0)) (ap (resultsFrom d (pos 0)) (m .2) ∙ results-append d (pos 0) p (m .0)) ∙ getD-left (resultsFrom d (pos 0) p) (resultsFrom d (lastFrom d (pos 0) p) (m .0)) i (omega arith))
 
 -- the last result of some
 result-last : (d : Bool) (a : ℤ) (p : List ℤ) (i : ℕ) → length p ≡ suc i → getD (resultsFrom d a p) i (pos 0) ≡ lastFrom d a p
@@ -75,15 +69,6 @@ plain-here z s i l e h =
     (place-in z (length s) (length l) i n h, sym (ap (λ (t : List ℤ). getD t i (pos 0)) q ∙ number-at-place z s (length l) i n h))
 
 -- Packed numbers
-
-number-fits : (z : Size) (x : ℤ) → SFits (widthOf z) x → SFits w32 x
-number-fits One x f = record { sfits = let k = f .sfits in omega arith }
-number-fits Two x f = record { sfits = let k = f .sfits in omega arith }
-number-fits Four x f = f
-
-pub size-fits : (z : Size) (s : List ℕ) (at : ℕ) → Bytes s → at + sizeOf z ≤ length s → SFits w32 (signedAt (widthOf z) s at)
-unfolding Every
-size-fits z s at b h = number-fits z (signedAt (widthOf z) s at) (subst (Every (SFits (widthOf z))) (numbers-step z s at h) (numbersIn-fit z (drop at s) (drop-bytes at s b)) .0)
 
 module _ (z : Size) (d : Bool) (i : ℕ) (s : List ℕ) (l : List ℤ) (e : readIn (Packed z) s ≡ some l) where
   -- the results before the place are not yet the one at i: so many are left before it, and `total` is the total
@@ -112,7 +97,7 @@ module _ (z : Size) (d : Bool) (i : ℕ) (s : List ℕ) (l : List ℤ) (e : read
         by true q = never numberNotAllowed (unpacked-unfinished z d (length l) s at (w .0) (w .1) (w .2) (w .3) (w .4) (w .5) h q)
         by false q = never lengthDiffers (unpacked-other z d (length l) s at (w .0) (w .1) (w .2) (w .3) (w .4) (w .5) h q (λ x. let c = w .7 in omega arith))
 
-    module _ (h : at + sizeOf z ≤ length s) (f : SFits w32 (signedAt (widthOf z) s at)) where
+    module _ (h : at + sizeOf z ≤ length s) where
       inside : mag (w .0 +ℤ signedAt (widthOf z) s at) < 2147483648
       inside = by (ltb (mag (w .0 +ℤ signedAt (widthOf z) s at)) 2147483648) refl
         where
@@ -122,7 +107,7 @@ module _ (z : Size) (d : Bool) (i : ℕ) (s : List ℕ) (l : List ℤ) (e : read
 
       module _ (y : ℤ) (q : y ≡ plusDelta total (signedAt (widthOf z) s at)) where
         next : y ≡ advance d (w .3) (w .0 +ℤ signedAt (widthOf z) s at)
-        next = q ∙ ap (λ (t : ℤ). plusDelta t (signedAt (widthOf z) s at)) (w .8) ∙ total-more d (w .3) (w .0) (signedAt (widthOf z) s at) (w .6) f inside
+        next = q ∙ ap (λ (t : ℤ). plusDelta t (signedAt (widthOf z) s at)) (w .8) ∙ total-more d (w .3) (w .0) (signedAt (widthOf z) s at) (w .6) (signedAt-32 z s at) inside
 
         -- a limit
         pub sought-more : isLimit (upper z) (lower z) (signedAt (widthOf z) s at) ≡ true → Sought (at + sizeOf z) left y

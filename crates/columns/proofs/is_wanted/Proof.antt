@@ -10,7 +10,7 @@ use Rattle.columns.proofs.is_wanted.Tie as tie
 returns : tie.Need-returns
 returns c =
     let a = c .before .before .before .before .before .args in
-    ap₂ eqb (c .before .kind-number .ensures) (c .kind-number2 .ensures) ∙ ap (λ (w : Wanted). suits w (a .kind)) (sym (c .before .before .before .wanted .given .1))
+    ap₂ eqb (c .before .kind-tag .ensures) (c .kind-tag2 .ensures) ∙ ap (λ (w : Wanted). suits w (a .kind)) (sym (c .before .before .before .wanted .given .1))
 
 pub is-wanted-spec : {M : Type 1} → statement M
 is-wanted-spec =

@@ -1,23 +1,14 @@
 -- Each refusal is one rule of the definition (`judged-long` and the others).
-use mathlib.Core.Path.{_≡_, refl, sym, ap, _∙_}
-use mathlib.Core.Bool.{Bool, true, false, not}
+use mathlib.Core.Path.{sym, ap, _∙_}
 use Prim.Native.Nat.{ℕ}
-use native.Mathlib.Omega.{arith}
 use borrow.Author.Needs.{needs}
+use borrow.Author.Tests.{not-true, not-false}
 use Rattle.columns.specs.declared.Codec.{Codec}
 use Rattle.columns.specs.declared.Header.the-variants.{Good}
 use Rattle.columns.specs.Header.{judged}
 use Rattle.columns.specs.Laws.Table.{judged-unwanted, judged-long, judged-parameter, judged-size, judged-good}
 use Rattle.columns.proofs.judge.Statement.{statement}
 use Rattle.columns.proofs.judge.Tie as tie
-
-not-true : (b : Bool) → not b ≡ true → b ≡ false
-not-true false e = refl
-not-true true e = let y : _≡_ {A = ℕ} 0 1 = cc in absurd (omega arith)
-
-not-false : (b : Bool) → not b ≡ false → b ≡ true
-not-false true e = refl
-not-false false e = let y : _≡_ {A = ℕ} 0 1 = cc in absurd (omega arith)
 
 returns : tie.Need-returns
 returns c =

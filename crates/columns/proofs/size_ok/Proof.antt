@@ -4,11 +4,11 @@ use Prim.Native.Nat.{ℕ, _*_, _%_, _≤_}
 use native.Mathlib.Omega.{arith}
 use lib.Dec.{eqb}
 use borrow.Author.Needs.{needs}
-use Rattle.codecs.specs.declared.Form.{Form}
-use Rattle.codecs.specs.declared.Size.{Size}
-use Rattle.codecs.specs.declared.Size.the-variants.{One, Two, Four}
-use Rattle.codecs.specs.Width.{sizeOf}
-use Rattle.codecs.specs.Laws.Numbers.{size-pos}
+use Rattle.steps.specs.declared.Form.{Form}
+use Rattle.steps.specs.declared.Size.{Size}
+use Rattle.steps.specs.declared.Size.the-variants.{One, Two, Four}
+use Rattle.steps.specs.Width.{sizeOf}
+use Rattle.steps.specs.Laws.Numbers.{size-pos}
 use Rattle.columns.specs.Table.{sizeRight}
 use Rattle.columns.specs.Laws.Table.{product-fits}
 use Rattle.columns.proofs.size_ok.Statement.{statement}

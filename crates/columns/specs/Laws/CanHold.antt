@@ -15,12 +15,13 @@ use mir.Syntax.{w32}
 use mir.Val.{ofZ}
 use borrow.Author.Tests.{eqb-true, eqb-false, eq-eqb, ne-eqb, not-false, leb-true, le-leb}
 use Rattle.numbers.specs.BigEndian.{unsignedAt}
-use Rattle.codecs.specs.declared.Range.{Range}
-use Rattle.codecs.specs.declared.Form.{Form}
-use Rattle.codecs.specs.declared.Form.the-variants.{Plain, Packed, Runs, Names}
-use Rattle.codecs.specs.Fits.{Every}
-use Rattle.codecs.specs.Laws.Fits.{every-map}
-use Rattle.codecs.specs.Payload.{leastIn, mostIn, inRange, allIn, rangeOf, paddedFrom, padded, allowed}
+use Rattle.numbers.specs.Ranges.{integerLimit}
+use Rattle.steps.specs.declared.Range.{Range}
+use Rattle.steps.specs.declared.Form.{Form}
+use Rattle.steps.specs.declared.Form.the-variants.{Plain, Packed, Runs, Names}
+use Rattle.steps.specs.Fits.{Every}
+use Rattle.steps.specs.Laws.Fits.{every-map}
+use Rattle.steps.specs.Payload.{leastIn, mostIn, inRange, allIn, rangeOf, paddedFrom, padded, allowed}
 use Rattle.columns.specs.declared.Kind.{Kind}
 use Rattle.columns.specs.declared.Kind.the-variants as kind
 use Rattle.columns.specs.declared.Wanted.{Wanted}
@@ -29,7 +30,7 @@ use Rattle.columns.specs.declared.Parameter.{Parameter}
 use Rattle.columns.specs.declared.Parameter.the-variants.{Unused, Divisor, NameSize}
 use Rattle.columns.specs.declared.Codec.{Codec}
 use Rattle.columns.specs.declared.Codec.the-variants.{Known, Unknown}
-use Rattle.columns.specs.Table.{table, codecOf, kindNumber, lengthLimit, parameterOk, used}
+use Rattle.columns.specs.Table.{table, codecOf, kindTag, lengthLimit, nameLimit, parameterOk, used, isNames}
 use Rattle.columns.specs.Header.{headerBytes}
 use Rattle.columns.specs.Decode.{column, decode}
 use Rattle.columns.specs.Encode.{bytes, results, wholeResults, payloadOf, encode}
@@ -182,17 +183,11 @@ not-negative c e x h = T-holds (leZ (pos 0) x) (subst (λ (i : ℕ). leastBy i �
 
 -- Rows
 
-abbrev isNamed : Form → Bool
-isNamed (Plain z) = false
-isNamed (Packed z) = false
-isNamed (Runs r) = false
-isNamed Names = true
-
 -- the parameter of a codec by its number
 abbrev parameterBy : ℕ → Parameter
 parameterBy c = cond (eqb c 5) NameSize (cond (leb 9 c && leb c 13) Divisor Unused)
 
--- and by its kind
+-- the parameter of a codec by its kind
 abbrev pub parameterOf : Kind → Parameter
 parameterOf kind.Float32 = Unused
 parameterOf kind.FixedPoint = Divisor
@@ -205,13 +200,13 @@ parameterOf kind.Chars = Unused
 -- what the row of codec c has of what it can hold
 abbrev Row : ℕ → Codec → Type 0
 Row c Unknown = Unit {0}
-Row c (Known k f d p) = (isOneOf c (codecsOf k) ≡ true) × (leastIn (rangeOf f) ≡ leastBy c) × (mostIn (rangeOf f) ≡ mostBy c) × (isNamed f ≡ eqb c 5) × (parameterBy c ≡ p) × (parameterOf k ≡ p)
+Row c (Known k f d p) = (isOneOf c (codecsOf k) ≡ true) × (leastIn (rangeOf f) ≡ leastBy c) × (mostIn (rangeOf f) ≡ mostBy c) × (isNames f ≡ eqb c 5) × (parameterBy c ≡ p) × (parameterOf k ≡ p)
 
-abbrev Rows : (ℕ → Codec → Type 0) → List Codec → Type 0
+abbrev pub Rows : (ℕ → Codec → Type 0) → List Codec → Type 0
 Rows P [] = Unit {0}
 Rows P (t ∷ ts) = P 0 t × Rows (λ (i : ℕ). P (suc i)) ts
 
-row-at : (P : ℕ → Codec → Type 0) (ts : List Codec) → Rows P ts → ((c : ℕ) → P c Unknown) → (c : ℕ) → P c (getD ts c Unknown)
+pub row-at : (P : ℕ → Codec → Type 0) (ts : List Codec) → Rows P ts → ((c : ℕ) → P c Unknown) → (c : ℕ) → P c (getD ts c Unknown)
 row-at P [] r u c = u c
 row-at P (t ∷ ts) r u zero = r .0
 row-at P (t ∷ ts) r u (suc c) = row-at (λ (i : ℕ). P (suc i)) ts (r .1) (λ i. u (suc i)) c
@@ -269,10 +264,10 @@ module _ (k : Kind) (f : Form) (d : Bool) (p : Parameter) (c : ℕ) (q : codecOf
   pub kind-parameter : parameterOf k ≡ p
   kind-parameter = row .5
 
-  is-five : isNamed f ≡ true → c ≡ 5
+  is-five : isNames f ≡ true → c ≡ 5
   is-five e = eqb-true c 5 (sym (row .3) ∙ e)
 
-  not-five : isNamed f ≡ false → c ≡ 5 → ⊥
+  not-five : isNames f ≡ false → c ≡ 5 → ⊥
   not-five e = eqb-false c 5 (sym (row .3) ∙ e)
 
   module _ (m : ℕ) (xs : List ℤ) (h : CanHold k c m xs) where
@@ -280,22 +275,22 @@ module _ (k : Kind) (f : Form) (d : Bool) (p : Parameter) (c : ℕ) (q : codecOf
     parameter-right = by (eqb c 5) refl (leb 9 c && leb c 13) refl (row .4)
       where
         by : (t : Bool) → eqb c 5 ≡ t → (u : Bool) → (leb 9 c && leb c 13) ≡ u → cond t NameSize (cond u Divisor Unused) ≡ p → parameterOk p m ≡ true
-        by true e u g z = let n = h .size (eqb-true c 5 e) in subst (λ (i : Parameter). parameterOk i m ≡ true) z (rw (le-leb 1 m (n .0), le-leb m 255 (n .1)))
+        by true e u g z = let n = h .size (eqb-true c 5 e) in subst (λ (i : Parameter). parameterOk i m ≡ true) z (rw (le-leb 1 m (n .0), le-leb m nameLimit (n .1)))
         by false e true g z =
             let r = and-eq-true-iff (leb 9 c) (leb c 13) .0 g in
             let n = h .divisor (leb-true 9 c (r .0)) (leb-true c 13 (r .1)) in
-            subst (λ (i : Parameter). parameterOk i m ≡ true) z (rw (le-leb 1 m (n .0), le-leb m 2147483647 (n .1)))
+            subst (λ (i : Parameter). parameterOk i m ≡ true) z (rw (le-leb 1 m (n .0), le-leb m integerLimit (n .1)))
         by false e false g z = subst (λ (i : Parameter). parameterOk i m ≡ true) z refl
 
     whole-few : (wholeResults f m (length xs) ≡ true) × (results f m (length xs) ≤ lengthLimit)
     whole-few = by f refl
       where
         by : (g : Form) → f ≡ g → (wholeResults g m (length xs) ≡ true) × (results g m (length xs) ≤ lengthLimit)
-        by (Plain z) e = (refl, h .few (not-five (ap isNamed e)))
-        by (Packed z) e = (refl, h .few (not-five (ap isNamed e)))
-        by (Runs r) e = (refl, h .few (not-five (ap isNamed e)))
+        by (Plain z) e = (refl, h .few (not-five (ap isNames e)))
+        by (Packed z) e = (refl, h .few (not-five (ap isNames e)))
+        by (Runs r) e = (refl, h .few (not-five (ap isNames e)))
         by Names e =
-            let five = is-five (ap isNamed e) in
+            let five = is-five (ap isNames e) in
             let n = h .names five in
             let z = h .size five .0 in
             (rw (n .1) (eq-eqb (n .0 * m % m) 0 (mul-mod-left (n .0) m)), rw (n .1, mul-div-cancel (n .0) {n = m} z) (n .2))
@@ -308,7 +303,7 @@ module _ (k : Kind) (f : Form) (d : Bool) (p : Parameter) (c : ℕ) (q : codecOf
         by (Packed z) e = refl
         by (Runs r) e = refl
         by Names e =
-            let five = is-five (ap isNamed e) in
+            let five = is-five (ap isNames e) in
             zero-padded m (h .size five .0) xs (every-map _ (λ (x : ℤ). leZ (pos 0) x ≡ true) (not-negative c five) xs (h .numbers)) (h .padded five)
 
     held-encoded : Encoded (Only k) c m xs (headerBytes c (results f m (length xs)) (used p m) ++ payloadOf f d xs)
@@ -319,7 +314,7 @@ module _ (k : Kind) (f : Form) (d : Bool) (p : Parameter) (c : ℕ) (q : codecOf
           delta = d;
           parameter = p;
           known = q;
-          suited = eq-eqb (kindNumber k) (kindNumber k) refl;
+          suited = eq-eqb (kindTag k) (kindTag k) refl;
           parameter-right = parameter-right;
           whole = whole-few .0;
           few = whole-few .1;
@@ -335,21 +330,21 @@ module _ (k : Kind) (f : Form) (d : Bool) (p : Parameter) (c : ℕ) (q : codecOf
     in-range : Every (λ (x : ℤ). (leastBy c ≤ℤ x) × (x ≤ℤ mostBy c)) xs
     in-range = in-numbers (rangeOf f) c (row .1) (row .2) xs (and-eq-true-iff (allIn (rangeOf f) xs) (padded f m xs) .0 held .0)
 
-    sized : c ≡ 5 → (1 ≤ m) × (m ≤ 255)
-    sized e = let r = and-eq-true-iff (leb 1 m) (leb m 255) .0 (parameter-is (eq-eqb c 5 e) refl) in (leb-true 1 m (r .0), leb-true m 255 (r .1))
+    sized : c ≡ 5 → (1 ≤ m) × (m ≤ nameLimit)
+    sized e = let r = and-eq-true-iff (leb 1 m) (leb m nameLimit) .0 (parameter-is (eq-eqb c 5 e) refl) in (leb-true 1 m (r .0), leb-true m nameLimit (r .1))
 
-    divided : 9 ≤ c → c ≤ 13 → (1 ≤ m) × (m ≤ 2147483647)
+    divided : 9 ≤ c → c ≤ 13 → (1 ≤ m) × (m ≤ integerLimit)
     divided a b =
         let n : c ≡ 5 → ⊥ = λ (e : c ≡ 5). omega arith in
-        let r = and-eq-true-iff (leb 1 m) (leb m 2147483647) .0 (parameter-is {u = true} (ne-eqb c 5 n) (rw (le-leb 9 c a, le-leb c 13 b))) in
-        (leb-true 1 m (r .0), leb-true m 2147483647 (r .1))
+        let r = and-eq-true-iff (leb 1 m) (leb m integerLimit) .0 (parameter-is {u = true} (ne-eqb c 5 n) (rw (le-leb 9 c a, le-leb c 13 b))) in
+        (leb-true 1 m (r .0), leb-true m integerLimit (r .1))
 
     encoded-held : CanHold k c m xs
     encoded-held = by f refl
       where
-        other : (g : Form) → f ≡ g → isNamed g ≡ false → results g m (length xs) ≡ length xs → CanHold k c m xs
+        other : (g : Form) → f ≡ g → isNames g ≡ false → results g m (length xs) ≡ length xs → CanHold k c m xs
         other g e n r =
-            let five = not-five (ap isNamed e ∙ n) in
+            let five = not-five (ap isNames e ∙ n) in
             record {
               codec = row .0;
               size = sized;
@@ -365,7 +360,7 @@ module _ (k : Kind) (f : Form) (d : Bool) (p : Parameter) (c : ℕ) (q : codecOf
         by (Packed z) e = other (Packed z) e refl refl
         by (Runs r) e = other (Runs r) e refl refl
         by Names e =
-            let five = is-five (ap isNamed e) in
+            let five = is-five (ap isNames e) in
             let w : length xs % m ≡ 0 = eqb-true (length xs % m) 0 (rw e at whole) in
             let p = and-eq-true-iff (allIn (rangeOf f) xs) (padded f m xs) .0 held .1 in
             record {

@@ -11,23 +11,24 @@ use lib.IntN.{ℤ, pos}
 use lib.Dec.{leb}
 use mir.Syntax.{w32}
 use borrow.Author.Tests.{eqb-true, eq-eqb, leb-true}
-use Rattle.codecs.specs.declared.Size.the-variants.{One, Four}
-use Rattle.codecs.specs.declared.Form.{Form}
-use Rattle.codecs.specs.declared.Form.the-variants.{Plain, Packed, Runs, Names}
-use Rattle.codecs.specs.Width.{sizeOf}
-use Rattle.codecs.specs.Numbers.{bytesFor}
-use Rattle.codecs.specs.RunLength.{runsOf}
-use Rattle.codecs.specs.Packing.{pack}
-use Rattle.codecs.specs.Delta.{sumsIf, deltasIf}
-use Rattle.codecs.specs.Payload.{numberSize, numbersFor, allIn, rangeOf, padded, allowed}
-use Rattle.codecs.specs.Fits.{AllFit}
-use Rattle.codecs.specs.Laws.NumbersBack.{length-bytesFor}
-use Rattle.codecs.specs.Laws.RunLength.{runsOf-even}
-use Rattle.codecs.specs.Laws.Delta.{sumsFrom-fit, deltasFrom-fit}
-use Rattle.codecs.specs.Laws.PayloadBack.{allIn-32, allIn-Int32, Countable, unitOf}
+use Rattle.numbers.specs.Ranges.{integerLimit}
+use Rattle.steps.specs.declared.Size.the-variants.{One, Four}
+use Rattle.steps.specs.declared.Form.{Form}
+use Rattle.steps.specs.declared.Form.the-variants.{Plain, Packed, Runs, Names}
+use Rattle.steps.specs.Width.{sizeOf}
+use Rattle.steps.specs.Numbers.{bytesFor}
+use Rattle.steps.specs.RunLength.{runsOf}
+use Rattle.steps.specs.Packing.{pack}
+use Rattle.steps.specs.Delta.{sumsIf, deltasIf}
+use Rattle.steps.specs.Payload.{numberSize, numbersFor, allIn, rangeOf, padded, allowed}
+use Rattle.steps.specs.Fits.{AllFit}
+use Rattle.steps.specs.Laws.NumbersBack.{length-bytesFor}
+use Rattle.steps.specs.Laws.RunLength.{runsOf-even}
+use Rattle.steps.specs.Laws.Delta.{results-plain, results-fit, deltas-plain, deltas-fit}
+use Rattle.steps.specs.Laws.PayloadBack.{allIn-32, allIn-Int32, Countable, unitOf}
 use Rattle.columns.specs.declared.Parameter.{Parameter}
 use Rattle.columns.specs.declared.Parameter.the-variants.{Unused, Divisor, NameSize}
-use Rattle.columns.specs.Table.{lengthLimit, parameterOk, elements, sizeRight, used}
+use Rattle.columns.specs.Table.{lengthLimit, nameLimit, parameterOk, elements, sizeRight, used}
 use Rattle.columns.specs.Encode.{results, wholeResults}
 use Rattle.columns.specs.WriterForm.{ParameterForm}
 use Rattle.columns.specs.Laws.Rows.{isWide, deltaWide, namesSized, wide-Int32, sized-NameSize}
@@ -36,8 +37,8 @@ use Rattle.columns.specs.Laws.Rows.{isWide, deltaWide, namesSized, wide-
 
 pub used-small : (p : Parameter) (m : ℕ) → parameterOk p m ≡ true → used p m < 4294967296
 used-small Unused m e = omega arith
-used-small Divisor m e = omega (arith, leb-true m 2147483647 (and-eq-true-iff (leb 1 m) (leb m 2147483647) .0 e .1))
-used-small NameSize m e = omega (arith, leb-true m 255 (and-eq-true-iff (leb 1 m) (leb m 255) .0 e .1))
+used-small Divisor m e = omega (arith, leb-true m integerLimit (and-eq-true-iff (leb 1 m) (leb m integerLimit) .0 e .1))
+used-small NameSize m e = omega (arith, leb-true m nameLimit (and-eq-true-iff (leb 1 m) (leb m nameLimit) .0 e .1))
 
 pub used-right : (p : Parameter) (m : ℕ) → parameterOk p m ≡ true → parameterOk p (used p m) ≡ true
 used-right Unused m e = refl
@@ -80,7 +81,7 @@ elements-results (Packed z) p m e s h = refl
 elements-results (Runs r) p m e s h = refl
 elements-results Names p m e s h = rw (sized-NameSize p s) (omega (arith, div-add-mod' e m, eqb-true (e % m) 0 h))
 
--- and elements are whole results
+-- the elements of n results are whole results
 pub whole-elements : (f : Form) (m n : ℕ) → wholeResults f m (elements f n m) ≡ true
 whole-elements (Plain z) m n = refl
 whole-elements (Packed z) m n = refl
@@ -92,8 +93,8 @@ results-elements (Plain z) p m n s h = refl
 results-elements (Packed z) p m n s h = refl
 results-elements (Runs r) p m n s h = refl
 results-elements Names p m n s h =
-    let k : leb 1 m && leb m 255 ≡ true = rw (sized-NameSize p s) at h in
-    mul-div-cancel n (leb-true 1 m (and-eq-true-iff (leb 1 m) (leb m 255) .0 k .0))
+    let k : leb 1 m && leb m nameLimit ≡ true = rw (sized-NameSize p s) at h in
+    mul-div-cancel n (leb-true 1 m (and-eq-true-iff (leb 1 m) (leb m nameLimit) .0 k .0))
 
 pub countable : (f : Form) (m e : ℕ) → results f m e ≤ lengthLimit → Countable f e
 countable (Plain z) m e h = tt
@@ -144,9 +145,9 @@ held-wide f m xs e g = and-eq-true-iff (allIn (rangeOf f) xs) (padded f m xs) .1
     no-names Names e = let y : _≡_ {A = ℕ} 0 1 = cc in absurd (omega arith)
 
 pub held-deltas : (f : Form) (d : Bool) (m : ℕ) (xs : List ℤ) → deltaWide d f ≡ true → allowed f m xs ≡ true → allowed f m (deltasIf d xs) ≡ true
-held-deltas f true m xs e h = held-wide f m (deltasIf true xs) e (deltasFrom-fit (pos 0) xs)
-held-deltas f false m xs e h = h
+held-deltas f true m xs e h = held-wide f m (deltasIf true xs) e (deltas-fit (pos 0) xs)
+held-deltas f false m xs e h = rw (deltas-plain (pos 0) xs) h
 
 pub held-sums : (f : Form) (d : Bool) (m : ℕ) (xs : List ℤ) → deltaWide d f ≡ true → allowed f m xs ≡ true → allowed f m (sumsIf d xs) ≡ true
-held-sums f true m xs e h = held-wide f m (sumsIf true xs) e (sumsFrom-fit (pos 0) xs)
-held-sums f false m xs e h = h
+held-sums f true m xs e h = held-wide f m (sumsIf true xs) e (results-fit (pos 0) xs)
+held-sums f false m xs e h = rw (results-plain (pos 0) xs) h

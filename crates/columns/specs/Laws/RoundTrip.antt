@@ -6,22 +6,23 @@ use mathlib.Core.List.{List, _++_}
 use Prim.Native.Nat.{ℕ, _+_, _-_, _%_, _<_}
 use native.Mathlib.Omega.{arith}
 use lib.ListN.{length, drop, length-drop}
-use lib.IntN.{ℤ}
+use lib.IntN.{ℤ, pos}
 use Rattle.numbers.specs.BigEndian.{Bytes, unsignedAt}
-use Rattle.codecs.specs.declared.Form.{Form}
-use Rattle.codecs.specs.Numbers.{numbersIn, bytesFor}
-use Rattle.codecs.specs.Delta.{deltasIf}
-use Rattle.codecs.specs.Payload.{numberSize, numbersFor, allIn, rangeOf, padded, allowed}
-use Rattle.codecs.specs.WriterForm.{NumbersForm}
-use Rattle.codecs.specs.Laws.NumbersBack.{numbersIn-bytesFor, drop-bytes}
-use Rattle.codecs.specs.Laws.Delta.{sumsIf-deltasIf, deltasIf-sumsIf, length-deltasIf, length-sumsIf}
-use Rattle.codecs.specs.Laws.PayloadBack.{numbersFor-fit, numbersFor-form, valuesIn-bytesFor, Countable, unitOf, bytesFor-valuesIn}
+use Rattle.numbers.specs.Laws.BigEndian.{drop-bytes}
+use Rattle.steps.specs.declared.Form.{Form}
+use Rattle.steps.specs.Numbers.{numbersIn, bytesFor}
+use Rattle.steps.specs.Delta.{deltasIf}
+use Rattle.steps.specs.Payload.{numberSize, numbersFor, allIn, rangeOf, padded, allowed}
+use Rattle.steps.specs.WriterForm.{NumbersForm}
+use Rattle.steps.specs.Laws.NumbersBack.{numbersIn-bytesFor}
+use Rattle.steps.specs.Laws.Delta.{sumsIf-deltasIf, deltasIf-sumsIf, length-deltas, length-sumsIf}
+use Rattle.steps.specs.Laws.PayloadBack.{numbersFor-fit, numbersFor-form, heldIn-allowed, heldIn-bytesFor, Countable, unitOf, bytesFor-heldIn}
 use Rattle.columns.specs.declared.Kind.{Kind}
 use Rattle.columns.specs.declared.Wanted.{Wanted}
 use Rattle.columns.specs.declared.Parameter.{Parameter}
 use Rattle.columns.specs.declared.Codec.the-variants.{Known}
 use Rattle.columns.specs.Table.{codecOf, elements, sizeRight, used}
-use Rattle.columns.specs.Header.{headerBytes}
+use Rattle.columns.specs.Header.{headerSize, headerBytes}
 use Rattle.columns.specs.Decode.{column, decode}
 use Rattle.columns.specs.Encode.{bytes, results, payloadOf, encode}
 use Rattle.columns.specs.WriterForm.{CodecForm, WriterForm}
@@ -60,11 +61,11 @@ module _ (w : Wanted) (c m : ℕ) (xs : List ℤ) (b : List ℕ) (r : Encoded w 
   pub field-at : unsignedAt 4 b 8 ≡ used (r .parameter) m
   field-at = rw (r .built) at (header-parameter c count field payload (used-small (r .parameter) m (r .parameter-right)))
 
-  pub payload-at : drop 12 b ≡ bytesFor (numberSize (r .form)) (numbersFor (r .form) values)
+  pub payload-at : drop headerSize b ≡ bytesFor (numberSize (r .form)) (numbersFor (r .form) values)
   unfolding payloadOf
   payload-at = rw (r .built) at (drop-header c count field payload)
 
-  pub length-at : length b ≡ 12 + length (bytesFor (numberSize (r .form)) (numbersFor (r .form) values))
+  pub length-at : length b ≡ headerSize + length (bytesFor (numberSize (r .form)) (numbersFor (r .form) values))
   unfolding payloadOf
   length-at = rw (r .built) at (length-column c count field payload)
 
@@ -77,7 +78,7 @@ module _ (w : Wanted) (c m : ℕ) (xs : List ℤ) (b : List ℕ) (r : Encoded w 
   values-in = and-eq-true-iff (allIn (rangeOf (r .form)) values) (padded (r .form) field values) .0 values-held .0
 
   values-length : length values ≡ length xs
-  values-length = length-deltasIf (r .delta) xs
+  values-length = length-deltas (r .delta) (pos 0) xs
 
   values-countable : Countable (r .form) (length values)
   values-countable = rw values-length (countable (r .form) m (length xs) (r .few))
@@ -85,9 +86,9 @@ module _ (w : Wanted) (c m : ℕ) (xs : List ℤ) (b : List ℕ) (r : Encoded w 
   values-counted : length values ≡ elements (r .form) count field
   values-counted = values-length ∙ elements-results (r .form) (r .parameter) m (length xs) (row-sized c (r .known)) (r .whole)
 
-  payload-size : sizeRight (r .form) (unsignedAt 4 b 4) field (length b - 12) ≡ true
+  payload-size : sizeRight (r .form) (unsignedAt 4 b 4) field (length b - headerSize) ≡ true
   payload-size =
-      let l : length b - 12 ≡ length (bytesFor (numberSize (r .form)) (numbersFor (r .form) values)) = omega (arith, length-at) in
+      let l : length b - headerSize ≡ length (bytesFor (numberSize (r .form)) (numbersFor (r .form) values)) = omega (arith, length-at) in
       rw (count-at, l) (size-written (r .form) count field values values-counted)
 
   encoded-decoded : Decoded w b (r .kind) field xs
@@ -104,8 +105,7 @@ module _ (w : Wanted) (c m : ℕ) (xs : List ℤ) (b : List ℕ) (r : Encoded w 
         parameter-read = ap (used (r .parameter)) field-at ∙ used-twice (r .parameter) m;
         parameter-right = used-right (r .parameter) m (r .parameter-right);
         size-right = payload-size;
-        values-read = rw payload-at (valuesIn-bytesFor (r .form) values values-in values-countable);
-        held = values-held;
+        values-read = rw payload-at (heldIn-bytesFor (r .form) field values values-held values-countable);
         counted = rw count-at values-counted;
         summed = sumsIf-deltasIf (r .delta) xs (held-32 (r .form) m xs (r .held));
       }
@@ -114,7 +114,7 @@ module _ (w : Wanted) (c m : ℕ) (xs : List ℤ) (b : List ℕ) (r : Encoded w 
   unfolding WriterForm
   encoded-form =
       let fit = numbersFor-fit (r .form) values values-in values-countable in
-      let form : NumbersForm (r .form) (numbersIn (numberSize (r .form)) (drop 12 b)) =
+      let form : NumbersForm (r .form) (numbersIn (numberSize (r .form)) (drop headerSize b)) =
       rw (payload-at, numbersIn-bytesFor (numberSize (r .form)) (numbersFor (r .form) values) fit) (numbersFor-form (r .form) values) in
       rw (codec-at, r .known) (rw field-at (used-form (r .parameter) m), form)
 
@@ -125,7 +125,7 @@ decode-encode w c m xs b e =
     let r = encode-rules w c m xs b e in
     (r .kind, r .form, r .delta, r .parameter, r .known, decode-kept w b (r .kind) (used (r .parameter) m) xs (encoded-decoded w c m xs b r))
 
--- and its bytes have the writer's form
+-- the bytes of a column have the writer's form
 pub encode-form : (w : Wanted) (c m : ℕ) (xs : List ℤ) (b : List ℕ) → encode w c m xs ≡ bytes b → WriterForm b
 encode-form w c m xs b e = encoded-form w c m xs b (encode-rules w c m xs b e)
 
@@ -138,8 +138,11 @@ module _ (w : Wanted) (s : List ℕ) (k : Kind) (m : ℕ) (xs : List ℤ) (r : D
   same-count : results (r .form) m (length xs) ≡ unsignedAt 4 s 4
   same-count = rw length-elements (results-elements (r .form) (r .parameter) m (unsignedAt 4 s 4) (row-sized (unsignedAt 4 s 0) (r .known)) (r .parameter-right))
 
+  values-allowed : allowed (r .form) m (r .values) ≡ true
+  values-allowed = heldIn-allowed (r .form) m (drop headerSize s) (r .values) (r .values-read)
+
   pub same-values : deltasIf (r .delta) xs ≡ r .values
-  same-values = rw (← r .summed) (deltasIf-sumsIf (r .delta) (r .values) (held-32 (r .form) m (r .values) (r .held)))
+  same-values = rw (← r .summed) (deltasIf-sumsIf (r .delta) (r .values) (held-32 (r .form) m (r .values) values-allowed))
 
   -- a column that is decoded has an encoding by its codec
   pub decoded-encoded : (b : List ℕ) → headerBytes (unsignedAt 4 s 0) (results (r .form) m (length xs)) (used (r .parameter) m) ++ payloadOf (r .form) (r .delta) xs ≡ b
@@ -155,23 +158,23 @@ module _ (w : Wanted) (s : List ℕ) (k : Kind) (m : ℕ) (xs : List ℤ) (r : D
         parameter-right = r .parameter-right;
         whole = rw length-elements (whole-elements (r .form) m (unsignedAt 4 s 4));
         few = rw same-count (r .few);
-        held = rw (← r .summed) (held-sums (r .form) (r .delta) m (r .values) (row-wide (unsignedAt 4 s 0) (r .known)) (r .held));
+        held = rw (← r .summed) (held-sums (r .form) (r .delta) m (r .values) (row-wide (unsignedAt 4 s 0) (r .known)) values-allowed);
         built = e;
       }
 
   module _ (h : Bytes s) (g : WriterForm s) where
-    codec-form : CodecForm (Known k (r .form) (r .delta) (r .parameter)) (unsignedAt 4 s 8) (drop 12 s)
+    codec-form : CodecForm (Known k (r .form) (r .delta) (r .parameter)) (unsignedAt 4 s 8) (drop headerSize s)
     unfolding WriterForm
     codec-form = rw (r .known) at g
 
     same-field : used (r .parameter) m ≡ unsignedAt 4 s 8
     same-field = ap (used (r .parameter)) (sym (r .parameter-read)) ∙ used-twice (r .parameter) (unsignedAt 4 s 8) ∙ form-used (r .parameter) (unsignedAt 4 s 8) (codec-form .0)
 
-    same-payload : payloadOf (r .form) (r .delta) xs ≡ drop 12 s
+    same-payload : payloadOf (r .form) (r .delta) xs ≡ drop headerSize s
     unfolding payloadOf
     same-payload =
-        let u : length (drop 12 s) % unitOf (r .form) ≡ 0 = rw (length-drop 12 s) (size-unit (r .form) (unsignedAt 4 s 4) m (length s - 12) (r .size-right)) in
-        rw same-values (bytesFor-valuesIn (r .form) (drop 12 s) (r .values) (drop-bytes 12 s h) u (codec-form .1) (r .values-read))
+        let u : length (drop headerSize s) % unitOf (r .form) ≡ 0 = rw (length-drop headerSize s) (size-unit (r .form) (unsignedAt 4 s 4) m (length s - headerSize) (r .size-right)) in
+        rw same-values (bytesFor-heldIn (r .form) m (drop headerSize s) (r .values) (drop-bytes headerSize s h) u (codec-form .1) (r .values-read))
 
     same-column : Encoded w (unsignedAt 4 s 0) m xs s
     same-column = decoded-encoded s (rw (same-count, same-field, same-payload) (header-read s h (r .long)))

@@ -1,24 +1,24 @@
 -- What every row of the table of codecs keeps, by one test over the whole table. Assumes nothing.
 use mathlib.Core.Path.{_≡_, refl, sym, ap, _∙_}
-use mathlib.Core.Bool.{Bool, true, false, _&&_, and-eq-true-iff}
+use mathlib.Core.Bool.{Bool, true, false, not, _&&_, _||_, Bool·beq, and-eq-true-iff}
 use mathlib.Core.List.{List, [], _∷_}
 use Prim.Native.Nat.{ℕ, zero, suc, _<_, _≤_}
 use native.Mathlib.Omega.{arith}
 use lib.ListN.{length, getD, List·getD-eq-default}
-use lib.Dec.{eqb, ltb}
+use lib.Dec.{ltb}
 use borrow.Author.Tests.{eqb-true, ltb-true, ltb-false}
-use Rattle.codecs.specs.declared.Range.{Range}
-use Rattle.codecs.specs.declared.Range.the-variants as range
-use Rattle.codecs.specs.declared.Form.{Form}
-use Rattle.codecs.specs.declared.Form.the-variants.{Plain, Packed, Runs, Names}
-use Rattle.codecs.specs.Payload.{rangeOf}
+use Rattle.steps.specs.declared.Range.{Range}
+use Rattle.steps.specs.declared.Range.the-variants as range
+use Rattle.steps.specs.declared.Form.{Form}
+use Rattle.steps.specs.declared.Form.the-variants.{Plain, Packed, Runs, Names}
+use Rattle.steps.specs.Payload.{rangeOf}
 use Rattle.columns.specs.declared.Kind.{Kind}
 use Rattle.columns.specs.declared.Kind.the-variants as kind
 use Rattle.columns.specs.declared.Parameter.{Parameter}
 use Rattle.columns.specs.declared.Parameter.the-variants.{Unused, Divisor, NameSize}
 use Rattle.columns.specs.declared.Codec.{Codec}
 use Rattle.columns.specs.declared.Codec.the-variants.{Known, Unknown}
-use Rattle.columns.specs.Table.{table, codecOf, kindNumber}
+use Rattle.columns.specs.Table.{table, codecOf, kindTag, isKind, isStrings, isNameSize, isNames}
 
 -- Kinds
 
@@ -26,7 +26,7 @@ use Rattle.columns.specs.Table.{table, codecOf, kindNumber}
 abbrev kinds : List Kind
 kinds = kind.Float32 ∷ kind.FixedPoint ∷ kind.Int8 ∷ kind.Int16 ∷ kind.Int32 ∷ kind.Strings ∷ kind.Chars ∷ []
 
-kind-at : (k : Kind) → getD kinds (kindNumber k) kind.Float32 ≡ k
+kind-at : (k : Kind) → getD kinds (kindTag k) kind.Float32 ≡ k
 kind-at kind.Float32 = refl
 kind-at kind.FixedPoint = refl
 kind-at kind.Int8 = refl
@@ -35,8 +35,8 @@ kind-at kind.Int32 = refl
 kind-at kind.Strings = refl
 kind-at kind.Chars = refl
 
-pub same-kind : (k j : Kind) → eqb (kindNumber k) (kindNumber j) ≡ true → k ≡ j
-same-kind k j e = sym (kind-at k) ∙ ap (λ (n : ℕ). getD kinds n kind.Float32) (eqb-true (kindNumber k) (kindNumber j) e) ∙ kind-at j
+pub same-kind : (k j : Kind) → isKind k j ≡ true → k ≡ j
+same-kind k j e = sym (kind-at k) ∙ ap (λ (n : ℕ). getD kinds n kind.Float32) (eqb-true (kindTag k) (kindTag j) e) ∙ kind-at j
 
 -- What a row keeps
 
@@ -74,30 +74,59 @@ sized-NameSize NameSize e = refl
 
 -- The table
 
-rowOk : Codec → Bool
+abbrev allRows : (Codec → Bool) → List Codec → Bool
+allRows test [] = true
+allRows test (r ∷ rs) = test r && allRows test rs
+
+-- a test that each row of the table passes is passed by every codec
+pub every-codec : (test : Codec → Bool) → test Unknown ≡ true → allRows test table ≡ true → (c : ℕ) → test (codecOf c) ≡ true
+unfolding codecOf
+every-codec test u h c = at table h c
+  where
+    at : (rows : List Codec) → allRows test rows ≡ true → (c : ℕ) → test (getD rows c Unknown) ≡ true
+    at [] h c = u
+    at (r ∷ rows) h zero = and-eq-true-iff (test r) (allRows test rows) .0 h .0
+    at (r ∷ rows) h (suc c) = at rows (and-eq-true-iff (test r) (allRows test rows) .0 h .1) c
+
+-- Strings, and they alone, are names, without delta and with their size. Where delta follows, the values may be any 32-bit numbers.
+abbrev rowOk : Codec → Bool
 rowOk Unknown = true
-rowOk (Known k f d p) = deltaWide d f && namesSized f p
-
-allOk : List Codec → Bool
-allOk [] = true
-allOk (r ∷ rs) = rowOk r && allOk rs
-
-ok-at : (rs : List Codec) (c : ℕ) → allOk rs ≡ true → rowOk (getD rs c Unknown) ≡ true
-unfolding allOk rowOk
-ok-at [] c e = refl
-ok-at (r ∷ rs) zero e = and-eq-true-iff (rowOk r) (allOk rs) .0 e .0
-ok-at (r ∷ rs) (suc c) e = ok-at rs c (and-eq-true-iff (rowOk r) (allOk rs) .0 e .1)
+rowOk (Known k f d p) = (deltaWide d f && namesSized f p) && (Bool·beq (isStrings k) (isNames f) && (not (isStrings k) || (not d && isNameSize p)))
 
 module _ (c : ℕ) {k : Kind} {f : Form} {d : Bool} {p : Parameter} (e : codecOf c ≡ Known k f d p) where
-  row-ok : deltaWide d f && namesSized f p ≡ true
-  unfolding codecOf allOk rowOk
-  row-ok = sym (ap rowOk e) ∙ ok-at table c refl
+  row : rowOk (Known k f d p) ≡ true
+  row = sym (ap rowOk e) ∙ every-codec rowOk refl refl c
+
+  row-ok : (deltaWide d f ≡ true) × (namesSized f p ≡ true)
+  row-ok = and-eq-true-iff (deltaWide d f) (namesSized f p) .0 (and-eq-true-iff (deltaWide d f && namesSized f p) (Bool·beq (isStrings k) (isNames f) && (not (isStrings k) || (not d && isNameSize p))) .0 row .0)
+
+  row-strings : Bool·beq (isStrings k) (isNames f) && (not (isStrings k) || (not d && isNameSize p)) ≡ true
+  row-strings = and-eq-true-iff (deltaWide d f && namesSized f p) (Bool·beq (isStrings k) (isNames f) && (not (isStrings k) || (not d && isNameSize p))) .0 row .1
 
   pub row-wide : deltaWide d f ≡ true
-  row-wide = and-eq-true-iff (deltaWide d f) (namesSized f p) .0 row-ok .0
+  row-wide = row-ok .0
 
   pub row-sized : namesSized f p ≡ true
-  row-sized = and-eq-true-iff (deltaWide d f) (namesSized f p) .0 row-ok .1
+  row-sized = row-ok .1
+
+  -- another kind than strings has no names
+  pub row-other : isStrings k ≡ false → isNames f ≡ false
+  row-other h = by (isNames f) (rw h at row-strings)
+    where
+      by : (b : Bool) → (Bool·beq false b && true) ≡ true → b ≡ false
+      by false q = refl
+      by true q = let y : _≡_ {A = ℕ} 0 1 = cc in absurd (omega arith)
+
+  -- strings have names, no delta, and a size
+  pub row-names : isStrings k ≡ true → (f ≡ Names) × (d ≡ false) × (isNameSize p ≡ true)
+  row-names h = by f d (rw h at row-strings)
+    where
+      by : (f : Form) (d : Bool) → (Bool·beq true (isNames f) && (not d && isNameSize p)) ≡ true → (f ≡ Names) × (d ≡ false) × (isNameSize p ≡ true)
+      by (Plain z) d q = let y : _≡_ {A = ℕ} 0 1 = cc in absurd (omega arith)
+      by (Packed z) d q = let y : _≡_ {A = ℕ} 0 1 = cc in absurd (omega arith)
+      by (Runs r) d q = let y : _≡_ {A = ℕ} 0 1 = cc in absurd (omega arith)
+      by Names true q = let y : _≡_ {A = ℕ} 0 1 = cc in absurd (omega arith)
+      by Names false q = (refl, refl, q)
 
   -- a known codec is one of the table's numbers
   pub row-small : c < 17

@@ -1,15 +1,17 @@
--- The header's refusal, or the count of the payload's answer.
+-- The header's refusal, or the payload's answer.
 use mathlib.Core.Path.{refl, sym, ap, _∙_}
 use Prim.Native.Nat.{_≤_}
 use lib.ListN.{length}
 use borrow.Author.Needs.{needs}
 use Rattle.columns.specs.declared.Kind.the-variants as kind
 use Rattle.columns.specs.declared.Wanted.the-variants.{Only}
+use Rattle.columns.specs.Header.{headerSize}
 use Rattle.columns.specs.Decode.{Decoding, decode}
-use Rattle.columns.specs.Laws.Table.{Passes, header-passes}
-use Rattle.decoding.specs.Calls.{asByte, told, toldFixed, left, countOf}
-use Rattle.decoding.specs.Laws.Rows.{not-names}
-use Rattle.decoding.specs.Laws.Calls.{told-count, decode-refused, decode-good}
+use Rattle.columns.specs.Laws.Table.{Passes, header-passes, no-names}
+use Rattle.columns.specs.Laws.Decode.{decode-refused, decode-good}
+use Rattle.columns.specs.Buffer.{decodedAnswer}
+use Rattle.columns.specs.Laws.Buffer.{answers-refused}
+use Rattle.decoding.specs.Calls.{asByte, byteBuffer}
 use Rattle.decoding.proofs.decode_chars.Statement.{statement}
 use Rattle.decoding.proofs.decode_chars.Tie as tie
 
@@ -19,7 +21,7 @@ passes c =
     let g = c .n .given in
     header-passes (Only kind.Chars) (a .column .now) (g .0 .0) (g .0 .1 .0) (g .0 .1 .1 .0) (g .0 .1 .1 .1 .0) (g .0 .1 .1 .1 .1 .0) (sym (c .before .before .read-header .ensures) ∙ g .1)
 
-long : (c : tie.After-n) → 12 ≤ length (c .before .before .before .before .before .args .column .now)
+long : (c : tie.After-n) → headerSize ≤ length (c .before .before .before .before .before .args .column .now)
 long c = passes c .0
 
 returns : tie.Need-returns
@@ -27,23 +29,21 @@ returns c =
     let a = c .before .before .before .before .before .before .args in
     let g = c .before .r .given in
     let e = decode-refused (Only kind.Chars) (a .column .now) (g .0 .0) (sym (c .before .before .before .read-header .ensures) ∙ g .1) in
-    (sym (ap (λ (x : Decoding). told x (length (a .buffer .now))) e), sym (ap (λ (x : Decoding). left asByte x (a .buffer .now)) e))
+    answers-refused (λ k m. asByte) (decode (Only kind.Chars) (a .column .now)) (a .buffer .now) (g .0 .0) e
 
 chars-in-requires : tie.Need-chars-in-requires
 chars-in-requires c κs =
     let a = c .before .before .before .before .before .before .before .before in
     let g = c .before .before .before .n .given .0 in
-    not-names (Only kind.Chars) (a .args .column .now) (g .0) (g .1 .0) (g .1 .1 .0) (g .1 .1 .1 .0) (g .1 .1 .1 .1 .0) (passes (c .before .before .before)) refl
+    no-names (Only kind.Chars) (a .args .column .now) (g .0) (g .1 .0) (g .1 .1 .0) (g .1 .1 .1 .0) (g .1 .1 .1 .1 .0) (passes (c .before .before .before)) refl
 
 returns-2 : tie.Need-returns-2
 returns-2 c =
-    let a = c .before .before .before .before .before .before .before .before .before .before .before .before .args in
-    let g = c .before .before .before .before .before .before .before .n .given in
-    let e = decode-good (Only kind.Chars) (a .column .now) (g .0 .0) (g .0 .1 .0) (g .0 .1 .1 .0) (g .0 .1 .1 .1 .0) (g .0 .1 .1 .1 .1 .0) (sym (c .before .before .before .before .before .before .before .before .before .read-header .ensures) ∙ g .1) in
-    let r = c .before .before .before .chars-in .ensures in (
-      c .count-of .ensures ∙ ap countOf (r .0 ∙ sym (ap (λ (x : Decoding). toldFixed x (length (a .buffer .now))) e)) ∙ told-count (decode (Only kind.Chars) (a .column .now)) (length (a .buffer .now)),
-      r .1 ∙ sym (ap (λ (x : Decoding). left asByte x (a .buffer .now)) e),
-    )
+    let a = c .before .before .before .before .before .before .before .before .before .before .before .args in
+    let g = c .before .before .before .before .before .before .n .given in
+    let e = decode-good (Only kind.Chars) (a .column .now) (g .0 .0) (g .0 .1 .0) (g .0 .1 .1 .0) (g .0 .1 .1 .1 .0) (g .0 .1 .1 .1 .1 .0) (sym (c .before .before .before .before .before .before .before .before .read-header .ensures) ∙ g .1) in
+    let r = c .before .before .chars-in .ensures in
+    (r .0 ∙ sym (ap (λ (x : Decoding). decodedAnswer x (length (a .buffer .now))) e), r .1 ∙ sym (ap (λ (x : Decoding). byteBuffer x (a .buffer .now)) e))
 
 pub decode-chars-spec : {M : Type 1} → statement M
 decode-chars-spec =
@@ -56,7 +56,6 @@ decode-chars-spec =
     (λ c. let h = long (c .before) in search needs)
     (λ c. search needs)
     chars-in-requires
-    (λ c κs. search needs)
     returns
     (λ c. search needs)
     returns-2)

@@ -3,11 +3,13 @@ use mathlib.Core.Path.{sym, ap, _∙_}
 use Prim.Native.Nat.{_≤_}
 use lib.ListN.{length}
 use borrow.Author.Needs.{needs}
+use Rattle.columns.specs.Header.{headerSize}
 use Rattle.columns.specs.Decode.{Decoding, decode}
-use Rattle.columns.specs.Laws.Table.{Passes, header-passes}
-use Rattle.decoding.specs.Calls.{asNumber, toldFixed, left}
-use Rattle.decoding.specs.Laws.Rows.{not-names}
-use Rattle.decoding.specs.Laws.Calls.{answers-refused, decode-refused, decode-good}
+use Rattle.columns.specs.Laws.Table.{Passes, header-passes, no-names}
+use Rattle.columns.specs.Laws.Decode.{decode-refused, decode-good}
+use Rattle.columns.specs.Buffer.{decodedAnswer}
+use Rattle.columns.specs.Laws.Buffer.{answers-refused}
+use Rattle.decoding.specs.Calls.{asNumber, numberBuffer}
 use Rattle.decoding.proofs.decode_integers.Statement.{statement}
 use Rattle.decoding.proofs.decode_integers.Tie as tie
 
@@ -17,20 +19,20 @@ passes c =
     let g = c .n .given in
     header-passes (a .wanted) (a .column .now) (g .0 .0) (g .0 .1 .0) (g .0 .1 .1 .0) (g .0 .1 .1 .1 .0) (g .0 .1 .1 .1 .1 .0) (sym (c .before .before .read-header .ensures) ∙ g .1)
 
-long : (c : tie.After-n) → 12 ≤ length (c .before .before .before .before .args .column .now)
+long : (c : tie.After-n) → headerSize ≤ length (c .before .before .before .before .args .column .now)
 long c = passes c .0
 
 integers-in-requires : tie.Need-integers-in-requires
 integers-in-requires c κs =
     let a = c .before .before .before .before .before .before .before in
     let g = c .before .before .before .n .given .0 in
-    not-names (a .args .wanted) (a .args .column .now) (g .0) (g .1 .0) (g .1 .1 .0) (g .1 .1 .1 .0) (g .1 .1 .1 .1 .0) (passes (c .before .before .before)) (a .pre)
+    no-names (a .args .wanted) (a .args .column .now) (g .0) (g .1 .0) (g .1 .1 .0) (g .1 .1 .1 .0) (g .1 .1 .1 .1 .0) (passes (c .before .before .before)) (a .pre)
 
 returns : tie.Need-returns
 returns c =
     let a = c .before .before .before .before .before .args in
     let g = c .before .r .given in
-    answers-refused asNumber (decode (a .wanted) (a .column .now)) (a .buffer .now) (g .0 .0) (decode-refused (a .wanted) (a .column .now) (g .0 .0) (sym (c .before .before .before .read-header .ensures) ∙ g .1))
+    answers-refused (λ k m. asNumber) (decode (a .wanted) (a .column .now)) (a .buffer .now) (g .0 .0) (decode-refused (a .wanted) (a .column .now) (g .0 .0) (sym (c .before .before .before .read-header .ensures) ∙ g .1))
 
 returns-2 : tie.Need-returns-2
 returns-2 c =
@@ -38,7 +40,7 @@ returns-2 c =
     let g = c .before .before .before .before .before .n .given in
     let e = decode-good (a .wanted) (a .column .now) (g .0 .0) (g .0 .1 .0) (g .0 .1 .1 .0) (g .0 .1 .1 .1 .0) (g .0 .1 .1 .1 .1 .0) (sym (c .before .before .before .before .before .before .before .read-header .ensures) ∙ g .1) in
     let r = c .before .integers-in .ensures in
-    (r .0 ∙ sym (ap (λ (x : Decoding). toldFixed x (length (a .buffer .now))) e), r .1 ∙ sym (ap (λ (x : Decoding). left asNumber x (a .buffer .now)) e))
+    (r .0 ∙ sym (ap (λ (x : Decoding). decodedAnswer x (length (a .buffer .now))) e), r .1 ∙ sym (ap (λ (x : Decoding). numberBuffer x (a .buffer .now)) e))
 
 pub decode-integers-spec : {M : Type 1} → statement M
 decode-integers-spec =

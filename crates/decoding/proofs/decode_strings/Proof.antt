@@ -1,4 +1,4 @@
--- The header's refusal, or the count of the payload's answer.
+-- The header's refusal, or the payload's answer.
 use mathlib.Core.Path.{_≡_, sym, ap, ap₂, _∙_}
 use mathlib.Core.Bool.{Bool, false}
 use Prim.Native.Nat.{_-_, _≤_}
@@ -6,14 +6,18 @@ use lib.ListN.{length, take, drop}
 use borrow.Author.Needs.{needs}
 use Rattle.columns.specs.declared.Kind.the-variants as kind
 use Rattle.columns.specs.declared.Wanted.the-variants.{Only}
+use Rattle.columns.specs.Header.{headerSize}
 use Rattle.columns.specs.Decode.{Decoding, decode, judgedPayload}
-use Rattle.columns.specs.Laws.Table.{Passes, header-passes}
-use Rattle.decoding.specs.Calls.{asByte, told, toldFixed, left, countOf}
+use Rattle.columns.specs.Laws.Table.{Passes, header-passes, strings-row}
+use Rattle.columns.specs.Laws.Rows.{same-kind}
+use Rattle.columns.specs.Table.{isStrings}
+use Rattle.columns.specs.Buffer.{decodedAnswer}
+use Rattle.columns.specs.Laws.Buffer.{answers-refused}
+use Rattle.decoding.specs.Calls.{asByte, byteBuffer}
 use Rattle.columns.specs.declared.Header.the-variants.{Good}
-use Rattle.codecs.specs.declared.Form.{Form}
-use Rattle.codecs.specs.declared.Form.the-variants.{Names}
-use Rattle.decoding.specs.Laws.Rows.{string-row}
-use Rattle.decoding.specs.Laws.Calls.{told-count, decode-refused, decode-good}
+use Rattle.steps.specs.declared.Form.{Form}
+use Rattle.steps.specs.declared.Form.the-variants.{Names}
+use Rattle.columns.specs.Laws.Decode.{decode-refused, decode-good}
 use Rattle.decoding.proofs.decode_strings.Statement.{statement}
 use Rattle.decoding.proofs.decode_strings.Tie as tie
 
@@ -23,7 +27,7 @@ passes c =
     let g = c .n .given in
     header-passes (Only kind.Strings) (a .column .now) (g .0 .0) (g .0 .1 .0) (g .0 .1 .1 .0) (g .0 .1 .1 .1 .0) (g .0 .1 .1 .1 .1 .0) (sym (c .before .before .read-header .ensures) ∙ g .1)
 
-long : (c : tie.After-n) → 12 ≤ length (c .before .before .before .before .before .args .column .now)
+long : (c : tie.After-n) → headerSize ≤ length (c .before .before .before .before .before .args .column .now)
 long c = passes c .0
 
 returns : tie.Need-returns
@@ -31,26 +35,24 @@ returns c =
     let a = c .before .before .before .before .before .before .args in
     let g = c .before .r .given in
     let e = decode-refused (Only kind.Strings) (a .column .now) (g .0 .0) (sym (c .before .before .before .read-header .ensures) ∙ g .1) in
-    (sym (ap (λ (x : Decoding). told x (length (a .buffer .now))) e), sym (ap (λ (x : Decoding). left asByte x (a .buffer .now)) e))
+    answers-refused (λ k m. asByte) (decode (Only kind.Strings) (a .column .now)) (a .buffer .now) (g .0 .0) e
 
 row : (c : tie.After-n) → (c .n .given .0 .1 .1 .1 .0 ≡ Names) × (c .n .given .0 .1 .1 .1 .1 .0 ≡ false)
 row c =
     let a = c .before .before .before .before .before .args in
     let g = c .n .given .0 in
-    let r = string-row (a .column .now) (g .0) (g .1 .0) (g .1 .1 .0) (g .1 .1 .1 .0) (g .1 .1 .1 .1 .0) (passes c) in
+    let r = strings-row (Only kind.Strings) (a .column .now) (g .0) (g .1 .0) (g .1 .1 .0) (g .1 .1 .1 .0) (g .1 .1 .1 .1 .0) (passes c) (ap isStrings (sym (same-kind kind.Strings (g .1 .1 .0) (passes c .2)))) in
     (r .0, r .1)
 
 returns-2 : tie.Need-returns-2
 returns-2 c =
-    let a = c .before .before .before .before .before .before .before .before .before .before .before .before .args in
-    let g = c .before .before .before .before .before .before .before .n .given in
-    let o = row (c .before .before .before .before .before .before .before) in
-    let e = decode-good (Only kind.Strings) (a .column .now) (g .0 .0) (g .0 .1 .0) (g .0 .1 .1 .0) (g .0 .1 .1 .1 .0) (g .0 .1 .1 .1 .1 .0) (sym (c .before .before .before .before .before .before .before .before .before .read-header .ensures) ∙ g .1)
-    ∙ ap₂ (λ (f : Form) (d : Bool). judgedPayload (Good (g .0 .0) (g .0 .1 .0) (g .0 .1 .1 .0) f d) (take (length (a .column .now) - 12) (drop 12 (a .column .now)))) (o .0) (o .1) in
-    let r = c .before .before .before .strings-in .ensures in (
-      c .count-of .ensures ∙ ap countOf (r .0 ∙ sym (ap (λ (x : Decoding). toldFixed x (length (a .buffer .now))) e)) ∙ told-count (decode (Only kind.Strings) (a .column .now)) (length (a .buffer .now)),
-      r .1 ∙ sym (ap (λ (x : Decoding). left asByte x (a .buffer .now)) e),
-    )
+    let a = c .before .before .before .before .before .before .before .before .before .before .before .args in
+    let g = c .before .before .before .before .before .before .n .given in
+    let o = row (c .before .before .before .before .before .before) in
+    let e = decode-good (Only kind.Strings) (a .column .now) (g .0 .0) (g .0 .1 .0) (g .0 .1 .1 .0) (g .0 .1 .1 .1 .0) (g .0 .1 .1 .1 .1 .0) (sym (c .before .before .before .before .before .before .before .before .read-header .ensures) ∙ g .1)
+    ∙ ap₂ (λ (f : Form) (d : Bool). judgedPayload (Good (g .0 .0) (g .0 .1 .0) (g .0 .1 .1 .0) f d) (take (length (a .column .now) - headerSize) (drop headerSize (a .column .now)))) (o .0) (o .1) in
+    let r = c .before .before .strings-in .ensures in
+    (r .0 ∙ sym (ap (λ (x : Decoding). decodedAnswer x (length (a .buffer .now))) e), r .1 ∙ sym (ap (λ (x : Decoding). byteBuffer x (a .buffer .now)) e))
 
 pub decode-strings-spec : {M : Type 1} → statement M
 decode-strings-spec =
@@ -62,7 +64,6 @@ decode-strings-spec =
     (λ c. long (c .before))
     (λ c. let h = long (c .before) in search needs)
     (λ c. search needs)
-    (λ c κs. search needs)
     (λ c κs. search needs)
     returns
     (λ c. search needs)

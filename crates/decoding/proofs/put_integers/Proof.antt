@@ -2,10 +2,10 @@
 use mathlib.Core.Path.{sym, ap, subst, _∙_}
 use mathlib.Core.Bool.{Bool}
 use borrow.Author.Needs.{needs}
-use Rattle.codecs.specs.declared.Form.{Form}
-use Rattle.codecs.specs.declared.Form.the-variants.{Plain, Packed, Runs}
-use Rattle.payloads.specs.Results.{HasResults}
-use Rattle.decoding.specs.Calls.{asNumber, Wrote}
+use Rattle.steps.specs.declared.Form.{Form}
+use Rattle.steps.specs.declared.Form.the-variants.{Plain, Packed, Runs}
+use Rattle.payloads.specs.Results.{HasResults, Wrote}
+use Rattle.decoding.specs.Calls.{asNumber}
 use Rattle.decoding.specs.Laws.Calls.{room-as, wrote-as}
 use Rattle.decoding.proofs.put_integers.Statement.{statement}
 use Rattle.decoding.proofs.put_integers.Tie as tie

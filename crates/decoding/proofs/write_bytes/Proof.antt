@@ -7,9 +7,9 @@ use lib.IntN.{ℤ}
 use mir.Syntax.{w32}
 use mir.Val.{toZ, ofZ}
 use mir.Facts.{toZ-ofZ}
+use Rattle.steps.specs.Payload.{readIn}
 use borrow.Author.Needs.{needs}
 use Rattle.payloads.specs.declared.Item.the-variants.{Run}
-use Rattle.payloads.specs.Items.{readIn}
 use Rattle.payloads.specs.Results.{Filled, HasRoom}
 use Rattle.payloads.specs.Laws.Items.{Gives, item-read}
 use Rattle.payloads.specs.Laws.Writing.{Written, written-start, written-length, written-room, written-run, written-end, written-wrong}

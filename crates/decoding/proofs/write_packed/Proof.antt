@@ -8,11 +8,12 @@ use mir.Syntax.{w32}
 use mir.Val.{toZ, ofZ}
 use mir.Facts.{toZ-ofZ}
 use borrow.Author.Needs.{needs}
-use Rattle.codecs.specs.declared.Form.the-variants.{Packed}
-use Rattle.codecs.specs.Width.{sizeOf}
-use Rattle.codecs.specs.Steps.{turnOf}
-use Rattle.codecs.specs.Laws.Numbers.{size-pos}
-use Rattle.payloads.specs.Results.{advance, HasRoom}
+use Rattle.steps.specs.declared.Form.the-variants.{Packed}
+use Rattle.steps.specs.Width.{sizeOf}
+use Rattle.steps.specs.Steps.{turnOf}
+use Rattle.steps.specs.Laws.Numbers.{size-pos}
+use Rattle.steps.specs.Delta.{advance}
+use Rattle.payloads.specs.Results.{HasRoom}
 use Rattle.payloads.specs.Laws.Packed.{WrittenPacked, packed-written-start, packed-written-length, packed-written-more, packed-written-room, packed-written-done, packed-written-wrong, packed-written-end}
 use Rattle.decoding.specs.Calls.{asNumber}
 use Rattle.decoding.proofs.write_packed.Statement.{statement}

@@ -1,30 +1,19 @@
 -- Four cells that are the run and more (`covered-four`), or the run alone (`covered-filled`).
-use mathlib.Core.Path.{_≡_, refl, sym, _∙_}
-use mathlib.Core.Bool.{Bool, true, false, _&&_}
-use Prim.Native.Nat.{ℕ, _≤_}
+use Prim.Native.Nat.{_≤_}
 use native.Mathlib.Omega.{arith}
 use lib.ListN.{length-set}
 use lib.IntN.{pos}
-use lib.Dec.{leb}
 use mir.Syntax.{w32}
 use mir.Facts.{toZ-ofZ}
 use borrow.Author.Needs.{needs}
-use borrow.Author.Tests.{leb-true}
-use Rattle.payloads.specs.Laws.Runs.{covered-filled, covered-four}
+use Rattle.payloads.specs.Laws.Runs.{covered-filled, short-run, covered-four}
 use Rattle.decoding.specs.Calls.{asNumber}
 use Rattle.decoding.proofs.write_run.Statement.{statement}
 use Rattle.decoding.proofs.write_run.Tie as tie
 
-both-hold : (a b : Bool) → (a && b) ≡ true → (a ≡ true) × (b ≡ true)
-both-hold true true e = (refl, refl)
-both-hold true false e = let y : _≡_ {A = ℕ} 0 1 = cc in absurd (omega arith)
-both-hold false b e = let y : _≡_ {A = ℕ} 0 1 = cc in absurd (omega arith)
-
 -- a run of at most four cells where four are left
 short : (c : tie.Then2) → (c .before .before .before .args .count ≤ 4) × (4 ≤ c .before .before .before .args .left)
-short c =
-    let b = both-hold (leb (c .before .before .before .args .count) 4) (leb 4 (c .before .before .before .args .left)) (sym (c .before .is-short .ensures) ∙ c .if2 .taken) in
-    (leb-true (c .before .before .before .args .count) 4 (b .0), leb-true 4 (c .before .before .before .args .left) (b .1))
+short c = let a = c .before .before .before .args in short-run (a .count) (a .left) (c .before .is-short .result) (c .before .is-short .ensures) (c .if2 .taken)
 
 returns : tie.Need-returns
 returns c =

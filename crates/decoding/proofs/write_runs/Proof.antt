@@ -12,13 +12,12 @@ use mir.Val.{ofZ}
 use mir.Facts.{toZ-ofZ}
 use borrow.Author.Needs.{needs}
 use Rattle.numbers.specs.BigEndian.{signedAt}
-use Rattle.codecs.specs.declared.Range.{Range}
-use Rattle.codecs.specs.declared.Form.the-variants.{Runs}
-use Rattle.payloads.specs.Items.{readIn}
+use Rattle.steps.specs.declared.Range.{Range}
+use Rattle.steps.specs.declared.Form.the-variants.{Runs}
+use Rattle.steps.specs.Payload.{readIn}
 use Rattle.payloads.specs.Results.{HasResults}
 use Rattle.payloads.specs.Laws.Items.{runs-end}
-use Rattle.payloads.specs.Laws.Parts.{part-number}
-use Rattle.payloads.specs.Laws.Runs.{run-here, Begun, begun-start, begun-rest, begun-room, begun-run, begun-end}
+use Rattle.payloads.specs.Laws.Runs.{run-here, Begun, begun-start, begun-rest, begun-room, begun-run, begun-end, part-number}
 use Rattle.decoding.specs.Calls.{asNumber}
 use Rattle.decoding.proofs.write_runs.Statement.{statement}
 use Rattle.decoding.proofs.write_runs.Tie as tie

@@ -5,18 +5,17 @@ use native.Mathlib.Omega.{arith}
 use lib.ListN.{length}
 use lib.IntN.{pos}
 use mir.Syntax.{w16, w32}
-use mir.Val.{toZ, ofZ, SFits}
+use mir.Val.{toZ, ofZ}
 use mir.Facts.{toZ-ofZ}
 use borrow.Author.Needs.{needs}
 use borrow.Author.Tests.{not-true, not-false}
 use Rattle.numbers.specs.BigEndian.{signedAt}
-use Rattle.numbers.specs.Laws.BigEndian.{bytes-of}
-use Rattle.codecs.specs.declared.Size.the-variants.{Two}
-use Rattle.codecs.specs.declared.Form.the-variants.{Packed}
-use Rattle.codecs.specs.Delta.{plusDelta}
-use Rattle.codecs.specs.Packing.{isLimit}
+use Rattle.steps.specs.declared.Size.the-variants.{Two}
+use Rattle.steps.specs.declared.Form.the-variants.{Packed}
+use Rattle.steps.specs.Delta.{plusDelta}
+use Rattle.steps.specs.Packing.{isLimit}
 use Rattle.payloads.specs.Results.{HasRoom}
-use Rattle.payloads.specs.Laws.Totals.{two-fits, WrittenTotal, total-written-start, total-written-length, total-written-more, total-written-room, total-written-done, total-written-end}
+use Rattle.payloads.specs.Laws.Totals.{WrittenTotal, total-written-start, total-written-length, total-written-more, total-written-room, total-written-done, total-written-end}
 use Rattle.decoding.specs.Calls.{asNumber}
 use Rattle.decoding.proofs.write_two.Statement.{statement}
 use Rattle.decoding.proofs.write_two.Tie as tie
@@ -35,9 +34,6 @@ loop-holds c = let a = c .before .args in (omega arith, (λ room. total-written-
 number : (c : tie.After-is-limit Inv-loop μ-loop) → toZ w32 (ofZ w32 (c .before .before .number-at .result)) ≡ signedAt w16 (c .before .before .before .before .before .before .args .payload .now) (c .before .before .before .before .loop .i)
 number c = toZ-ofZ {w = w32} (record { sfits = c .before .before .number-at .ok }) ∙ c .before .before .number-at .ensures
 
-fits : (c : tie.After-is-limit Inv-loop μ-loop) → SFits w16 (signedAt w16 (c .before .before .before .before .before .before .args .payload .now) (c .before .before .before .before .loop .i))
-fits c = two-fits (c .before .before .before .before .before .before .args .payload .now) (c .before .before .before .before .loop .i) (bytes-of (c .before .before .before .before .before .before .args .payload .now) (λ j. omega (arith, c .before .before .before .before .before .shared-slice-known .given j))) (omega arith)
-
 total : (c : tie.After-is-limit Inv-loop μ-loop) → toZ w32 (ofZ w32 (c .before .add-delta .result)) ≡ plusDelta (toZ w32 (c .before .before .before .before .loop .total)) (signedAt w16 (c .before .before .before .before .before .before .args .payload .now) (c .before .before .before .before .loop .i))
 total c = toZ-ofZ {w = w32} (record { sfits = c .before .add-delta .ok }) ∙ c .before .add-delta .ensures ∙ ap (plusDelta (toZ w32 (c .before .before .before .before .loop .total))) (number c)
 
@@ -50,7 +46,7 @@ has-room c =
     let a = c .before .before .before .before .before .before .before in
     let p = c .before .before .before .before .before .loop in
     let w = p .inv .1 (a .pre) in
-    (total-written-room asNumber (a .args .delta) (a .args .payload .now) (a .args .buffer .now) (a .pre) (p .i) (toZ w32 (p .total)) (p .o) (p .buffer) w (omega arith) (fits (c .before)) (toZ w32 (ofZ w32 (c .before .before .add-delta .result))) (total (c .before)) (limit (c .before) ∙ not-true _ (c .if1 .taken)), total-written-length asNumber (a .args .delta) (a .args .payload .now) (a .args .buffer .now) (a .pre) (p .i) (toZ w32 (p .total)) (p .o) (p .buffer) w)
+    (total-written-room asNumber (a .args .delta) (a .args .payload .now) (a .args .buffer .now) (a .pre) (p .i) (toZ w32 (p .total)) (p .o) (p .buffer) w (omega arith) (toZ w32 (ofZ w32 (c .before .before .add-delta .result))) (total (c .before)) (limit (c .before) ∙ not-true _ (c .if1 .taken)), total-written-length asNumber (a .args .delta) (a .args .payload .now) (a .args .buffer .now) (a .pre) (p .i) (toZ w32 (p .total)) (p .o) (p .buffer) w)
 
 loop-again : tie.Need-loop-again Inv-loop μ-loop
 loop-again c =
@@ -59,7 +55,7 @@ loop-again c =
     let o = toZ-ofZ {w = w32} {z = c .before .before .before .add-delta .result} (record { sfits = c .before .before .before .add-delta .ok }) in
     let t = toZ-ofZ {w = w32} (record { sfits = c .total-after .ok }) ∙ c .total-after .ensures in (
       omega arith,
-      (λ room. rw t (total-written-done asNumber (a .args .delta) (a .args .payload .now) (a .args .buffer .now) room (p .i) (toZ w32 (p .total)) (p .o) (p .buffer) (p .inv .1 room) (omega arith) (fits (c .before .before)) (toZ w32 (ofZ w32 (c .before .before .before .add-delta .result))) (total (c .before .before)) (limit (c .before .before) ∙ not-true _ (c .before .if1 .taken))
+      (λ room. rw t (total-written-done asNumber (a .args .delta) (a .args .payload .now) (a .args .buffer .now) room (p .i) (toZ w32 (p .total)) (p .o) (p .buffer) (p .inv .1 room) (omega arith) (toZ w32 (ofZ w32 (c .before .before .before .add-delta .result))) (total (c .before .before)) (limit (c .before .before) ∙ not-true _ (c .before .if1 .taken))
           (rw o (record { sfits = c .before .before .before .add-delta .ok })) (toZ w32 (ofZ w32 (c .before .before .before .add-delta .result))) (pos 0) refl)),
     )
 
@@ -68,7 +64,7 @@ loop-again-2 c =
     let a = c .before .before .before .before .before .before .before in
     let p = c .before .before .before .before .before .loop in (
       omega arith,
-      (λ room. total-written-more asNumber (a .args .delta) (a .args .payload .now) (a .args .buffer .now) room (p .i) (toZ w32 (p .total)) (p .o) (p .buffer) (p .inv .1 room) (omega arith) (fits (c .before)) (toZ w32 (ofZ w32 (c .before .before .add-delta .result))) (total (c .before)) (limit (c .before) ∙ not-false _ (c .if1 .left))),
+      (λ room. total-written-more asNumber (a .args .delta) (a .args .payload .now) (a .args .buffer .now) room (p .i) (toZ w32 (p .total)) (p .o) (p .buffer) (p .inv .1 room) (omega arith) (toZ w32 (ofZ w32 (c .before .before .add-delta .result))) (total (c .before)) (limit (c .before) ∙ not-false _ (c .if1 .left))),
     )
 
 same-length : tie.Need-same-length Inv-loop μ-loop

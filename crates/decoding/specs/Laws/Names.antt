@@ -8,24 +8,24 @@ use native.Mathlib.Omega.{arith}
 use lib.ListN.{length, drop}
 use lib.IntN.{ℤ}
 use Rattle.numbers.specs.BigEndian.{Bytes}
-use Rattle.codecs.specs.declared.Size.the-variants.{One}
-use Rattle.codecs.specs.declared.Form.the-variants.{Names}
-use Rattle.codecs.specs.Numbers.{numbersIn}
-use Rattle.codecs.specs.Payload.{valuesIn, allowed}
-use Rattle.codecs.specs.Laws.Names.{names-length}
-use Rattle.payloads.specs.Held.{heldIn}
+use Rattle.steps.specs.declared.Size.the-variants.{One}
+use Rattle.steps.specs.declared.Range.the-variants.{Ascii}
+use Rattle.steps.specs.declared.Form.the-variants.{Names}
+use Rattle.steps.specs.Numbers.{numbersIn}
+use Rattle.steps.specs.Payload.{allIn, readIn}
+use Rattle.steps.specs.Laws.Names.{names-length}
 use Rattle.decoding.specs.Calls.{asByte}
 use Rattle.decoding.specs.Laws.Signs.{bytes-numbers}
 
--- names that are held are the numbers of their bytes
-pub names-held : (m : ℕ) (s : List ℕ) (l : List ℤ) → heldIn Names m s ≡ some l → l ≡ numbersIn One s
-unfolding heldIn valuesIn
-names-held m s l = by (allowed Names m (numbersIn One s))
+-- names that are read are the numbers of their bytes
+pub names-read : (s : List ℕ) (l : List ℤ) → readIn Names s ≡ some l → l ≡ numbersIn One s
+unfolding readIn
+names-read s l = by (allIn Ascii (numbersIn One s))
   where
     by : (t : Bool) → cond t (some (numbersIn One s)) none ≡ some l → l ≡ numbersIn One s
     by true e = cc
     by false e = let y : _≡_ {A = ℕ} 0 1 = cc in absurd (omega arith)
 
--- and as bytes they are the payload
+-- names as bytes are the payload
 pub names-bytes : (s old new : List ℕ) → Bytes s → new ≡ s ++ drop (length s) old → new ≡ map asByte (numbersIn One s) ++ drop (length (numbersIn One s)) old
 names-bytes s old new b w = w ∙ ap₂ (λ (x : List ℕ) (n : ℕ). x ++ drop n old) (sym (bytes-numbers s b)) (sym (names-length s))

@@ -11,9 +11,9 @@ use mir.Val.{toZ}
 use mir.Facts.{toZ-pos}
 use borrow.Author.Tests.{ltb-true, ltb-false}
 use Rattle.numbers.specs.BigEndian.{Bytes}
-use Rattle.codecs.specs.declared.Size.the-variants.{One}
-use Rattle.codecs.specs.Numbers.{numbersIn}
-use Rattle.codecs.specs.Laws.Names.{numbers-bytes, high-byte}
+use Rattle.steps.specs.declared.Size.the-variants.{One}
+use Rattle.steps.specs.Numbers.{numbersIn}
+use Rattle.steps.specs.Laws.Names.{numbers-bytes, high-byte}
 use Rattle.decoding.specs.Calls.{asByte}
 
 -- a byte is the lowest byte of its number

@@ -1,6 +1,6 @@
 -- A refused plan, or the runs placed and finished with the header: letters have no other form.
-use mathlib.Core.Path.{_≡_, refl, sym, ap, ap₂, _∙_}
-use mathlib.Core.Bool.{Bool, false}
+use mathlib.Core.Path.{_≡_, refl, sym, ap, _∙_}
+use mathlib.Core.Bool.{false}
 use mathlib.Core.List.{map}
 use lib.ListN.{length, length-map}
 use lib.IntN.{pos}
@@ -8,16 +8,13 @@ use mir.Syntax.{w32}
 use mir.Val.{ofZ}
 use mir.Facts.{toZ-ofZ}
 use borrow.Author.Needs.{needs}
-use Rattle.codecs.specs.declared.Range.the-variants.{Ascii}
-use Rattle.codecs.specs.declared.Form.{Form}
-use Rattle.codecs.specs.declared.Form.the-variants.{Runs}
-use Rattle.codecs.specs.Payload.{allowed}
+use Rattle.steps.specs.declared.Range.the-variants.{Ascii}
+use Rattle.steps.specs.declared.Form.the-variants.{Runs}
 use Rattle.columns.specs.declared.Kind.the-variants.{Chars}
 use Rattle.columns.specs.declared.Wanted.the-variants.{Only}
-use Rattle.columns.specs.Encode.{payloadOf}
-use Rattle.encoding.specs.declared.Plan.the-variants.{Good}
-use Rattle.encoding.specs.Plan.{planOf}
-use Rattle.encoding.specs.Laws.Plan.{row}
+use Rattle.columns.specs.declared.Plan.the-variants.{Good}
+use Rattle.columns.specs.Encode.{planOf}
+use Rattle.encoding.specs.Laws.Plan.{row, one-form}
 use Rattle.encoding.specs.Laws.Calls.{refused-answer, good-holds, good-answer}
 use Rattle.encoding.proofs.encode_chars.Statement.{statement}
 use Rattle.encoding.proofs.encode_chars.Tie as tie
@@ -32,7 +29,7 @@ row-is c = row Chars (c .before .before .before .to-u32 .result) 0 (length (map 
 finish-requires : tie.Need-finish-requires
 finish-requires c κs =
     let a = c .before .before .before .before .before .before .before .before .before .before .before .before .args in
-    good-holds (Only Chars) (map pos (a .values .now)) (a .buffer .now) (c .before .before .before .before .before .before .before .before .before .to-u32 .ensures ∙ ap (ofZ w32) (toZ-ofZ {w = w32} (c .before .before .before .before .before .before .before .before .before .before .before .before .fits .codec))) refl (good (c .before .before .before .before .before .before)) (ap (λ (g : Form). allowed g 0 (map pos (a .values .now))) (sym (row-is (c .before .before .before .before .before .before) .0))) (ap₂ (λ (g : Form) (e : Bool). payloadOf g e (map pos (a .values .now))) (sym (row-is (c .before .before .before .before .before .before) .0)) (sym (row-is (c .before .before .before .before .before .before) .1))) (c .before .before .before .place-chars .ensures .0) (c .before .before .before .place-chars .ensures .1)
+    good-holds (Only Chars) (map pos (a .values .now)) (a .buffer .now) (c .before .before .before .before .before .before .before .before .before .to-u32 .ensures ∙ ap (ofZ w32) (toZ-ofZ {w = w32} (c .before .before .before .before .before .before .before .before .before .before .before .before .fits .codec))) refl (good (c .before .before .before .before .before .before)) (one-form _ _ (row-is (c .before .before .before .before .before .before))) (c .before .before .before .place-chars .ensures .0) (c .before .before .before .place-chars .ensures .1)
 
 returns : tie.Need-returns
 returns c =
@@ -42,7 +39,7 @@ returns c =
 returns-2 : tie.Need-returns-2
 returns-2 c =
     let a = c .before .before .before .before .before .before .before .before .before .before .before .before .before .before .before .args in
-    good-answer (Only Chars) (map pos (a .values .now)) (a .buffer .now) (c .before .before .before .before .before .before .before .before .before .before .before .before .to-u32 .ensures ∙ ap (ofZ w32) (toZ-ofZ {w = w32} (c .before .before .before .before .before .before .before .before .before .before .before .before .before .before .before .fits .codec))) refl (good (c .before .before .before .before .before .before .before .before .before)) (ap (λ (g : Form). allowed g 0 (map pos (a .values .now))) (sym (row-is (c .before .before .before .before .before .before .before .before .before) .0))) (ap₂ (λ (g : Form) (e : Bool). payloadOf g e (map pos (a .values .now))) (sym (row-is (c .before .before .before .before .before .before .before .before .before) .0)) (sym (row-is (c .before .before .before .before .before .before .before .before .before) .1))) (c .before .before .before .before .before .before .place-chars .ensures .0) (c .before .before .before .before .before .before .place-chars .ensures .1) (c .before .before .finish .ensures .0) (c .before .before .finish .ensures .1)
+    good-answer (Only Chars) (map pos (a .values .now)) (a .buffer .now) (c .before .before .before .before .before .before .before .before .before .before .before .before .to-u32 .ensures ∙ ap (ofZ w32) (toZ-ofZ {w = w32} (c .before .before .before .before .before .before .before .before .before .before .before .before .before .before .before .fits .codec))) refl (good (c .before .before .before .before .before .before .before .before .before)) (one-form _ _ (row-is (c .before .before .before .before .before .before .before .before .before))) (c .before .before .before .before .before .before .place-chars .ensures .0) (c .before .before .before .before .before .before .place-chars .ensures .1) (c .before .before .finish .ensures .0) (c .before .before .finish .ensures .1)
 
 pub encode-chars-spec : {M : Type 1} → statement M
 encode-chars-spec =

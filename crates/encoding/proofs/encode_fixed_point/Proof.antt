@@ -9,7 +9,7 @@ use borrow.Author.Needs.{needs}
 use Rattle.columns.specs.declared.Kind.the-variants.{FixedPoint}
 use Rattle.columns.specs.declared.Wanted.the-variants.{Only}
 use Rattle.columns.specs.Encode.{Encoding, encode}
-use Rattle.encoding.specs.Calls.{told, left}
+use Rattle.encoding.specs.Calls.{encodedAnswer, encodedBuffer}
 use Rattle.encoding.proofs.encode_fixed_point.Statement.{statement}
 use Rattle.encoding.proofs.encode_fixed_point.Tie as tie
 
@@ -19,7 +19,7 @@ returns c =
     let u = c .before .before .before .before .to-u32 .ensures ∙ ap (ofZ w32) (toZ-ofZ {w = w32} (a .fits .divisor)) in
     let e = ap (ofZ w32) (toZ-ofZ {w = w32} (a .fits .codec)) in
     let x = ap₂ (λ (i j : ℕ). encode (Only FixedPoint) i j (a .args .values .now)) e u in
-    (c .before .before .encode-numbers .ensures .0 ∙ ap (λ (t : Encoding). told t (length (a .args .buffer .now))) x, c .before .before .encode-numbers .ensures .1 ∙ ap (λ (t : Encoding). left t (a .args .buffer .now)) x)
+    (c .before .before .encode-numbers .ensures .0 ∙ ap (λ (t : Encoding). encodedAnswer t (length (a .args .buffer .now))) x, c .before .before .encode-numbers .ensures .1 ∙ ap (λ (t : Encoding). encodedBuffer t (a .args .buffer .now)) x)
 
 pub encode-fixed-point-spec : {M : Type 1} → statement M
 encode-fixed-point-spec =

@@ -6,8 +6,9 @@ use mir.Val.{ofZ}
 use mir.Facts.{toZ-ofZ}
 use borrow.Author.Needs.{needs}
 use Rattle.columns.specs.declared.Wanted.the-variants.{Only}
-use Rattle.encoding.specs.declared.Plan.the-variants.{Good}
-use Rattle.encoding.specs.Plan.{planOf, NumberForm}
+use Rattle.columns.specs.declared.Plan.the-variants.{Good}
+use Rattle.columns.specs.Encode.{planOf}
+use Rattle.encoding.specs.Steps.{NumberForm}
 use Rattle.encoding.specs.Laws.Plan.{row, number-row, number-allowed}
 use Rattle.encoding.specs.Laws.Calls.{refused-answer, good-holds, good-answer}
 use Rattle.encoding.proofs.encode_numbers.Statement.{statement}
@@ -23,7 +24,7 @@ finish-requires : tie.Need-finish-requires
 finish-requires c κs =
     let a = c .before .before .before .before .before .before .before .before .before .before .before .args in
     let k = c .before .before .before .before .before .before .form .given .0 in
-    good-holds (Only (a .kind)) (a .values .now) (a .buffer .now) (c .before .before .before .before .before .before .before .before .before .to-u32 .ensures ∙ ap (ofZ w32) (toZ-ofZ {w = w32} (c .before .before .before .before .before .before .before .before .before .before .before .fits .codec))) refl (good (c .before .before .before .before .before .before)) (number-allowed (k .0) (k .1 .0) (a .parameter) (a .values .now) (number (c .before .before .before .before .before .before))) refl (c .before .before .before .place .ensures .0) (c .before .before .before .place .ensures .1)
+    good-holds (Only (a .kind)) (a .values .now) (a .buffer .now) (c .before .before .before .before .before .before .before .before .before .to-u32 .ensures ∙ ap (ofZ w32) (toZ-ofZ {w = w32} (c .before .before .before .before .before .before .before .before .before .before .before .fits .codec))) refl (good (c .before .before .before .before .before .before)) (number-allowed (k .0) (k .1 .0) (a .parameter) (a .values .now) (number (c .before .before .before .before .before .before)), refl) (c .before .before .before .place .ensures .0) (c .before .before .before .place .ensures .1)
 
 returns : tie.Need-returns
 returns c =
@@ -34,7 +35,7 @@ returns-2 : tie.Need-returns-2
 returns-2 c =
     let a = c .before .before .before .before .before .before .before .before .before .before .before .before .before .before .args in
     let k = c .before .before .before .before .before .before .before .before .before .form .given .0 in
-    good-answer (Only (a .kind)) (a .values .now) (a .buffer .now) (c .before .before .before .before .before .before .before .before .before .before .before .before .to-u32 .ensures ∙ ap (ofZ w32) (toZ-ofZ {w = w32} (c .before .before .before .before .before .before .before .before .before .before .before .before .before .before .fits .codec))) refl (good (c .before .before .before .before .before .before .before .before .before)) (number-allowed (k .0) (k .1 .0) (a .parameter) (a .values .now) (number (c .before .before .before .before .before .before .before .before .before))) refl (c .before .before .before .before .before .before .place .ensures .0) (c .before .before .before .before .before .before .place .ensures .1) (c .before .before .finish .ensures .0) (c .before .before .finish .ensures .1)
+    good-answer (Only (a .kind)) (a .values .now) (a .buffer .now) (c .before .before .before .before .before .before .before .before .before .before .before .before .to-u32 .ensures ∙ ap (ofZ w32) (toZ-ofZ {w = w32} (c .before .before .before .before .before .before .before .before .before .before .before .before .before .before .fits .codec))) refl (good (c .before .before .before .before .before .before .before .before .before)) (number-allowed (k .0) (k .1 .0) (a .parameter) (a .values .now) (number (c .before .before .before .before .before .before .before .before .before)), refl) (c .before .before .before .before .before .before .place .ensures .0) (c .before .before .before .before .before .before .place .ensures .1) (c .before .before .finish .ensures .0) (c .before .before .finish .ensures .1)
 
 pub encode-numbers-spec : {M : Type 1} → statement M
 encode-numbers-spec =

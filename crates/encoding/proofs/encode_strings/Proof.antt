@@ -1,6 +1,6 @@
 -- A refused plan, or the names placed and finished with the header.
-use mathlib.Core.Path.{_≡_, sym, ap, ap₂, _∙_}
-use mathlib.Core.Bool.{Bool, false}
+use mathlib.Core.Path.{_≡_, sym, ap, _∙_}
+use mathlib.Core.Bool.{false}
 use mathlib.Core.List.{map}
 use lib.ListN.{length, length-map}
 use lib.IntN.{pos}
@@ -8,15 +8,12 @@ use mir.Syntax.{w32}
 use mir.Val.{ofZ}
 use mir.Facts.{toZ-ofZ}
 use borrow.Author.Needs.{needs}
-use Rattle.codecs.specs.declared.Form.{Form}
-use Rattle.codecs.specs.declared.Form.the-variants.{Names}
-use Rattle.codecs.specs.Payload.{allowed}
+use Rattle.steps.specs.declared.Form.the-variants.{Names}
 use Rattle.columns.specs.declared.Kind.the-variants.{Strings}
 use Rattle.columns.specs.declared.Wanted.the-variants.{Only}
-use Rattle.columns.specs.Encode.{payloadOf}
-use Rattle.encoding.specs.declared.Plan.the-variants.{Good}
-use Rattle.encoding.specs.Plan.{planOf}
-use Rattle.encoding.specs.Laws.Plan.{row}
+use Rattle.columns.specs.declared.Plan.the-variants.{Good}
+use Rattle.columns.specs.Encode.{planOf}
+use Rattle.encoding.specs.Laws.Plan.{row, one-form}
 use Rattle.encoding.specs.Laws.Calls.{refused-answer, good-holds, good-answer}
 use Rattle.encoding.proofs.encode_strings.Statement.{statement}
 use Rattle.encoding.proofs.encode_strings.Tie as tie
@@ -31,7 +28,7 @@ row-is c = row Strings (c .before .before .before .before .to-u32 .result) (c .b
 finish-requires : tie.Need-finish-requires
 finish-requires c κs =
     let a = c .before .before .before .before .before .before .before .before .before .before .before .before .before .args in
-    good-holds (Only Strings) (map pos (a .names .now)) (a .buffer .now) (c .before .before .before .before .before .before .before .before .before .before .to-u32 .ensures ∙ ap (ofZ w32) (toZ-ofZ {w = w32} (c .before .before .before .before .before .before .before .before .before .before .before .before .before .fits .codec))) (c .before .before .before .before .before .before .before .before .before .to-u322 .ensures ∙ ap (ofZ w32) (toZ-ofZ {w = w32} (c .before .before .before .before .before .before .before .before .before .before .before .before .before .fits .size))) (good (c .before .before .before .before .before .before)) (ap (λ (g : Form). allowed g (c .before .before .before .before .before .before .before .before .before .to-u322 .result) (map pos (a .names .now))) (sym (row-is (c .before .before .before .before .before .before) .0))) (ap₂ (λ (g : Form) (e : Bool). payloadOf g e (map pos (a .names .now))) (sym (row-is (c .before .before .before .before .before .before) .0)) (sym (row-is (c .before .before .before .before .before .before) .1))) (c .before .before .before .place-names .ensures .0) (c .before .before .before .place-names .ensures .1)
+    good-holds (Only Strings) (map pos (a .names .now)) (a .buffer .now) (c .before .before .before .before .before .before .before .before .before .before .to-u32 .ensures ∙ ap (ofZ w32) (toZ-ofZ {w = w32} (c .before .before .before .before .before .before .before .before .before .before .before .before .before .fits .codec))) (c .before .before .before .before .before .before .before .before .before .to-u322 .ensures ∙ ap (ofZ w32) (toZ-ofZ {w = w32} (c .before .before .before .before .before .before .before .before .before .before .before .before .before .fits .size))) (good (c .before .before .before .before .before .before)) (one-form _ _ (row-is (c .before .before .before .before .before .before))) (c .before .before .before .place-names .ensures .0) (c .before .before .before .place-names .ensures .1)
 
 returns : tie.Need-returns
 returns c =
@@ -41,7 +38,7 @@ returns c =
 returns-2 : tie.Need-returns-2
 returns-2 c =
     let a = c .before .before .before .before .before .before .before .before .before .before .before .before .before .before .before .before .args in
-    good-answer (Only Strings) (map pos (a .names .now)) (a .buffer .now) (c .before .before .before .before .before .before .before .before .before .before .before .before .before .to-u32 .ensures ∙ ap (ofZ w32) (toZ-ofZ {w = w32} (c .before .before .before .before .before .before .before .before .before .before .before .before .before .before .before .before .fits .codec))) (c .before .before .before .before .before .before .before .before .before .before .before .before .to-u322 .ensures ∙ ap (ofZ w32) (toZ-ofZ {w = w32} (c .before .before .before .before .before .before .before .before .before .before .before .before .before .before .before .before .fits .size))) (good (c .before .before .before .before .before .before .before .before .before)) (ap (λ (g : Form). allowed g (c .before .before .before .before .before .before .before .before .before .before .before .before .to-u322 .result) (map pos (a .names .now))) (sym (row-is (c .before .before .before .before .before .before .before .before .before) .0))) (ap₂ (λ (g : Form) (e : Bool). payloadOf g e (map pos (a .names .now))) (sym (row-is (c .before .before .before .before .before .before .before .before .before) .0)) (sym (row-is (c .before .before .before .before .before .before .before .before .before) .1))) (c .before .before .before .before .before .before .place-names .ensures .0) (c .before .before .before .before .before .before .place-names .ensures .1) (c .before .before .finish .ensures .0) (c .before .before .finish .ensures .1)
+    good-answer (Only Strings) (map pos (a .names .now)) (a .buffer .now) (c .before .before .before .before .before .before .before .before .before .before .before .before .before .to-u32 .ensures ∙ ap (ofZ w32) (toZ-ofZ {w = w32} (c .before .before .before .before .before .before .before .before .before .before .before .before .before .before .before .before .fits .codec))) (c .before .before .before .before .before .before .before .before .before .before .before .before .to-u322 .ensures ∙ ap (ofZ w32) (toZ-ofZ {w = w32} (c .before .before .before .before .before .before .before .before .before .before .before .before .before .before .before .before .fits .size))) (good (c .before .before .before .before .before .before .before .before .before)) (one-form _ _ (row-is (c .before .before .before .before .before .before .before .before .before))) (c .before .before .before .before .before .before .place-names .ensures .0) (c .before .before .before .before .before .before .place-names .ensures .1) (c .before .before .finish .ensures .0) (c .before .before .finish .ensures .1)
 
 pub encode-strings-spec : {M : Type 1} → statement M
 encode-strings-spec =

@@ -6,8 +6,7 @@ use borrow.Author.Needs.{needs}
 use borrow.Author.Tests.{not-true, not-false}
 use Rattle.columns.specs.declared.Codec.the-variants.{Known}
 use Rattle.columns.specs.Table.{codecOf}
-use Rattle.encoding.specs.declared.Plan.the-variants.{Good}
-use Rattle.encoding.specs.Calls.{left}
+use Rattle.columns.specs.declared.Plan.the-variants.{Good}
 use Rattle.encoding.specs.Laws.Plan.{plan-unknown, plan-unwanted, plan-parameter, plan-part, plan-long, plan-good}
 use Rattle.encoding.proofs.make_plan.Statement.{statement}
 use Rattle.encoding.proofs.make_plan.Tie as tie

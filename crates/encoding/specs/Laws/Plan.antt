@@ -1,19 +1,16 @@
--- Laws of an encoder's plan: its refusals in their order, that it makes the encoding, and which forms each kind has. Assumes nothing.
-use mathlib.Core.Path.{_≡_, refl, sym, ap, subst, _∙_}
-use mathlib.Core.Bool.{Bool, true, false, cond, _&&_}
-use mathlib.Core.List.{List, [], _∷_}
-use Prim.Native.Nat.{ℕ, zero, suc, _<_, _≤_}
-use native.Mathlib.Omega.{arith}
-use lib.ListN.{length, getD}
+-- Laws of an encoder's plan: its refusals in their order, and which forms each kind has. Assumes nothing.
+use mathlib.Core.Path.{_≡_, refl, sym, ap, ap₂, subst, _∙_}
+use mathlib.Core.Bool.{Bool, true, false}
+use mathlib.Core.List.{List}
+use Prim.Native.Nat.{ℕ, _<_, _≤_}
 use lib.IntN.{ℤ}
-use lib.Dec.{eqb, leb}
 use borrow.Author.Tests.{le-leb, lt-leb}
 use Rattle.refusal.specs.Table.{codecUnknown, headerRange}
-use Rattle.codecs.specs.declared.Size.the-variants.{Four}
-use Rattle.codecs.specs.declared.Range.the-variants.{Ascii}
-use Rattle.codecs.specs.declared.Form.{Form}
-use Rattle.codecs.specs.declared.Form.the-variants.{Plain, Packed, Runs, Names}
-use Rattle.codecs.specs.Payload.{allowed}
+use Rattle.steps.specs.declared.Size.the-variants.{Four}
+use Rattle.steps.specs.declared.Range.the-variants.{Ascii}
+use Rattle.steps.specs.declared.Form.{Form}
+use Rattle.steps.specs.declared.Form.the-variants.{Plain, Packed, Runs, Names}
+use Rattle.steps.specs.Payload.{allowed}
 use Rattle.columns.specs.declared.Kind.{Kind}
 use Rattle.columns.specs.declared.Kind.the-variants as kind
 use Rattle.columns.specs.declared.Wanted.{Wanted}
@@ -21,11 +18,13 @@ use Rattle.columns.specs.declared.Wanted.the-variants.{Only}
 use Rattle.columns.specs.declared.Parameter.{Parameter}
 use Rattle.columns.specs.declared.Codec.{Codec}
 use Rattle.columns.specs.declared.Codec.the-variants.{Known, Unknown}
-use Rattle.columns.specs.Table.{table, codecOf, kindNumber, suits, lengthLimit, parameterOk, used}
-use Rattle.columns.specs.Encode.{results, wholeResults, encodedBy, encode}
+use Rattle.columns.specs.Table.{table, codecOf, suits, lengthLimit, parameterOk, used}
+use Rattle.columns.specs.declared.Plan.the-variants.{Good, Refused}
+use Rattle.columns.specs.Encode.{results, wholeResults, payloadOf, planBy, planOf}
+use Rattle.columns.specs.Laws.Encode.{plan-rules}
 use Rattle.columns.specs.Laws.Rows.{same-kind}
-use Rattle.encoding.specs.declared.Plan.the-variants.{Good, Refused}
-use Rattle.encoding.specs.Plan.{planBy, planOf, onPlan, NumberKind, NumberForm}
+use Rattle.columns.specs.Laws.CanHold.{Rows, row-at}
+use Rattle.encoding.specs.Steps.{NumberKind, NumberForm}
 
 -- The refusals
 
@@ -54,20 +53,6 @@ module _ {k : Kind} {f : Form} {d : Bool} {p : Parameter} (w : Wanted) (c m e : 
   unfolding planOf
   plan-good a b h l = ap (planBy w m e) q ∙ rw (a, b, h, le-leb (results f m e) lengthLimit l)
 
--- The encoding
-
-cond-ap : {A B : Type 0} (g : A → B) (t : Bool) (x y : A) → g (cond t x y) ≡ cond t (g x) (g y)
-cond-ap g true x y = refl
-cond-ap g false x y = refl
-
-pub planned : (w : Wanted) (c m : ℕ) (xs : List ℤ) → encode w c m xs ≡ onPlan c m xs (planOf w c m (length xs))
-unfolding encode planOf
-planned w c m xs = by (codecOf c)
-  where
-    by : (t : Codec) → encodedBy w c t m xs ≡ onPlan c m xs (planBy w m (length xs) t)
-    by Unknown = refl
-    by (Known k f d p) = sym (cond-ap (onPlan c m xs) (suits w k) _ _ ∙ rw (cond-ap (onPlan c m xs) (parameterOk p m && (wholeResults f m (length xs) && leb (results f m (length xs)) lengthLimit)) (Good f d (results f m (length xs)) (used p m)) (Refused headerRange)))
-
 -- The forms of each kind
 
 -- floats, names and letters have a form of their own
@@ -84,39 +69,14 @@ abbrev RowOf : Codec → Type 0
 RowOf Unknown = Unit {0}
 RowOf (Known k f d p) = Row k f d
 
-abbrev Rows : List Codec → Type 0
-Rows [] = Unit {0}
-Rows (t ∷ ts) = RowOf t × Rows ts
-
-row-at : (ts : List Codec) (i : ℕ) → Rows ts → RowOf (getD ts i Unknown)
-row-at [] i r = tt
-row-at (t ∷ ts) zero r = r .0
-row-at (t ∷ ts) (suc i) r = row-at ts i (r .1)
-
-rows : Rows table
+rows : Rows (λ (i : ℕ). RowOf) table
 rows = (tt, ((refl, refl), (refl, (refl, (refl, ((refl, refl), ((refl, refl), (tt, (tt, (tt, (tt, (refl, (tt, (tt, (tt, (tt, (tt, tt)))))))))))))))))
 
 pub row : {f : Form} {d : Bool} {n v : ℕ} (k : Kind) (c m e : ℕ) → planOf (Only k) c m e ≡ Good f d n v → Row k f d
-unfolding planOf codecOf
-row {f} {d} {n} {v} k c m e q = by (codecOf c) (row-at table c rows) q
-  where
-    refuses : {A : Type 0} (r : ℕ) → Refused r ≡ Good f d n v → A
-    refuses r z = let y : _≡_ {A = ℕ} 0 1 = cc in absurd (omega arith)
-
-    by-rules : (t : Bool) (j : Kind) (g : Form) (b : Bool) (x y : ℕ) → k ≡ j → Row j g b → cond t (Good g b x y) (Refused headerRange) ≡ Good f d n v → Row k f d
-    by-rules true j g b x y s r z =
-        let eg : g ≡ f = cc in
-        let eb : b ≡ d = cc in
-        subst (λ (i : Kind). Row i f d) (sym s) (subst (λ (u : Form). Row j u d) eg (subst (λ (u : Bool). Row j g u) eb r))
-    by-rules false j g b x y s r z = refuses headerRange z
-
-    by-kind : (t : Bool) (j : Kind) (g : Form) (b : Bool) (x y : ℕ) (h : Bool) → eqb (kindNumber k) (kindNumber j) ≡ t → Row j g b → cond t (cond h (Good g b x y) (Refused headerRange)) (Refused codecUnknown) ≡ Good f d n v → Row k f d
-    by-kind true j g b x y h s r z = by-rules h j g b x y (same-kind k j s) r z
-    by-kind false j g b x y h s r z = refuses codecUnknown z
-
-    by : (t : Codec) → RowOf t → planBy (Only k) m e t ≡ Good f d n v → Row k f d
-    by Unknown r z = refuses codecUnknown z
-    by (Known j g b p) r z = by-kind (eqb (kindNumber k) (kindNumber j)) j g b (results g m e) (used p m) (parameterOk p m && (wholeResults g m e && leb (results g m e) lengthLimit)) refl r z
+unfolding codecOf
+row {f} {d} k c m e q =
+    let r = plan-rules (Only k) c m e q in
+    subst (λ (i : Kind). Row i f d) (sym (same-kind k (r .kind) (r .suited))) (subst RowOf (r .known) (row-at (λ (i : ℕ). RowOf) table rows (λ i. tt) c))
 
 -- a number's kind has a number's form
 pub number-row : (f : Form) (d : Bool) (k : Kind) → NumberKind k → Row k f d → NumberForm f d
@@ -134,3 +94,7 @@ number-allowed (Plain z) d m xs h = refl
 number-allowed (Packed z) d m xs h = refl
 number-allowed (Runs r) d m xs h = refl
 number-allowed Names d m xs h = absurd h
+
+-- floats, names and characters are placed in the one form that their kind has
+pub one-form : {f f₀ : Form} {d d₀ : Bool} (m : ℕ) (xs : List ℤ) → (f ≡ f₀) × (d ≡ d₀) → (allowed f₀ m xs ≡ allowed f m xs) × (payloadOf f₀ d₀ xs ≡ payloadOf f d xs)
+one-form m xs r = (ap (λ (g : Form). allowed g m xs) (sym (r .0)), ap₂ (λ (g : Form) (b : Bool). payloadOf g b xs) (sym (r .0)) (sym (r .1)))

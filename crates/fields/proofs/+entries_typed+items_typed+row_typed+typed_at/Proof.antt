@@ -32,7 +32,7 @@ use Rattle.fields.proofs.typed_at.Kinds as typed-at-kinds
 use Rattle.fields.proofs.+entries_typed+items_typed+row_typed+typed_at.Lts-typed_at as typed-at-lts
 use Rattle.fields.proofs.all_seen.Reads as all-seen-reads
 use Rattle.fields.proofs.cell.Reads as cell-reads
-use Rattle.fields.proofs.kind_number.Reads as kind-number-reads
+use Rattle.fields.proofs.head_kind.Reads as head-kind-reads
 use Rattle.fields.proofs.mark.Reads as mark-reads
 use Rattle.fields.proofs.row_of.Reads as row-of-reads
 use Rattle.fields.proofs.simple_at.Reads as simple-at-reads
@@ -89,7 +89,7 @@ abbrev row-typed-claims : ℕ → row-typed-lts.Claims
 row-typed-claims t = (cell-reads.Asked, cell-reads.Learnt, typed-at-below t, typed-at.Post, skip-reads.Asked, skip-reads.Learnt)
 
 abbrev typed-at-claims : ℕ → typed-at-lts.Claims
-typed-at-claims t = (cell-reads.Asked, cell-reads.Learnt, simple-at-reads.Asked, simple-at-reads.Learnt, head-at-reads.Asked, head-at-reads.Learnt, kind-at-reads.Asked, kind-at-reads.Learnt, kind-number-reads.Asked, kind-number-reads.Learnt, items-typed-below t, items-typed.Post, entries-typed-below t, entries-typed.Post)
+typed-at-claims t = (cell-reads.Asked, cell-reads.Learnt, simple-at-reads.Asked, simple-at-reads.Learnt, head-at-reads.Asked, head-at-reads.Learnt, kind-at-reads.Asked, kind-at-reads.Learnt, head-kind-reads.Asked, head-kind-reads.Learnt, items-typed-below t, items-typed.Post, entries-typed-below t, entries-typed.Post)
 
 abbrev entries-typed-Inv-loop : entries-typed-lts.InvT-loop
 entries-typed-Inv-loop leads file types count at first n depth seen₀ left₀ p₀ seen left p =
@@ -214,7 +214,7 @@ typed-at-returns-4 t c =
 typed-at-returns-5 : (t : ℕ) → typed-at-lts.Need-returns-5 (typed-at-claims t) (typed-at-at t) typed-at.Post
 typed-at-returns-5 t c =
     let a = c .before .before .before .before .before .before .before .before .before .before .before .before .before .before .before .args in
-    value-as (typeOf (a .depth) (a .code)) (arrayOf (typeOf (a .depth - 1) (c .before .before .before .before .before .before .before .before .before .cell3 .result))) (type-read (a .depth) (a .code) (pos-of-ne-zero (c .before .before .before .before .before .before .before .before .before .before .before .before .before .if1 .left)) (c .before .before .before .before .before .before .before .before .before .before .before .before .if2 .left) (c .before .before .before .before .before .before .before .before .before .before .before .cell .ensures .0) (c .before .before .before .before .before .before .before .before .before .before .cell2 .ensures .0) (c .before .before .before .before .before .before .before .before .before .cell3 .ensures .0) ∙ ap (λ (t : ℕ). build (typeOf (a .depth - 1)) t (c .before .before .before .before .before .before .before .before .before .before .cell2 .result % 64) (c .before .before .before .before .before .before .before .before .before .cell3 .result)) (c .before .if4 .taken)) (arrayOf-wrong (head-read (a .leads .now) (a .file .now) (a .at) (c .before .before .before .before .before .before .before .head-at .ensures .1) (c .before .before .before .before .before .n .given .1) (c .before .before .before .kind-at .ensures .1) (c .before .before .kind-number .ensures)) (typeOf (a .depth - 1) (c .before .before .before .before .before .before .before .before .before .cell3 .result)) (c .if5 .taken))
+    value-as (typeOf (a .depth) (a .code)) (arrayOf (typeOf (a .depth - 1) (c .before .before .before .before .before .before .before .before .before .cell3 .result))) (type-read (a .depth) (a .code) (pos-of-ne-zero (c .before .before .before .before .before .before .before .before .before .before .before .before .before .if1 .left)) (c .before .before .before .before .before .before .before .before .before .before .before .before .if2 .left) (c .before .before .before .before .before .before .before .before .before .before .before .cell .ensures .0) (c .before .before .before .before .before .before .before .before .before .before .cell2 .ensures .0) (c .before .before .before .before .before .before .before .before .before .cell3 .ensures .0) ∙ ap (λ (t : ℕ). build (typeOf (a .depth - 1)) t (c .before .before .before .before .before .before .before .before .before .before .cell2 .result % 64) (c .before .before .before .before .before .before .before .before .before .cell3 .result)) (c .before .if4 .taken)) (arrayOf-wrong (head-read (a .leads .now) (a .file .now) (a .at) (c .before .before .before .before .before .before .before .head-at .ensures .1) (c .before .before .before .before .before .n .given .1) (c .before .before .before .kind-at .ensures .1) (c .before .before .head-kind .ensures)) (typeOf (a .depth - 1) (c .before .before .before .before .before .before .before .before .before .cell3 .result)) (c .if5 .taken))
 
 typed-at-items-typed-requires : (t : ℕ) → typed-at-lts.Need-items-typed-requires (typed-at-claims t) (typed-at-at t) typed-at.Post
 typed-at-items-typed-requires t c κs = (search needs, c .before .before .before .before .before .before .before .before .before .before .before .before .before .before .before .pre .1)
@@ -222,13 +222,13 @@ typed-at-items-typed-requires t c κs = (search needs, c .before .before .before
 typed-at-returns-6 : (t : ℕ) → typed-at-lts.Need-returns-6 (typed-at-claims t) (typed-at-at t) typed-at.Post
 typed-at-returns-6 t c =
     let a = c .before .before .before .before .before .before .before .before .before .before .before .before .before .before .before .before .args in
-    value-as (typeOf (a .depth) (a .code)) (arrayOf (typeOf (a .depth - 1) (c .before .before .before .before .before .before .before .before .before .before .cell3 .result))) (type-read (a .depth) (a .code) (pos-of-ne-zero (c .before .before .before .before .before .before .before .before .before .before .before .before .before .before .if1 .left)) (c .before .before .before .before .before .before .before .before .before .before .before .before .before .if2 .left) (c .before .before .before .before .before .before .before .before .before .before .before .before .cell .ensures .0) (c .before .before .before .before .before .before .before .before .before .before .before .cell2 .ensures .0) (c .before .before .before .before .before .before .before .before .before .before .cell3 .ensures .0) ∙ ap (λ (t : ℕ). build (typeOf (a .depth - 1)) t (c .before .before .before .before .before .before .before .before .before .before .before .cell2 .result % 64) (c .before .before .before .before .before .before .before .before .before .before .cell3 .result)) (c .before .before .if4 .taken)) (arrayOf-says (head-read (a .leads .now) (a .file .now) (a .at) (c .before .before .before .before .before .before .before .before .head-at .ensures .1) (c .before .before .before .before .before .before .n .given .1) (c .before .before .before .before .kind-at .ensures .1) (c .before .before .before .kind-number .ensures)) (typeOf (a .depth - 1) (c .before .before .before .before .before .before .before .before .before .before .cell3 .result)) (c .before .if5 .left) (c .items-typed .ensures))
+    value-as (typeOf (a .depth) (a .code)) (arrayOf (typeOf (a .depth - 1) (c .before .before .before .before .before .before .before .before .before .before .cell3 .result))) (type-read (a .depth) (a .code) (pos-of-ne-zero (c .before .before .before .before .before .before .before .before .before .before .before .before .before .before .if1 .left)) (c .before .before .before .before .before .before .before .before .before .before .before .before .before .if2 .left) (c .before .before .before .before .before .before .before .before .before .before .before .before .cell .ensures .0) (c .before .before .before .before .before .before .before .before .before .before .before .cell2 .ensures .0) (c .before .before .before .before .before .before .before .before .before .before .cell3 .ensures .0) ∙ ap (λ (t : ℕ). build (typeOf (a .depth - 1)) t (c .before .before .before .before .before .before .before .before .before .before .before .cell2 .result % 64) (c .before .before .before .before .before .before .before .before .before .before .cell3 .result)) (c .before .before .if4 .taken)) (arrayOf-says (head-read (a .leads .now) (a .file .now) (a .at) (c .before .before .before .before .before .before .before .before .head-at .ensures .1) (c .before .before .before .before .before .before .n .given .1) (c .before .before .before .before .kind-at .ensures .1) (c .before .before .before .head-kind .ensures)) (typeOf (a .depth - 1) (c .before .before .before .before .before .before .before .before .before .before .cell3 .result)) (c .before .if5 .left) (c .items-typed .ensures))
 
 typed-at-returns-7 : (t : ℕ) → typed-at-lts.Need-returns-7 (typed-at-claims t) (typed-at-at t) typed-at.Post
 typed-at-returns-7 t c =
     let a = c .before .before .before .before .before .before .before .before .before .before .before .before .before .before .before .args in
     let large : 3 < c .before .before .before .before .before .before .before .before .before .before .before .cell .result = omega arith in
-    value-as (typeOf (a .depth) (a .code)) (mapWith (rowsFrom (typeOf (a .depth - 1)) (c .before .before .before .before .before .before .before .before .before .before .cell2 .result % 64) (c .before .before .before .before .before .before .before .before .before .cell3 .result))) (type-read (a .depth) (a .code) (pos-of-ne-zero (c .before .before .before .before .before .before .before .before .before .before .before .before .before .if1 .left)) (c .before .before .before .before .before .before .before .before .before .before .before .before .if2 .left) (c .before .before .before .before .before .before .before .before .before .before .before .cell .ensures .0) (c .before .before .before .before .before .before .before .before .before .before .cell2 .ensures .0) (c .before .before .before .before .before .before .before .before .before .cell3 .ensures .0) ∙ build-map (typeOf (a .depth - 1)) (c .before .before .before .before .before .before .before .before .before .before .before .cell .result) (c .before .before .before .before .before .before .before .before .before .before .cell2 .result % 64) (c .before .before .before .before .before .before .before .before .before .cell3 .result) large) (mapWith-wrong (head-read (a .leads .now) (a .file .now) (a .at) (c .before .before .before .before .before .before .before .head-at .ensures .1) (c .before .before .before .before .before .n .given .1) (c .before .before .before .kind-at .ensures .1) (c .before .before .kind-number .ensures)) (rowsFrom (typeOf (a .depth - 1)) (c .before .before .before .before .before .before .before .before .before .before .cell2 .result % 64) (c .before .before .before .before .before .before .before .before .before .cell3 .result)) (c .if6 .taken))
+    value-as (typeOf (a .depth) (a .code)) (mapWith (rowsFrom (typeOf (a .depth - 1)) (c .before .before .before .before .before .before .before .before .before .before .cell2 .result % 64) (c .before .before .before .before .before .before .before .before .before .cell3 .result))) (type-read (a .depth) (a .code) (pos-of-ne-zero (c .before .before .before .before .before .before .before .before .before .before .before .before .before .if1 .left)) (c .before .before .before .before .before .before .before .before .before .before .before .before .if2 .left) (c .before .before .before .before .before .before .before .before .before .before .before .cell .ensures .0) (c .before .before .before .before .before .before .before .before .before .before .cell2 .ensures .0) (c .before .before .before .before .before .before .before .before .before .cell3 .ensures .0) ∙ build-map (typeOf (a .depth - 1)) (c .before .before .before .before .before .before .before .before .before .before .before .cell .result) (c .before .before .before .before .before .before .before .before .before .before .cell2 .result % 64) (c .before .before .before .before .before .before .before .before .before .cell3 .result) large) (mapWith-wrong (head-read (a .leads .now) (a .file .now) (a .at) (c .before .before .before .before .before .before .before .head-at .ensures .1) (c .before .before .before .before .before .n .given .1) (c .before .before .before .kind-at .ensures .1) (c .before .before .head-kind .ensures)) (rowsFrom (typeOf (a .depth - 1)) (c .before .before .before .before .before .before .before .before .before .before .cell2 .result % 64) (c .before .before .before .before .before .before .before .before .before .cell3 .result)) (c .if6 .taken))
 
 typed-at-entries-typed-requires : (t : ℕ) → typed-at-lts.Need-entries-typed-requires (typed-at-claims t) (typed-at-at t) typed-at.Post
 typed-at-entries-typed-requires t c κs =
@@ -240,7 +240,7 @@ typed-at-returns-8 : (t : ℕ) → typed-at-lts.Need-returns-8 (typed-at-claims 
 typed-at-returns-8 t c =
     let a = c .before .before .before .before .before .before .before .before .before .before .before .before .before .before .before .before .args in
     let large : 3 < c .before .before .before .before .before .before .before .before .before .before .before .before .cell .result = omega arith in
-    value-as (typeOf (a .depth) (a .code)) (mapWith (rowsFrom (typeOf (a .depth - 1)) (c .before .before .before .before .before .before .before .before .before .before .before .cell2 .result % 64) (c .before .before .before .before .before .before .before .before .before .before .cell3 .result))) (type-read (a .depth) (a .code) (pos-of-ne-zero (c .before .before .before .before .before .before .before .before .before .before .before .before .before .before .if1 .left)) (c .before .before .before .before .before .before .before .before .before .before .before .before .before .if2 .left) (c .before .before .before .before .before .before .before .before .before .before .before .before .cell .ensures .0) (c .before .before .before .before .before .before .before .before .before .before .before .cell2 .ensures .0) (c .before .before .before .before .before .before .before .before .before .before .cell3 .ensures .0) ∙ build-map (typeOf (a .depth - 1)) (c .before .before .before .before .before .before .before .before .before .before .before .before .cell .result) (c .before .before .before .before .before .before .before .before .before .before .before .cell2 .result % 64) (c .before .before .before .before .before .before .before .before .before .before .cell3 .result) large) (mapWith-says (head-read (a .leads .now) (a .file .now) (a .at) (c .before .before .before .before .before .before .before .before .head-at .ensures .1) (c .before .before .before .before .before .before .n .given .1) (c .before .before .before .before .kind-at .ensures .1) (c .before .before .before .kind-number .ensures)) (rowsFrom (typeOf (a .depth - 1)) (c .before .before .before .before .before .before .before .before .before .before .before .cell2 .result % 64) (c .before .before .before .before .before .before .before .before .before .before .cell3 .result)) (c .before .if6 .left) (c .entries-typed .ensures))
+    value-as (typeOf (a .depth) (a .code)) (mapWith (rowsFrom (typeOf (a .depth - 1)) (c .before .before .before .before .before .before .before .before .before .before .before .cell2 .result % 64) (c .before .before .before .before .before .before .before .before .before .before .cell3 .result))) (type-read (a .depth) (a .code) (pos-of-ne-zero (c .before .before .before .before .before .before .before .before .before .before .before .before .before .before .if1 .left)) (c .before .before .before .before .before .before .before .before .before .before .before .before .before .if2 .left) (c .before .before .before .before .before .before .before .before .before .before .before .before .cell .ensures .0) (c .before .before .before .before .before .before .before .before .before .before .before .cell2 .ensures .0) (c .before .before .before .before .before .before .before .before .before .before .cell3 .ensures .0) ∙ build-map (typeOf (a .depth - 1)) (c .before .before .before .before .before .before .before .before .before .before .before .before .cell .result) (c .before .before .before .before .before .before .before .before .before .before .before .cell2 .result % 64) (c .before .before .before .before .before .before .before .before .before .before .cell3 .result) large) (mapWith-says (head-read (a .leads .now) (a .file .now) (a .at) (c .before .before .before .before .before .before .before .before .head-at .ensures .1) (c .before .before .before .before .before .before .n .given .1) (c .before .before .before .before .kind-at .ensures .1) (c .before .before .before .head-kind .ensures)) (rowsFrom (typeOf (a .depth - 1)) (c .before .before .before .before .before .before .before .before .before .before .before .cell2 .result % 64) (c .before .before .before .before .before .before .before .before .before .before .cell3 .result)) (c .before .if6 .left) (c .entries-typed .ensures))
 
 pub +entries-typed+items-typed+row-typed+typed-at-spec : {M : Type 1} → statement M
 +entries-typed+items-typed+row-typed+typed-at-spec =

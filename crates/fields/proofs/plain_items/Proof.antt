@@ -8,7 +8,7 @@ use Rattle.fields.proofs.plain_items.Statement.{statement}
 use Rattle.fields.proofs.plain_items.Tie as tie
 
 add-t8 : tie.Need-add-t8
-add-t8 c = let l = c .before .all-low .ensures .0 (c .if2 .taken) in omega (arith, l .within)
+add-t8 c = let l = c .before .all-low .ensures .0 (c .if2 .taken) in omega (arith, l .inside)
 
 returns : tie.Need-returns
 returns c =

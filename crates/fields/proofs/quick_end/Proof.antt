@@ -12,16 +12,16 @@ use Rattle.fields.proofs.quick_end.Tie as tie
 returns-2 : tie.Need-returns-2
 returns-2 c =
     let a = c .before .before .before .before .before .before .args in
-    let low : getD (a .file .now) (a .at) 0 < 0x80 = omega (arith, c .before .before .wide .ensures .0) in
+    let low : getD (a .file .now) (a .at) 0 < 0x80 = omega (arith, c .before .before .u8-to-usize .ensures .0) in
     λ h leads. value-as (plain (a .wanted)) (plain 1) (ap plain (c .before .if2 .taken)) (low-says (a .file .now) (a .at) (c .before .before .before .before .if1 .left) leads low)
 
 returns-8 : tie.Need-returns-8
 returns-8 c =
     let a = c .before .before .before .before .before .before .before .before .before .args in
-    let b = c .before .before .before .before .before .wide .result in
-    let low : 0xa0 ≤ getD (a .file .now) (a .at) 0 = omega (arith, c .before .before .before .before .before .wide .ensures .0) in
-    let high : getD (a .file .now) (a .at) 0 < 0xc0 = omega (arith, c .before .before .before .before .before .wide .ensures .0) in
-    let length-is : b - 0xa0 ≡ getD (a .file .now) (a .at) 0 - 0xa0 = ap (λ (z : ℕ). z - 0xa0) (c .before .before .before .before .before .wide .ensures .0) in
+    let b = c .before .before .before .before .before .u8-to-usize .result in
+    let low : 0xa0 ≤ getD (a .file .now) (a .at) 0 = omega (arith, c .before .before .before .before .before .u8-to-usize .ensures .0) in
+    let high : getD (a .file .now) (a .at) 0 < 0xc0 = omega (arith, c .before .before .before .before .before .u8-to-usize .ensures .0) in
+    let length-is : b - 0xa0 ≡ getD (a .file .now) (a .at) 0 - 0xa0 = ap (λ (z : ℕ). z - 0xa0) (c .before .before .before .before .before .u8-to-usize .ensures .0) in
     let inside : a .at + 1 + (b - 0xa0) ≤ length (a .file .now) = omega arith in
     λ h leads. value-as (plain (a .wanted)) (plain 3) (ap plain (c .before .before .before .if4 .left)) (short-says (a .file .now) (a .at) (c .before .before .before .before .before .before .before .if1 .left) leads (b - 0xa0) low high length-is inside)
 

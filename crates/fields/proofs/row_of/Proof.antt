@@ -4,9 +4,10 @@ use Prim.Native.Nat.{ℕ, _+_, _-_, _≤_}
 use native.Mathlib.Omega.{arith}
 use native.Mathlib.Nat.{zero-add}
 use lib.ListN.{take, drop}
+use Rattle.fields.specs.Fields.{findRow}
 use borrow.Author.Needs.{needs}
 use Rattle.fields.specs.Laws.Numbers.{rowsLeft, left-all, found-here, found-later, found-none}
-use Rattle.fields.specs.Numbers.{findRow, rowsFrom}
+use Rattle.fields.specs.Numbers.{rowsFrom}
 use Rattle.fields.specs.Types.{FieldType}
 use Rattle.fields.proofs.row_of.Tie as tie
 use Rattle.fields.proofs.row_of.Statement.{statement}

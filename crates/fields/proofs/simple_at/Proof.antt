@@ -33,24 +33,24 @@ array-wrong f (suc (suc (suc t))) m w d l h o = absurd (omega arith)
 returns-3 : tie.Need-returns-3
 returns-3 c =
     let a = c .before .before .before .before .before .before .before .before .before .args in
-    λ f. array-wrong f (a .tag) (a .many) (a .wanted) (c .before .before .before .before .before .before .before .if1 .left) (c .before .before .before .before .before .before .before .before .before .pre .0) (head-read (a .leads .now) (a .file .now) (a .at) (c .before .before .before .before .before .before .head-at .ensures .1) (c .before .before .before .before .n .given .1) (c .before .before .kind-at .ensures .1) (c .before .kind-number .ensures)) (c .if2 .taken)
+    λ f. array-wrong f (a .tag) (a .many) (a .wanted) (c .before .before .before .before .before .before .before .if1 .left) (c .before .before .before .before .before .before .before .before .before .pre .0) (head-read (a .leads .now) (a .file .now) (a .at) (c .before .before .before .before .before .before .head-at .ensures .1) (c .before .before .before .before .n .given .1) (c .before .before .kind-at .ensures .1) (c .before .head-kind .ensures)) (c .if2 .taken)
 
 returns-4 : tie.Need-returns-4
 returns-4 c =
     let a = c .before .before .before .before .before .before .before .before .before .before .before .args in
-    λ f. value-as (build f (a .tag) (a .many) (a .wanted)) (arrayOf (plain (a .wanted))) (ap (λ (t : ℕ). build f t (a .many) (a .wanted)) (c .before .if3 .taken)) (arrayOf-says (head-read (a .leads .now) (a .file .now) (a .at) (c .before .before .before .before .before .before .before .before .head-at .ensures .1) (c .before .before .before .before .before .before .n .given .1) (c .before .before .before .before .kind-at .ensures .1) (c .before .before .before .kind-number .ensures)) (plain (a .wanted)) (c .before .before .if2 .left) (c .plain-items .ensures))
+    λ f. value-as (build f (a .tag) (a .many) (a .wanted)) (arrayOf (plain (a .wanted))) (ap (λ (t : ℕ). build f t (a .many) (a .wanted)) (c .before .if3 .taken)) (arrayOf-says (head-read (a .leads .now) (a .file .now) (a .at) (c .before .before .before .before .before .before .before .before .head-at .ensures .1) (c .before .before .before .before .before .before .n .given .1) (c .before .before .before .before .kind-at .ensures .1) (c .before .before .before .head-kind .ensures)) (plain (a .wanted)) (c .before .before .if2 .left) (c .plain-items .ensures))
 
 returns-5 : tie.Need-returns-5
 returns-5 c =
     let a = c .before .before .before .before .before .before .before .before .before .before .before .args in
     let two : a .tag ≡ 2 = omega arith in
-    λ f. value-as (build f (a .tag) (a .many) (a .wanted)) (exactly (a .many) (plain (a .wanted))) (ap (λ (t : ℕ). build f t (a .many) (a .wanted)) two) (exactly-other (head-read (a .leads .now) (a .file .now) (a .at) (c .before .before .before .before .before .before .before .before .head-at .ensures .1) (c .before .before .before .before .before .before .n .given .1) (c .before .before .before .before .kind-at .ensures .1) (c .before .before .before .kind-number .ensures)) (a .many) (plain (a .wanted)) (c .before .before .if2 .left) (c .if4 .taken))
+    λ f. value-as (build f (a .tag) (a .many) (a .wanted)) (exactly (a .many) (plain (a .wanted))) (ap (λ (t : ℕ). build f t (a .many) (a .wanted)) two) (exactly-other (head-read (a .leads .now) (a .file .now) (a .at) (c .before .before .before .before .before .before .before .before .head-at .ensures .1) (c .before .before .before .before .before .before .n .given .1) (c .before .before .before .before .kind-at .ensures .1) (c .before .before .before .head-kind .ensures)) (a .many) (plain (a .wanted)) (c .before .before .if2 .left) (c .if4 .taken))
 
 returns-6 : tie.Need-returns-6
 returns-6 c =
     let a = c .before .before .before .before .before .before .before .before .before .before .before .before .args in
     let two : a .tag ≡ 2 = omega arith in
-    λ f. value-as (build f (a .tag) (a .many) (a .wanted)) (exactly (a .many) (plain (a .wanted))) (ap (λ (t : ℕ). build f t (a .many) (a .wanted)) two) (exactly-says (head-read (a .leads .now) (a .file .now) (a .at) (c .before .before .before .before .before .before .before .before .before .head-at .ensures .1) (c .before .before .before .before .before .before .before .n .given .1) (c .before .before .before .before .before .kind-at .ensures .1) (c .before .before .before .before .kind-number .ensures)) (a .many) (plain (a .wanted)) (c .before .before .before .if2 .left) (c .before .if4 .left) (c .plain-items2 .ensures))
+    λ f. value-as (build f (a .tag) (a .many) (a .wanted)) (exactly (a .many) (plain (a .wanted))) (ap (λ (t : ℕ). build f t (a .many) (a .wanted)) two) (exactly-says (head-read (a .leads .now) (a .file .now) (a .at) (c .before .before .before .before .before .before .before .before .before .head-at .ensures .1) (c .before .before .before .before .before .before .before .n .given .1) (c .before .before .before .before .before .kind-at .ensures .1) (c .before .before .before .before .head-kind .ensures)) (a .many) (plain (a .wanted)) (c .before .before .before .if2 .left) (c .before .if4 .left) (c .plain-items2 .ensures))
 
 pub simple-at-spec : {M : Type 1} → statement M
 simple-at-spec =

@@ -1,6 +1,6 @@
--- No number exactly if the fields are right, and no number above 24.
+-- The named fields by their names, and the refusals by them: no number exactly if the fields are right, and no number above 24.
 -- Assumes nothing.
-use mathlib.Core.Path.{_≡_, refl, ap, _∙_}
+use mathlib.Core.Path.{_≡_, refl, sym, ap, subst, _∙_}
 use mathlib.Core.Bool.{Bool, true, false, cond, _&&_}
 use mathlib.Core.List.{List, [], _∷_}
 use mathlib.Core.Logic.{_↔_}
@@ -8,38 +8,89 @@ use mathlib.Core.Option.{some}
 use Prim.Native.Nat.{ℕ, zero, suc, _+_, _<_, _≤_}
 use native.Mathlib.Omega.{arith}
 use native.Mathlib.Nat.{add-zero}
+use Prim.Native.String as Text
 use lib.Dec.{eqb, leb, lit≤}
 use lib.ListN.{getD, take, drop, length-take, List·getD-eq-default}
 use lib.Seq.{getD-take, getD-drop}
-use borrow.Author.Tests.{eqb-true, leb-true, le-leb}
+use borrow.Author.Tests.{eqb-true, leb-true, ltb-true, le-leb}
 use Rattle.refusal.specs.Table.{accepted, fieldMissing, fieldType, versionNot1}
+use Rattle.numbers.specs.Laws.Tests.{clash, and-left, and-right, either}
+use Rattle.text.specs.Ascii.{ascii}
+use Rattle.text.specs.Equal.{equal}
+use Rattle.text.specs.Laws.Equal.{equal-true}
 use Rattle.messagepack.specs.Document.{Document, Entries}
-use Rattle.messagepack.specs.Laws.Refused.{either}
-use Rattle.fields.specs.Types.{Rows, last, row, Has, Fits, HasType}
+use Rattle.values.specs.Parts.{look}
+use Rattle.values.specs.Places.{PlaceSays}
+use Rattle.fields.specs.Types.{FieldType, Rows, last, row, Has, Fits, HasType}
 use Rattle.fields.specs.Tests.{have, fitting}
-use Rattle.fields.specs.Table.{named}
-use Rattle.fields.specs.Fields.{valueOf, fieldAt, typeIn, requiredIn, VersionOne, isVersionOne, versionOf, FieldsRight, fieldsNumber}
-use Rattle.fields.specs.Laws.Types.{clash, and-left, and-right, have-exactly, fitting-exactly}
+use Rattle.fields.specs.Table.{named, fieldCount}
+use Rattle.fields.specs.Fields.{rowCount, findRow, isRequired, typeUnder, fieldNumber, isField, field, fieldAt, requiredIn, VersionOne, isVersionOne, versionOf, FieldsRight, fieldsNumber, rowValue}
+use Rattle.fields.specs.Noted.{PlacesOf}
+use Rattle.fields.specs.Laws.Types.{have-exactly, fitting-exactly}
 
--- each field that is there has its type, and each required one is there
+-- computed over the table
+pub named-count : rowCount named ≡ fieldCount
+unfolding rowCount named
+named-count = refl
 
-pub fits-type : (rows : Rows) (es : Entries) → Fits rows es → (i : ℕ) (x : Document) → valueOf i rows es ≡ some x → HasType (typeIn i rows) x
-unfolding Fits valueOf typeIn
-fits-type last es f i x h = let z : _≡_ {A = ℕ} 0 1 = cc in absurd (omega arith)
-fits-type (row k q t rows) es f zero x h = f .0 x h
-fits-type (row k q t rows) es f (suc i) x h = fits-type rows es (f .1) i x h
+-- a row by its name
 
-pub has-value : (rows : Rows) (es : Entries) → Has rows es → (i : ℕ) → requiredIn i rows ≡ true → record { x : Document; is : valueOf i rows es ≡ some x }
-unfolding Has valueOf requiredIn
+pub valueOf-findRow : (k : List ℕ) (rows : Rows) (es : Entries) → findRow k rows < rowCount rows → rowValue (findRow k rows) rows es ≡ look k es
+unfolding findRow rowCount rowValue
+valueOf-findRow k last es lt = absurd (omega arith)
+valueOf-findRow k (row l q t rows) es lt = go (equal k l) refl lt (λ h. valueOf-findRow k rows es h)
+  where
+    go : (b : Bool) → equal k l ≡ b → cond b 0 (suc (findRow k rows)) < suc (rowCount rows) → (findRow k rows < rowCount rows → rowValue (findRow k rows) rows es ≡ look k es) → rowValue (cond b 0 (suc (findRow k rows))) (row l q t rows) es ≡ look k es
+    go true e h rest = ap (λ (z : List ℕ). look z es) (sym (equal-true k l e))
+    go false e h rest = rest (omega arith)
+
+-- a required key is there
+pub has-name : (k : List ℕ) (rows : Rows) (es : Entries) → Has rows es → isRequired k rows ≡ true → record { x : Document; is : look k es ≡ some x }
+unfolding Has isRequired
+has-name k last es h q = clash q
+has-name k (row l true t rows) es h q = go (equal k l) refl q (λ r. has-name k rows es (h .1) r)
+  where
+    go : (b : Bool) → equal k l ≡ b → cond b true (isRequired k rows) ≡ true → (isRequired k rows ≡ true → record { x : Document; is : look k es ≡ some x }) → record { x : Document; is : look k es ≡ some x }
+    go true e r rest = record { x = h .0 .x; is = ap (λ (z : List ℕ). look z es) (equal-true k l e) ∙ h .0 .is }
+    go false e r rest = rest r
+has-name k (row l false t rows) es h q = go (equal k l) q (λ r. has-name k rows es h r)
+  where
+    go : (b : Bool) → cond b false (isRequired k rows) ≡ true → (isRequired k rows ≡ true → record { x : Document; is : look k es ≡ some x }) → record { x : Document; is : look k es ≡ some x }
+    go true r rest = clash r
+    go false r rest = rest r
+
+-- a key that is there has its type
+pub fits-name : (k : List ℕ) (rows : Rows) (es : Entries) {t : FieldType} {x : Document} → Fits rows es → typeUnder k rows ≡ some t → look k es ≡ some x → HasType t x
+unfolding Fits typeUnder
+fits-name k last es f q h = let z : _≡_ {A = ℕ} 0 1 = cc in absurd (omega arith)
+fits-name k (row l p u rows) es {t} {x} f q h = go (equal k l) refl q (λ r. fits-name k rows es (f .1) r h)
+  where
+    go : (b : Bool) → equal k l ≡ b → cond b (some u) (typeUnder k rows) ≡ some t → (typeUnder k rows ≡ some t → HasType t x) → HasType t x
+    go true e r rest =
+        let v : u ≡ t = cc in
+        subst (λ (z : FieldType). HasType z x) v (f .0 x (ap (λ (z : List ℕ). look z es) (sym (equal-true k l e)) ∙ h))
+    go false e r rest = rest r
+
+-- the field with a name's number is what stands under the name
+pub fieldAt-name : (name : Text.String) (es : Entries) → isField name ≡ true → fieldAt (fieldNumber name) es ≡ field name es
+unfolding fieldAt
+fieldAt-name name es h = valueOf-findRow (ascii name) named es (let l = ltb-true (fieldNumber name) fieldCount h in omega (arith, named-count))
+
+-- its place by its name, where its number is i
+pub place-name : {s : List ℕ} {es : Entries} {places : List ℕ} → PlacesOf s es places → (name : Text.String) {i : ℕ} → isField name ≡ true → fieldNumber name ≡ i → PlaceSays s (getD places i 0) (field name es)
+place-name {s} {es} {places} p name h e =
+    subst (λ (j : ℕ). PlaceSays s (getD places j 0) (field name es)) e
+    (subst (PlaceSays s (getD places (fieldNumber name) 0)) (fieldAt-name name es h) (p .says (fieldNumber name) (ltb-true (fieldNumber name) fieldCount h)))
+
+-- a required field is there, by its number
+
+pub has-value : (rows : Rows) (es : Entries) → Has rows es → (i : ℕ) → requiredIn i rows ≡ true → record { x : Document; is : rowValue i rows es ≡ some x }
+unfolding Has rowValue requiredIn
 has-value last es h i q = clash q
 has-value (row k true t rows) es h zero q = h .0
 has-value (row k false t rows) es h zero q = clash q
 has-value (row k true t rows) es h (suc i) q = has-value rows es (h .1) i q
 has-value (row k false t rows) es h (suc i) q = has-value rows es h i q
-
-pub field-there : (es : Entries) → Has named es → (i : ℕ) → requiredIn i named ≡ true → record { x : Document; is : fieldAt i es ≡ some x }
-unfolding fieldAt
-field-there es h i q = has-value named es h i q
 
 -- the test of the version says what its rule says
 

@@ -12,6 +12,8 @@ use lib.ListN.{length, getD, take, drop, set, replicate}
 use lib.Seq.{getD-set-same, getD-set-other}
 use borrow.Author.Tests.{eqb-true, eqb-false}
 use Rattle.refusal.specs.Table.{accepted, fieldMissing, fieldType, versionNot1}
+use Rattle.text.specs.Ascii.{ascii}
+use Rattle.text.specs.Equal.{equal}
 use Rattle.heads.specs.Table.{leadTable}
 use Rattle.messagepack.specs.Document.{Document, Entries, empty, entry, size}
 use Rattle.messagepack.specs.Rules.{NoKey}
@@ -19,20 +21,20 @@ use Rattle.values.specs.Places.{At, AtEntries, TextAt, PlaceSays, gone, there}
 use Rattle.values.specs.Standing.{Standing}
 use Rattle.values.specs.Laws.Places.{at-standing}
 use Rattle.values.specs.declared.Part.{Part}
-use Rattle.utf8.specs.Ascii.{ascii}
-use Rattle.fields.specs.Types.{FieldType, Rows, look}
+use Rattle.fields.specs.Laws.Fields.{named-count, place-name, has-name}
+use Rattle.fields.specs.Types.{FieldType, Rows}
 use Rattle.fields.specs.Table.{named, fieldCount}
-use Rattle.fields.specs.Tests.{isThere, have, typed, fitting}
-use Rattle.fields.specs.Fields.{fieldAt, fieldTypeOf, valueOf, present, setOf, presenceOf, textIn, versionOf, isVersionOne, fieldsNumber}
+use Rattle.fields.specs.Tests.{have, typed, fitting}
+use Rattle.fields.specs.Fields.{fieldAt, fieldTypeOf, present, setOf, presenceOf, textIn, versionOf, isVersionOne, fieldsNumber, findRow, fieldNumber, isRequired}
 use Rattle.fields.specs.Noted.{Noted}
-use Rattle.fields.specs.Numbers.{rowsFrom, typeOf, typeDepth, firstField, findRow, rowTest, covered, marked}
+use Rattle.fields.specs.Numbers.{rowsFrom, typeOf, typeDepth, firstField, rowTest, covered, marked}
 use Rattle.fields.specs.Steps.{ValueSays, RowSays, PlaceFrom, same, found, NotedFrom, NoteSays, noPlaces}
 use Rattle.fields.specs.declared.Typed.{Typed}
 use Rattle.fields.specs.declared.Fields.{Fields}
-use Rattle.fields.specs.Laws.Types.{clash, and-left}
+use Rattle.fields.specs.Laws.Types.{have-exactly}
 use Rattle.fields.specs.Laws.Sets.{present-none, covered-have}
 use Rattle.fields.specs.Laws.Rows.{fitting-none, valueOf-none, fitting-entry, present-marked, valueOf-entry, valueOf-fresh}
-use Rattle.fields.specs.Laws.Numbers.{named-is, named-distinct, named-count, row-type, no-type}
+use Rattle.fields.specs.Laws.Numbers.{named-is, named-distinct, row-type, no-type}
 use Rattle.fields.specs.Laws.Steps.{no-kind, passed, failed, or-marked, KeyRead, first-entry}
 
 -- a field's value by its row
@@ -143,18 +145,13 @@ pub note-done : {leads s : List ℕ} {n p : ℕ} {r : Fields} → NoteSays leads
 unfolding presenceOf
 note-done h l es e a c =
     let m = h .says l es e a c in
-    record { long = m .long; places = λ i lt. as-place (m .place i lt) (zeros-at fieldCount i); presence = m .present; typed = m .fit }
+    record { places = record { long = m .long; says = λ i lt. as-place (m .place i lt) (zeros-at fieldCount i) }; presence = m .present; typed = m .fit }
 
 -- the number by what is noted
 
--- the code finds mmtfVersion by its row among the named fields, the first
-version-row : (es : Entries) → fieldAt 0 es ≡ look (ascii "mmtfVersion") es
-unfolding fieldAt valueOf named
-version-row es = refl
-
-text-there : {s : List ℕ} {p : ℕ} {o : Option Document} {part : Part} → PlaceSays s p o → ((x : Document) (e : ℕ) → At s p x e → TextAt s x e part) → isThere o ≡ true → take (part .count) (drop (part .at) s) ≡ textIn o
+text-there : {s : List ℕ} {p : ℕ} {o : Option Document} {x : Document} {part : Part} → PlaceSays s p o → ((x : Document) (e : ℕ) → At s p x e → TextAt s x e part) → o ≡ some x → take (part .count) (drop (part .at) s) ≡ textIn o
 text-there (there {e = e} {x = x} pos a) t i = t x e a .is
-text-there gone t i = clash i
+text-there gone t i = let z : _≡_ {A = ℕ} 0 1 = cc in absurd (omega arith)
 
 module _ {s : List ℕ} {es : Entries} {r : Fields} (m : Noted s es r) where
   pub seen-have : {b : Bool} → b ≡ covered (rowsFrom (typeOf typeDepth) fieldCount firstField) (r .presence) → b ≡ have named es
@@ -162,9 +159,9 @@ module _ {s : List ℕ} {es : Entries} {r : Fields} (m : Noted s es r) where
   seen-have q = q ∙ ap (λ (z : ℕ). covered (rowsFrom (typeOf typeDepth) fieldCount firstField) z) (m .presence) ∙ ap (λ (z : Rows). covered z (setOf (present named es))) named-is ∙ covered-have named es
 
   -- the text of mmtfVersion, which is there
-  pub version-read : {part : Part} → have named es ≡ true → ((x : Document) (e : ℕ) → At s (getD (r .places) 0 0) x e → TextAt s x e part) → take (part .count) (drop (part .at) s) ≡ versionOf es
-  unfolding have named
-  version-read {part} h t = text-there (rw (version-row es) at (m .places 0 (omega arith))) t (and-left _ _ h)
+  pub version-read : {i : ℕ} {part : Part} → fieldNumber "mmtfVersion" ≡ i → have named es ≡ true → ((x : Document) (e : ℕ) → At s (getD (r .places) i 0) x e → TextAt s x e part) → take (part .count) (drop (part .at) s) ≡ versionOf es
+  unfolding isRequired findRow equal named
+  version-read v h t = text-there (place-name (m .places) "mmtfVersion" refl v) t (has-name (ascii "mmtfVersion") named es (have-exactly named es .0 h) refl .is)
 
 pub fields-missing : (es : Entries) → have named es ≡ false → fieldsNumber es ≡ fieldMissing
 unfolding fieldsNumber

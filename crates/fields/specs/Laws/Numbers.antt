@@ -9,25 +9,25 @@ use native.Mathlib.Nat.{add-zero, sub-zero}
 use lib.Dec.{eqb, leb}
 use lib.ListN.{length, getD, take, drop}
 use lib.Seq.{getD-take, getD-drop}
+use Rattle.numbers.specs.Laws.Tests.{clash, and-left, and-right}
+use Rattle.text.specs.Equal.{equal}
+use Rattle.text.specs.Laws.Equal.{equal-lengths, equal-next, equal-not, equal-end}
 use borrow.Author.Tests.{leb-true, eqb-true, eqb-false, lt-ltb, le-ltb}
 use Rattle.heads.specs.Laws.Table.{rows-at, values-length}
 use Rattle.heads.specs.Laws.Span.{part-length}
 use Rattle.messagepack.specs.Document.{Document}
-use Rattle.messagepack.specs.Equal.{equal}
-use Rattle.messagepack.specs.Laws.Keys.{equal-lengths, equal-next, equal-not, equal-end}
 use Rattle.fields.specs.Types.{FieldType, Rows, plain, mapWith, last, row}
 use Rattle.fields.specs.Table.{groupRows, transformRows, assemblyRows, entityRows, named, fieldCount}
 use Rattle.fields.specs.Tests.{typed}
-use Rattle.fields.specs.Fields.{typeIn}
-use Rattle.fields.specs.Numbers.{rowCells, typeTable, cellOf, tagOf, manyOf, insideOf, rowAt, nameOf, needOf, codeOf, rowsFrom, build, typeOf, typeCount, typeDepth, firstField, findRow, rowTest, covered, newName, distinctNames, lacking, rowCount}
-use Rattle.fields.specs.Laws.Types.{clash, and-left, and-right}
+use Rattle.fields.specs.Fields.{typeIn, findRow, rowCount}
+use Rattle.fields.specs.Numbers.{rowCells, typeTable, tagOf, manyOf, insideOf, rowAt, nameOf, needOf, codeOf, rowsFrom, build, typeOf, codeCount, typeDepth, firstField, rowTest, covered, newName, distinctNames, lacking, tableByte}
 
 -- computed over the whole table
 pub named-is : rowsFrom (typeOf typeDepth) fieldCount firstField ≡ named
-unfolding rowCells typeTable cellOf nameOf rowsFrom typeOf named groupRows transformRows assemblyRows entityRows
+unfolding rowCells typeTable tableByte nameOf rowsFrom typeOf named groupRows transformRows assemblyRows entityRows
 named-is = refl
 
-pub table-length : length typeTable ≡ 1261
+pub table-length : length typeTable ≡ rowAt (firstField + fieldCount)
 unfolding rowCells typeTable named groupRows transformRows assemblyRows entityRows
 table-length = refl
 
@@ -36,19 +36,15 @@ pub named-distinct : distinctNames named ≡ true
 unfolding distinctNames newName equal named
 named-distinct = refl
 
-pub named-count : rowCount named ≡ fieldCount
-unfolding rowCount named
-named-count = refl
-
 -- a row's name, byte by byte
 
-name-length : (r : ℕ) → length (nameOf r) ≡ cellOf (rowAt r)
+name-length : (r : ℕ) → length (nameOf r) ≡ tableByte (rowAt r)
 unfolding nameOf
-name-length r = values-length (λ j. cellOf (rowAt r + 3 + j)) 0 (cellOf (rowAt r))
+name-length r = values-length (λ j. tableByte (rowAt r + 3 + j)) 0 (tableByte (rowAt r))
 
-name-byte : (r i : ℕ) → i < cellOf (rowAt r) → getD (nameOf r) i 0 ≡ cellOf (rowAt r + 3 + i)
+name-byte : (r i : ℕ) → i < tableByte (rowAt r) → getD (nameOf r) i 0 ≡ tableByte (rowAt r + 3 + i)
 unfolding nameOf
-name-byte r i lt = rows-at (λ j. cellOf (rowAt r + 3 + j)) (cellOf (rowAt r)) i lt
+name-byte r i lt = rows-at (λ j. tableByte (rowAt r + 3 + j)) (tableByte (rowAt r)) i lt
 
 module _ (s : List ℕ) (a m r : ℕ) (fits : a + m ≤ length s) where
   part : List ℕ
@@ -62,16 +58,16 @@ module _ (s : List ℕ) (a m r : ℕ) (fits : a + m ≤ length s) where
   unfolding part
   byte i lt = getD-take m (drop a s) i 0 lt ∙ getD-drop a s i 0
 
-  pub name-long : (m ≡ cellOf (rowAt r) → ⊥) → equal (take m (drop a s)) (nameOf r) ≡ false
+  pub name-long : (m ≡ tableByte (rowAt r) → ⊥) → equal (take m (drop a s)) (nameOf r) ≡ false
   unfolding part
   name-long h = equal-lengths part (nameOf r) (λ e. h (sym long ∙ e ∙ name-length r))
 
-  module _ (same : m ≡ cellOf (rowAt r)) where
-    pub name-next : (i : ℕ) → i < m → getD s (a + i) 0 ≡ cellOf (rowAt r + 3 + i) → equal (drop i (take m (drop a s))) (drop i (nameOf r)) ≡ equal (drop (i + 1) (take m (drop a s))) (drop (i + 1) (nameOf r))
+  module _ (same : m ≡ tableByte (rowAt r)) where
+    pub name-next : (i : ℕ) → i < m → getD s (a + i) 0 ≡ tableByte (rowAt r + 3 + i) → equal (drop i (take m (drop a s))) (drop i (nameOf r)) ≡ equal (drop (i + 1) (take m (drop a s))) (drop (i + 1) (nameOf r))
     unfolding part
     name-next i lt e = equal-next part (nameOf r) i (omega (arith, long)) (omega (arith, name-length r)) (byte i lt ∙ e ∙ sym (name-byte r i (omega arith)))
 
-    pub name-not : (i : ℕ) → i < m → (getD s (a + i) 0 ≡ cellOf (rowAt r + 3 + i) → ⊥) → equal (drop i (take m (drop a s))) (drop i (nameOf r)) ≡ false
+    pub name-not : (i : ℕ) → i < m → (getD s (a + i) 0 ≡ tableByte (rowAt r + 3 + i) → ⊥) → equal (drop i (take m (drop a s))) (drop i (nameOf r)) ≡ false
     unfolding part
     name-not i lt h = equal-not part (nameOf r) i (omega (arith, long)) (omega (arith, name-length r)) (λ e. h (sym (byte i lt) ∙ e ∙ name-byte r i (omega arith)))
 
@@ -123,7 +119,7 @@ module _ (f : ℕ → FieldType) (n r i : ℕ) where
         omega arith
 
   -- the required rows that are seen, row by row
-  pub covered-next : (seen : ℕ) → i < n → lacking (cellOf (rowAt (r + i) + 1)) seen ≡ false → covered (rowsLeft f n r i) seen ≡ covered (rowsLeft f n r (i + 1)) (seen / 2)
+  pub covered-next : (seen : ℕ) → i < n → lacking (tableByte (rowAt (r + i) + 1)) seen ≡ false → covered (rowsLeft f n r i) seen ≡ covered (rowsLeft f n r (i + 1)) (seen / 2)
   unfolding covered
   covered-next seen lt e = rw (left-first lt) (go (needOf (r + i)) (eqb (seen % 2) 1) (covered (rowsLeft f n r (i + 1)) (seen / 2)) e)
     where
@@ -132,7 +128,7 @@ module _ (f : ℕ → FieldType) (n r i : ℕ) where
       go true false c e = clash (sym e)
       go false q c e = refl
 
-  pub covered-not : (seen : ℕ) → i < n → lacking (cellOf (rowAt (r + i) + 1)) seen ≡ true → covered (rowsLeft f n r i) seen ≡ false
+  pub covered-not : (seen : ℕ) → i < n → lacking (tableByte (rowAt (r + i) + 1)) seen ≡ true → covered (rowsLeft f n r i) seen ≡ false
   unfolding covered
   covered-not seen lt e = rw (left-first lt) (go (needOf (r + i)) (eqb (seen % 2) 1) (covered (rowsLeft f n r (i + 1)) (seen / 2)) e)
     where
@@ -215,25 +211,25 @@ every-at t (suc n) h c lt = go (eqb c n) refl (every-at t n (and-right (t n) (ev
     go false e rest = let d = eqb-false c n e in rest (omega arith)
 
 -- computed over all types
-every-simple : every simple typeCount ≡ true
-unfolding every simple cellOf typeTable
+every-simple : every simple codeCount ≡ true
+unfolding every simple tableByte typeTable
 every-simple = refl
 
-every-distinct : every distinct typeCount ≡ true
-unfolding every distinct distinctNames newName equal rowsFrom nameOf cellOf typeTable rowCells named groupRows transformRows assemblyRows entityRows
+every-distinct : every distinct codeCount ≡ true
+unfolding every distinct distinctNames newName equal rowsFrom nameOf tableByte typeTable rowCells named groupRows transformRows assemblyRows entityRows
 every-distinct = refl
 
-pub simple-kind : (c : ℕ) → c < typeCount → tagOf c < 3 → insideOf c ≤ 4
+pub simple-kind : (c : ℕ) → c < codeCount → tagOf c < 3 → insideOf c ≤ 4
 unfolding simple
-simple-kind c lt small = go (leb 3 (tagOf c)) refl (every-at simple typeCount every-simple c lt)
+simple-kind c lt small = go (leb 3 (tagOf c)) refl (every-at simple codeCount every-simple c lt)
   where
     go : (b : Bool) → leb 3 (tagOf c) ≡ b → (b || leb (insideOf c) 4) ≡ true → insideOf c ≤ 4
     go true e h = absurd (omega (arith, leb-true 3 (tagOf c) e))
     go false e h = leb-true (insideOf c) 4 h
 
-pub map-distinct : (f : ℕ → FieldType) (c : ℕ) → c < typeCount → 3 < tagOf c → distinctNames (rowsFrom f (manyOf c) (insideOf c)) ≡ true
+pub map-distinct : (f : ℕ → FieldType) (c : ℕ) → c < codeCount → 3 < tagOf c → distinctNames (rowsFrom f (manyOf c) (insideOf c)) ≡ true
 unfolding distinct
-map-distinct f c lt large = distinct-same f plain (manyOf c) (insideOf c) ∙ go (leb (tagOf c) 3) refl (every-at distinct typeCount every-distinct c lt)
+map-distinct f c lt large = distinct-same f plain (manyOf c) (insideOf c) ∙ go (leb (tagOf c) 3) refl (every-at distinct codeCount every-distinct c lt)
   where
     go : (b : Bool) → leb (tagOf c) 3 ≡ b → (b || distinctNames (rowsFrom plain (manyOf c) (insideOf c))) ≡ true → distinctNames (rowsFrom plain (manyOf c) (insideOf c)) ≡ true
     go true e h = absurd (omega (arith, leb-true (tagOf c) 3 e))
@@ -245,18 +241,18 @@ pub type-none : (c : ℕ) → typeOf 0 c ≡ plain 0
 unfolding typeOf
 type-none c = refl
 
-pub type-past : (d c : ℕ) → typeCount ≤ c → typeOf d c ≡ plain 0
+pub type-past : (d c : ℕ) → codeCount ≤ c → typeOf d c ≡ plain 0
 unfolding typeOf
 type-past zero c le = refl
-type-past (suc d) c le = rw (le-ltb c typeCount le)
+type-past (suc d) c le = rw (le-ltb c codeCount le)
 
-pub type-is : (d c : ℕ) → 0 < d → c < typeCount → typeOf d c ≡ build (typeOf (d - 1)) (tagOf c) (manyOf c) (insideOf c)
+pub type-is : (d c : ℕ) → 0 < d → c < codeCount → typeOf d c ≡ build (typeOf (d - 1)) (tagOf c) (manyOf c) (insideOf c)
 unfolding typeOf
 type-is zero c h lt = absurd (omega arith)
-type-is (suc d) c h lt = let e : suc d - 1 ≡ d = omega arith in rw (lt-ltb c typeCount lt, e)
+type-is (suc d) c h lt = let e : suc d - 1 ≡ d = omega arith in rw (lt-ltb c codeCount lt, e)
 
 -- a type by the three numbers that were read of it
-pub type-read : (d c : ℕ) {tag many inside : ℕ} → 0 < d → c < typeCount → tag ≡ tagOf c → many ≡ cellOf (c * 3 + 1) → inside ≡ insideOf c → typeOf d c ≡ build (typeOf (d - 1)) tag (many % 64) inside
+pub type-read : (d c : ℕ) {tag many inside : ℕ} → 0 < d → c < codeCount → tag ≡ tagOf c → many ≡ tableByte (c * 3 + 1) → inside ≡ insideOf c → typeOf d c ≡ build (typeOf (d - 1)) tag (many % 64) inside
 type-read d c h lt t m i = type-is d c h lt ∙ rw (t, m, i)
 
 pub build-map : (f : ℕ → FieldType) (tag many inside : ℕ) → 3 < tag → build f tag many inside ≡ mapWith (rowsFrom f many inside)

@@ -1,6 +1,6 @@
 -- Rows whose names are different, and one entry more, whose key is new.
 -- Assumes nothing.
-use mathlib.Core.Path.{_≡_, refl, sym, ap, _∙_}
+use mathlib.Core.Path.{_≡_, refl, ap, _∙_}
 use mathlib.Core.Bool.{Bool, true, false, cond, not, _&&_}
 use mathlib.Core.List.{List, _∷_}
 use mathlib.Core.Option.{some, none as nothing}
@@ -8,15 +8,17 @@ use Prim.Native.Nat.{ℕ, zero, suc, _<_}
 use native.Mathlib.Omega.{arith}
 use lib.Dec.{eqb, eqb·zero-suc, eqb·suc-zero, eqb·suc-suc}
 use lib.ListN.{length, set}
+use Rattle.numbers.specs.Laws.Tests.{clash, and-left, and-right}
+use Rattle.text.specs.Equal.{equal}
+use Rattle.text.specs.Laws.Equal.{equal-true}
 use Rattle.messagepack.specs.Document.{Document, Entries, empty, entry}
 use Rattle.messagepack.specs.Rules.{NoKey}
-use Rattle.messagepack.specs.Equal.{equal}
-use Rattle.messagepack.specs.Laws.Keys.{equal-true, equal-false}
-use Rattle.fields.specs.Types.{Rows, last, row, look}
+use Rattle.values.specs.Parts.{look}
+use Rattle.values.specs.Laws.Parts.{look-none}
+use Rattle.fields.specs.Types.{Rows, last, row}
 use Rattle.fields.specs.Tests.{isThere, onValue, typed, fitting}
-use Rattle.fields.specs.Fields.{valueOf, setOf, present}
-use Rattle.fields.specs.Numbers.{findRow, rowTest, newName, distinctNames, marked, rowCount}
-use Rattle.fields.specs.Laws.Types.{clash, and-left, and-right}
+use Rattle.fields.specs.Fields.{setOf, present, findRow, rowCount, rowValue}
+use Rattle.fields.specs.Numbers.{rowTest, newName, distinctNames, marked}
 use Rattle.fields.specs.Laws.Sets.{set-marked}
 
 pub present-length : (rows : Rows) (es : Entries) → length (present rows es) ≡ rowCount rows
@@ -24,20 +26,14 @@ unfolding present rowCount
 present-length last es = refl
 present-length (row k q t rows) es = ap suc (present-length rows es)
 
--- a key that is not there has no value
-pub look-none : (k : List ℕ) (es : Entries) → NoKey k es → look k es ≡ nothing
-unfolding look NoKey
-look-none k empty h = refl
-look-none k (entry l x es) h = rw (equal-false l k (λ e. h .0 (sym e))) (look-none k es (h .1))
-
 -- no entry asks nothing of the rows
 pub fitting-none : (rows : Rows) → fitting rows empty ≡ true
 unfolding fitting look
 fitting-none last = refl
 fitting-none (row k q t rows) = fitting-none rows
 
-pub valueOf-none : (i : ℕ) (rows : Rows) → valueOf i rows empty ≡ nothing
-unfolding valueOf look
+pub valueOf-none : (i : ℕ) (rows : Rows) → rowValue i rows empty ≡ nothing
+unfolding rowValue look
 valueOf-none i last = refl
 valueOf-none zero (row k q t rows) = refl
 valueOf-none (suc i) (row k q t rows) = valueOf-none i rows
@@ -59,8 +55,8 @@ module _ (k : List ℕ) (x : Document) (es : Entries) where
   present-other last h = refl
   present-other (row l q t rows) h = rw (not-false (equal k l) (and-left (not (equal k l)) (newName k rows) h), present-other rows (and-right (not (equal k l)) (newName k rows) h))
 
-  valueOf-other : (i : ℕ) (rows : Rows) → newName k rows ≡ true → valueOf i rows (entry k x es) ≡ valueOf i rows es
-  unfolding valueOf newName look
+  valueOf-other : (i : ℕ) (rows : Rows) → newName k rows ≡ true → rowValue i rows (entry k x es) ≡ rowValue i rows es
+  unfolding rowValue newName look
   valueOf-other i last h = refl
   valueOf-other zero (row l q t rows) h = rw (not-false (equal k l) (and-left (not (equal k l)) (newName k rows) h))
   valueOf-other (suc i) (row l q t rows) h = valueOf-other i rows (and-right (not (equal k l)) (newName k rows) h)
@@ -102,8 +98,8 @@ module _ (k : List ℕ) (x : Document) (es : Entries) where
   present-marked rows d = ap setOf (present-entry rows d) ∙ set-marked (present rows es) (findRow k rows) (rowCount rows) (present-length rows es)
 
   -- the values of the rows: one is the first entry's
-  pub valueOf-entry : (i : ℕ) (rows : Rows) → distinctNames rows ≡ true → i < rowCount rows → valueOf i rows (entry k x es) ≡ cond (eqb i (findRow k rows)) (some x) (valueOf i rows es)
-  unfolding valueOf distinctNames look findRow rowCount
+  pub valueOf-entry : (i : ℕ) (rows : Rows) → distinctNames rows ≡ true → i < rowCount rows → rowValue i rows (entry k x es) ≡ cond (eqb i (findRow k rows)) (some x) (rowValue i rows es)
+  unfolding rowValue distinctNames look findRow rowCount
   valueOf-entry i last d lt = absurd (omega arith)
   valueOf-entry zero (row l q t rows) d lt = go (equal k l) refl
     where
@@ -112,7 +108,7 @@ module _ (k : List ℕ) (x : Document) (es : Entries) where
       go false e = rw eqb·zero-suc
   valueOf-entry (suc i) (row l q t rows) d lt = go (equal k l) refl (valueOf-entry i rows (and-right (newName l rows) (distinctNames rows) d) (omega arith))
     where
-      go : (b : Bool) → equal k l ≡ b → valueOf i rows (entry k x es) ≡ cond (eqb i (findRow k rows)) (some x) (valueOf i rows es) → valueOf i rows (entry k x es) ≡ cond (eqb (suc i) (cond b 0 (suc (findRow k rows)))) (some x) (valueOf i rows es)
+      go : (b : Bool) → equal k l ≡ b → rowValue i rows (entry k x es) ≡ cond (eqb i (findRow k rows)) (some x) (rowValue i rows es) → rowValue i rows (entry k x es) ≡ cond (eqb (suc i) (cond b 0 (suc (findRow k rows)))) (some x) (rowValue i rows es)
       go true e rest =
           let p : k ≡ l = equal-true k l e in
           let o : newName k rows ≡ true = rw p (and-left (newName l rows) (distinctNames rows) d) in
@@ -120,11 +116,11 @@ module _ (k : List ℕ) (x : Document) (es : Entries) where
       go false e rest = rw eqb·suc-suc rest
 
 -- the row of a new key has no value
-pub valueOf-fresh : (k : List ℕ) (es : Entries) (rows : Rows) → NoKey k es → valueOf (findRow k rows) rows es ≡ nothing
-unfolding valueOf findRow
+pub valueOf-fresh : (k : List ℕ) (es : Entries) (rows : Rows) → NoKey k es → rowValue (findRow k rows) rows es ≡ nothing
+unfolding rowValue findRow
 valueOf-fresh k es last f = refl
 valueOf-fresh k es (row l q t rows) f = go (equal k l) refl (valueOf-fresh k es rows f)
   where
-    go : (b : Bool) → equal k l ≡ b → valueOf (findRow k rows) rows es ≡ nothing → valueOf (cond b 0 (suc (findRow k rows))) (row l q t rows) es ≡ nothing
+    go : (b : Bool) → equal k l ≡ b → rowValue (findRow k rows) rows es ≡ nothing → rowValue (cond b 0 (suc (findRow k rows))) (row l q t rows) es ≡ nothing
     go true e rest = look-none l es (rw (equal-true k l e) at f)
     go false e rest = rest

@@ -12,14 +12,15 @@ use lib.Count.{ones, ones-step}
 use lib.Dec.{eqb, ltb}
 use lib.ListN.{length, set}
 use lib.Seq.{set-out}
+use Rattle.numbers.specs.Laws.Tests.{clash, and-left, and-right}
 use borrow.Author.Tests.{ltb-true, ltb-false}
 use Rattle.messagepack.specs.Document.{Entries, empty}
-use Rattle.fields.specs.Types.{Rows, last, row, look}
+use Rattle.values.specs.Parts.{look}
+use Rattle.fields.specs.Types.{Rows, last, row}
 use Rattle.fields.specs.Tests.{isThere, have}
-use Rattle.fields.specs.Table.{named, fieldCount}
-use Rattle.fields.specs.Fields.{bit, setOf, countOf, present, presenceOf, presentCount}
-use Rattle.fields.specs.Numbers.{covered, marked, rowCount}
-use Rattle.fields.specs.Laws.Types.{clash, and-left, and-right}
+use Rattle.fields.specs.Table.{named, fieldCount, requiredFields}
+use Rattle.fields.specs.Fields.{bit, setOf, memberCount, present, presenceOf, presentCount, rowCount}
+use Rattle.fields.specs.Numbers.{covered, marked}
 
 -- the union of sets
 
@@ -59,8 +60,8 @@ ones-none : ones 0 ≡ 0
 unfolding ones
 ones-none = refl
 
-pub ones-setOf : (bs : List Bool) → ones (setOf bs) ≡ countOf bs
-unfolding setOf countOf
+pub ones-setOf : (bs : List Bool) → ones (setOf bs) ≡ memberCount bs
+unfolding setOf memberCount
 ones-setOf [] = ones-none
 ones-setOf (b ∷ bs) = ones-step (bit b + setOf bs * 2) ∙ ap₂ (λ (x y : ℕ). x + ones y) (set-odd b (setOf bs)) (set-half b (setOf bs)) ∙ ap (λ (x : ℕ). bit b + x) (ones-setOf bs)
 
@@ -74,8 +75,8 @@ bit-most : (b : Bool) → bit b ≤ 1
 bit-most true = omega arith
 bit-most false = omega arith
 
-count-most : (rows : Rows) (es : Entries) → countOf (present rows es) ≤ rowCount rows
-unfolding present countOf rowCount
+count-most : (rows : Rows) (es : Entries) → memberCount (present rows es) ≤ rowCount rows
+unfolding present memberCount rowCount
 count-most last es = omega arith
 count-most (row k q t rows) es = omega (arith, bit-most (isThere (look k es)), count-most rows es)
 
@@ -88,8 +89,8 @@ bit-least true true h = omega arith
 bit-least true false h = clash h
 bit-least false b h = omega arith
 
-count-least : (rows : Rows) (es : Entries) → have rows es ≡ true → requiredCount rows ≤ countOf (present rows es)
-unfolding present countOf have requiredCount
+count-least : (rows : Rows) (es : Entries) → have rows es ≡ true → requiredCount rows ≤ memberCount (present rows es)
+unfolding present memberCount have requiredCount
 count-least last es h = omega arith
 count-least (row k q t rows) es h =
     let here = bit-least q (isThere (look k es)) (and-left (not q || isThere (look k es)) (have rows es) h) in
@@ -99,7 +100,7 @@ pub present-most : (es : Entries) → presentCount es ≤ fieldCount
 unfolding presentCount named rowCount
 present-most es = count-most named es
 
-pub present-least : (es : Entries) → have named es ≡ true → 16 ≤ presentCount es
+pub present-least : (es : Entries) → have named es ≡ true → requiredFields ≤ presentCount es
 unfolding presentCount named requiredCount
 present-least es h = count-least named es h
 

@@ -24,11 +24,11 @@ use Rattle.values.specs.Standing.{Standing, LowRun}
 use Rattle.values.specs.Laws.Standing.{low-first, low-rest}
 use Rattle.values.specs.Laws.Places.{at-inside, at-standing, open-array, open-map, OpenText, open-string, open-binary, open-float, OpenInteger, unsigned, signed, open-integer, open-item, open-entry}
 use Rattle.values.specs.declared.Part.{Part}
-use Rattle.fields.specs.Types.{FieldType, Rows, plain, arrayOf, exactly, mapWith, kindNumber}
+use Rattle.fields.specs.Types.{FieldType, Rows, plain, arrayOf, exactly, mapWith, documentKind}
 use Rattle.fields.specs.Tests.{onArray, onMap, all, have, typed, fitting}
-use Rattle.fields.specs.Fields.{setOf, present}
-use Rattle.fields.specs.Numbers.{codeOf, rowsFrom, findRow, rowTest, covered, marked, distinctNames, rowCount}
-use Rattle.fields.specs.Steps.{endsIf, numberOf, plainEnd, ValueSays, ItemsSay, EntriesSay}
+use Rattle.fields.specs.Fields.{setOf, present, findRow, rowCount}
+use Rattle.fields.specs.Numbers.{codeOf, rowsFrom, rowTest, covered, marked, distinctNames}
+use Rattle.fields.specs.Steps.{endsIf, headKind, plainEnd, ValueSays, ItemsSay, EntriesSay}
 use Rattle.fields.specs.declared.Typed.{Typed}
 use Rattle.fields.specs.Laws.Sets.{or-later, present-none, covered-have}
 use Rattle.fields.specs.Laws.Rows.{fitting-none, fitting-entry, present-marked}
@@ -56,17 +56,17 @@ head-there (binary t) a = told-head (open-binary a .told)
 head-there (array ds) a = told-head (open-array a .told)
 head-there (map es) a = told-head (open-map a .told)
 
-kind-integer : {s : List ℕ} {at : ℕ} {v : _} {e : ℕ} → OpenInteger s at v e → numberOf (kindAt s at) ≡ 1
-kind-integer (unsigned n t q) = ap numberOf (t .kind)
-kind-integer (signed k n t q l m i) = ap numberOf (t .kind)
+kind-integer : {s : List ℕ} {at : ℕ} {v : _} {e : ℕ} → OpenInteger s at v e → headKind (kindAt s at) ≡ 1
+kind-integer (unsigned n t q) = ap headKind (t .kind)
+kind-integer (signed k n t q l m i) = ap headKind (t .kind)
 
-pub kind-there : {s : List ℕ} {at : ℕ} (x : Document) {e : ℕ} → At s at x e → numberOf (kindAt s at) ≡ kindNumber x
+pub kind-there : {s : List ℕ} {at : ℕ} (x : Document) {e : ℕ} → At s at x e → headKind (kindAt s at) ≡ documentKind x
 kind-there (integer v) a = kind-integer (open-integer a)
-kind-there (float bits) a = ap numberOf (open-float a .kind)
-kind-there (string t) a = ap numberOf (open-string a .told .kind)
-kind-there (binary t) a = ap numberOf (open-binary a .told .kind)
-kind-there (array ds) a = ap numberOf (open-array a .told .kind)
-kind-there (map es) a = ap numberOf (open-map a .told .kind)
+kind-there (float bits) a = ap headKind (open-float a .kind)
+kind-there (string t) a = ap headKind (open-string a .told .kind)
+kind-there (binary t) a = ap headKind (open-binary a .told .kind)
+kind-there (array ds) a = ap headKind (open-array a .told .kind)
+kind-there (map es) a = ap headKind (open-map a .told .kind)
 
 -- a value that holds no others ends with its head, or with its body
 
@@ -89,7 +89,7 @@ module _ (s : List ℕ) (at n p : ℕ) (h : headAt s at ≡ Head.At n p) where
       rw (le-leb (p + n) (length s) l) (ap Typed.Ends f)
   with-body false o = refl
 
-  plain-of : (wanted : ℕ) → wanted ≤ 4 → (x : Document) {e : ℕ} → At s at x e → plainEnd (length s) (kindNumber x) wanted n p ≡ endsIf (eqb (kindNumber x) wanted) e
+  plain-of : (wanted : ℕ) → wanted ≤ 4 → (x : Document) {e : ℕ} → At s at x e → plainEnd (length s) (documentKind x) wanted n p ≡ endsIf (eqb (documentKind x) wanted) e
   plain-of w le (integer v) a = with-head (eqb 1 w) (integer-end (open-integer a))
   plain-of w le (float bits) a = with-head (eqb 2 w) (let g = open-float a .head in cc)
   plain-of w le (string t) a = with-body (eqb 3 w) (open-string a)
@@ -100,10 +100,10 @@ module _ (s : List ℕ) (at n p : ℕ) (h : headAt s at ≡ Head.At n p) where
 -- the head at a place holds n and ends at p, and k is the number of its kind, by a table of lead bytes that is lent
 pub record HeadRead (leads s : List ℕ) (at n p k : ℕ) : Type 0 where
   pub head : leads ≡ leadTable → headAt s at ≡ Head.At n p
-  pub kind : leads ≡ leadTable → numberOf (kindAt s at) ≡ k
+  pub kind : leads ≡ leadTable → headKind (kindAt s at) ≡ k
 
-pub head-read : (leads s : List ℕ) (at : ℕ) {n p k : ℕ} {h : Head} {kind : Kind} → (leads ≡ leadTable → h ≡ headAt s at) → h ≡ Head.At n p → (leads ≡ leadTable → kind ≡ kindAt s at) → k ≡ numberOf kind → HeadRead leads s at n p k
-head-read leads s at r g rk gk = record { head = λ le. sym (r le) ∙ g; kind = λ le. ap numberOf (sym (rk le)) ∙ sym gk }
+pub head-read : (leads s : List ℕ) (at : ℕ) {n p k : ℕ} {h : Head} {kind : Kind} → (leads ≡ leadTable → h ≡ headAt s at) → h ≡ Head.At n p → (leads ≡ leadTable → kind ≡ kindAt s at) → k ≡ headKind kind → HeadRead leads s at n p k
+head-read leads s at r g rk gk = record { head = λ le. sym (r le) ∙ g; kind = λ le. ap headKind (sym (rk le)) ∙ sym gk }
 
 -- no document has a head that is cut
 pub value-cut : (leads s : List ℕ) (at : ℕ) (f : Document → Bool) {h : Head} → (leads ≡ leadTable → h ≡ headAt s at) → h ≡ Head.Cut → ValueSays leads s f at Typed.Wrong
@@ -111,7 +111,7 @@ value-cut leads s at f r c = record { says = λ le x e a. let d = head-there x a
 
 -- no document has the type 0
 
-some-kind : (x : Document) → kindNumber x ≡ 0 → ⊥
+some-kind : (x : Document) → documentKind x ≡ 0 → ⊥
 some-kind (integer v) h = omega (arith, h)
 some-kind (float v) h = omega (arith, h)
 some-kind (string v) h = omega (arith, h)
@@ -121,13 +121,13 @@ some-kind (map v) h = omega (arith, h)
 
 pub no-kind : (x : Document) → typed (plain 0) x ≡ false
 unfolding typed
-no-kind x = ne-eqb (kindNumber x) 0 (some-kind x)
+no-kind x = ne-eqb (documentKind x) 0 (some-kind x)
 
 pub nothing-says : (leads s : List ℕ) (at : ℕ) (t : FieldType) → t ≡ plain 0 → ValueSays leads s (typed t) at Typed.Wrong
 unfolding typed
 nothing-says leads s at t q = record { says = λ le x e a. rw (q, no-kind x) }
 
-array-not : (f : Documents → Bool) (x : Document) → (kindNumber x ≡ 5 → ⊥) → onArray x f ≡ false
+array-not : (f : Documents → Bool) (x : Document) → (documentKind x ≡ 5 → ⊥) → onArray x f ≡ false
 array-not f (integer v) d = refl
 array-not f (float bits) d = refl
 array-not f (string t) d = refl
@@ -135,7 +135,7 @@ array-not f (binary t) d = refl
 array-not f (array ds) d = absurd (d refl)
 array-not f (map es) d = refl
 
-map-not : (f : Entries → Bool) (x : Document) → (kindNumber x ≡ 6 → ⊥) → onMap x f ≡ false
+map-not : (f : Entries → Bool) (x : Document) → (documentKind x ≡ 6 → ⊥) → onMap x f ≡ false
 map-not f (integer v) d = refl
 map-not f (float bits) d = refl
 map-not f (string t) d = refl
@@ -151,7 +151,7 @@ pub record Items (s : List ℕ) (x : Document) (n p e : ℕ) : Type 0 where
   pub counts : count ds ≡ n
   pub all : AtAll s p ds e
 
-items-of : (s : List ℕ) (at n p e : ℕ) → headAt s at ≡ Head.At n p → (x : Document) → kindNumber x ≡ 5 → At s at x e → Items s x n p e
+items-of : (s : List ℕ) (at n p e : ℕ) → headAt s at ≡ Head.At n p → (x : Document) → documentKind x ≡ 5 → At s at x e → Items s x n p e
 items-of s at n p e h (integer v) q a = absurd (omega (arith, q))
 items-of s at n p e h (float bits) q a = absurd (omega (arith, q))
 items-of s at n p e h (string t) q a = absurd (omega (arith, q))
@@ -170,7 +170,7 @@ pub record MapEntries (s : List ℕ) (x : Document) (n p e : ℕ) : Type 0 where
   pub counts : size es ≡ n
   pub all : AtEntries s p es e
 
-entries-of : (s : List ℕ) (at n p e : ℕ) → headAt s at ≡ Head.At n p → (x : Document) → kindNumber x ≡ 6 → At s at x e → MapEntries s x n p e
+entries-of : (s : List ℕ) (at n p e : ℕ) → headAt s at ≡ Head.At n p → (x : Document) → documentKind x ≡ 6 → At s at x e → MapEntries s x n p e
 entries-of s at n p e h (integer v) q a = absurd (omega (arith, q))
 entries-of s at n p e h (float bits) q a = absurd (omega (arith, q))
 entries-of s at n p e h (string t) q a = absurd (omega (arith, q))
@@ -186,7 +186,7 @@ entries-of s at n p e h (map es) q a =
 -- a value by its head, and by what is said of the values inside
 
 module _ {leads s : List ℕ} {at n p k : ℕ} (r : HeadRead leads s at n p k) where
-  kinds : leads ≡ leadTable → (x : Document) {e : ℕ} → At s at x e → k ≡ kindNumber x
+  kinds : leads ≡ leadTable → (x : Document) {e : ℕ} → At s at x e → k ≡ documentKind x
   kinds le x a = sym (r .kind le) ∙ kind-there x a
 
   pub plain-says : (wanted : ℕ) {v : Typed} → wanted ≤ 4 → v ≡ plainEnd (length s) k wanted n p → ValueSays leads s (typed (plain wanted)) at v
@@ -241,7 +241,7 @@ module _ (s : List ℕ) (at : ℕ) (inside : at < length s) (leads : List ℕ) w
       let one : 1 ≡ moreOf (getD s at 0) + 1 = rw (r .more) in
       plain-says (record {
         head = λ l. sym (head-held s at one refl (omega arith) (sym (r .held)));
-        kind = λ l. ap numberOf (kind-in s at inside ∙ r .kind);
+        kind = λ l. ap headKind (kind-in s at inside ∙ r .kind);
       }) 1 (lit≤ tt) refl
 
   -- a short string
@@ -251,7 +251,7 @@ module _ (s : List ℕ) (at : ℕ) (inside : at < length s) (leads : List ℕ) w
       let one : 1 ≡ moreOf (getD s at 0) + 1 = rw (r .more) in
       plain-says (record {
         head = λ l. sym (head-held s at one refl (omega arith) (e ∙ sym (r .held)));
-        kind = λ l. ap numberOf (kind-in s at inside ∙ r .kind);
+        kind = λ l. ap headKind (kind-in s at inside ∙ r .kind);
       }) 3 (lit≤ tt) (rw (le-leb (at + 1 + n) (length s) le))
 
 -- the values of an array, one after another

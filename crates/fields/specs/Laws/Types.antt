@@ -1,30 +1,16 @@
 -- The tests of types say what the propositions say.
 -- Assumes nothing.
 use mathlib.Core.Path.{_≡_, refl}
-use mathlib.Core.Bool.{Bool, true, false, _&&_}
+use mathlib.Core.Bool.{Bool, true, false}
 use mathlib.Core.Logic.{_↔_}
 use mathlib.Core.Option.{Option, some, none as nothing}
-use Prim.Native.Nat.{ℕ}
-use native.Mathlib.Omega.{arith}
 use lib.Dec.{eqb}
+use Rattle.numbers.specs.Laws.Tests.{clash, and-left, and-right, and-both}
 use borrow.Author.Tests.{eq-eqb, eqb-true}
 use Rattle.messagepack.specs.Document.{Document, Documents, Entries, integer, float, string, binary, array, map, none, item, count}
-use Rattle.fields.specs.Types.{FieldType, Rows, plain, arrayOf, exactly, mapWith, last, row, kindNumber, look, Each, Has, HasType, Fits}
+use Rattle.values.specs.Parts.{look}
+use Rattle.fields.specs.Types.{FieldType, Rows, plain, arrayOf, exactly, mapWith, last, row, documentKind, Each, Has, HasType, Fits}
 use Rattle.fields.specs.Tests.{onValue, isThere, all, have, typed, fitting}
-
-pub clash : {A : Type 0} → false ≡ true → A
-clash e = let z : _≡_ {A = ℕ} 0 1 = cc in absurd (omega arith)
-
-pub and-left : (a b : Bool) → a && b ≡ true → a ≡ true
-and-left true b e = refl
-and-left false b e = e
-
-pub and-right : (a b : Bool) → a && b ≡ true → b ≡ true
-and-right true b e = e
-and-right false b e = clash e
-
-pub and-both : (a b : Bool) → a ≡ true → b ≡ true → a && b ≡ true
-and-both a b e f = rw (e, f)
 
 all-each : (f : Document → Bool) (P : Document → Type 0) → ((d : Document) → f d ≡ true → P d) → (ds : Documents) → all f ds ≡ true → Each P ds
 unfolding all Each
@@ -63,7 +49,7 @@ mutual
   unfolding typed fitting HasType Fits
 
   typed-has : (t : FieldType) (x : Document) → typed t x ≡ true → HasType t x
-  typed-has (plain k) x e = eqb-true (kindNumber x) k e
+  typed-has (plain k) x e = eqb-true (documentKind x) k e
   typed-has (arrayOf t) (array ds) e = record { values = ds; is = refl; each = all-each (typed t) (λ d. HasType t d) (λ d h. typed-has t d h) ds e }
   typed-has (arrayOf t) (integer v) e = clash e
   typed-has (arrayOf t) (float v) e = clash e
@@ -94,7 +80,7 @@ mutual
   unfolding typed fitting HasType Fits
 
   has-typed : (t : FieldType) (x : Document) → HasType t x → typed t x ≡ true
-  has-typed (plain k) x h = eq-eqb (kindNumber x) k h
+  has-typed (plain k) x h = eq-eqb (documentKind x) k h
   has-typed (arrayOf t) x h = rw (h .is) (each-all (typed t) (λ d. HasType t d) (λ d y. has-typed t d y) (h .values) (h .each))
   has-typed (exactly n t) x h = rw (h .is, eq-eqb (count (h .values)) n (h .many)) (each-all (typed t) (λ d. HasType t d) (λ d y. has-typed t d y) (h .values) (h .each))
   has-typed (mapWith rows) x h = rw (h .is, has-have rows (h .entries) (h .has)) (fits-fitting rows (h .entries) (h .fits))

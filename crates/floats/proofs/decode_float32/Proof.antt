@@ -1,28 +1,29 @@
 -- By the header, then by the kind: the table's rows say which forms a kind has (`fixed-row`, `float-row`).
 use mathlib.Core.Path.{_≡_, refl, sym, ap, ap₂, subst, _∙_}
-use mathlib.Core.Bool.{Bool, true, false}
-use mathlib.Core.List.{List, [], _∷_}
-use Prim.Native.Nat.{ℕ}
+use mathlib.Core.Bool.{Bool, true}
+use mathlib.Core.List.{[], _∷_}
+use Prim.Native.Nat.{ℕ, _-_}
 use native.Mathlib.Omega.{arith}
-use lib.ListN.{drop}
+use lib.ListN.{length, take, drop}
 use borrow.Author.Needs.{needs}
 use types.Run.{OneOf, miss}
 use denote.Enum.Declared.{tagOf}
 use Rattle.numbers.specs.BigEndian.{unsignedAt}
-use Rattle.codecs.specs.declared.Size.the-variants.{Four}
-use Rattle.codecs.specs.declared.Form.{Form}
-use Rattle.codecs.specs.declared.Form.the-variants.{Plain}
-use Rattle.codecs.specs.Payload.{valuesIn}
+use Rattle.steps.specs.declared.Form.{Form}
 use Rattle.columns.specs.declared.Kind.{Kind}
 use Rattle.columns.specs.declared.Kind.the-variants as kind
 use Rattle.columns.proofs.Kind.{the-type}
 use Rattle.columns.specs.declared.Codec.the-variants.{Known}
 use Rattle.columns.specs.Table.{suits}
-use Rattle.columns.specs.Decode.{Decoding, judgedValues}
+use Rattle.columns.specs.declared.Header.the-variants.{Good}
+use Rattle.columns.specs.Header.{headerSize}
+use Rattle.columns.specs.Decode.{Decoding, judgedPayload}
+use Rattle.columns.specs.Laws.Buffer.{Answers, answers-refused}
+use Rattle.floats.specs.Calls.{exactly, floatBits}
 use Rattle.columns.specs.declared.Wanted.the-variants.{Real}
 use Rattle.columns.specs.Laws.Table.{Passes, header-passes}
+use Rattle.columns.specs.Laws.Decode.{decode-refused, decode-good}
 use Rattle.floats.specs.Laws.Table.{fixed-row, float-row}
-use Rattle.floats.specs.Laws.Calls.{Answers, answer-refused, decode-refused, decode-good, payload-is}
 use Rattle.floats.proofs.decode_float32.Statement.{statement}
 use Rattle.floats.proofs.decode_float32.Tie as tie
 
@@ -64,16 +65,16 @@ part-kept-in-start c = passed (c .before .before) .0
 returns : tie.Need-returns
 returns c =
     let a = c .before .before .before .before .before .before .args in
-    answer-refused _ (c .before .r .given .0 .0) (a .buffer .now) (decode-refused Real (a .column .now) (c .before .r .given .0 .0) (sym (c .before .before .before .read-header .ensures) ∙ c .before .r .given .1))
+    let g = c .before .r .given in
+    answers-refused floatBits _ (a .buffer .now) (g .0 .0) (ap exactly (decode-refused Real (a .column .now) (g .0 .0) (sym (c .before .before .before .read-header .ensures) ∙ g .1)))
 
 returns-2 : tie.Need-returns-2
 returns-2 c =
     let a = c .before .before .before .before .before .before .before .before .before .before .before .before .before .args in
     let k = c .before .before .before .before .before .before .before .before .n .given .0 in
     let e = decode-good Real (a .column .now) (k .0) (k .1 .0) (k .1 .1 .0) (k .1 .1 .1 .0) (k .1 .1 .1 .1 .0) (sym (c .before .before .before .before .before .before .before .before .before .before .read-header .ensures) ∙ c .before .before .before .before .before .before .before .before .n .given .1) in
-    subst (λ (x : Decoding). Answers x (c .before .before .quotients-in .result) (a .buffer .now) (c .before .before .quotients-in .last .1 .1 .1 .1 .1 .0))
-    (ap (λ (s : List ℕ). judgedValues (k .0) (k .1 .0) kind.FixedPoint (k .1 .1 .1 .0) (k .1 .1 .1 .1 .0) (valuesIn (k .1 .1 .1 .0) s)) (payload-is (a .column .now))
-    ∙ ap (λ (x : Kind). judgedValues (k .0) (k .1 .0) x (k .1 .1 .1 .0) (k .1 .1 .1 .1 .0) (valuesIn (k .1 .1 .1 .0) (drop 12 (a .column .now)))) (sym (c .before .before .before .before .before .enum-told .given .1)) ∙ sym e)
+    subst (λ (x : Decoding). Answers floatBits (exactly x) (a .buffer .now) (c .before .before .quotients-in .result) (c .before .before .quotients-in .last .1 .1 .1 .1 .1 .0))
+    (ap (λ (x : Kind). judgedPayload (Good (k .0) (k .1 .0) x (k .1 .1 .1 .0) (k .1 .1 .1 .1 .0)) (take (length (a .column .now) - headerSize) (drop headerSize (a .column .now)))) (sym (c .before .before .before .before .before .enum-told .given .1)) ∙ sym e)
     (c .before .before .quotients-in .ensures)
 
 returns-3 : tie.Need-returns-3
@@ -84,10 +85,9 @@ returns-3 c =
     let t = other (k .1 .1 .0) (p .2) (c .before .before .before .before .before .match2 .keys2) in
     let w = float-row (unsignedAt 4 (a .column .now) 0) (k .1 .1 .1 .0) (k .1 .1 .1 .1 .0) (p .3 .0) (p .3 .1 ∙ ap (λ (x : Kind). Known x (k .1 .1 .1 .0) (k .1 .1 .1 .1 .0) (p .3 .0)) t) in
     let e = decode-good Real (a .column .now) (k .0) (k .1 .0) (k .1 .1 .0) (k .1 .1 .1 .0) (k .1 .1 .1 .1 .0) (sym (c .before .before .before .before .before .before .before .before .before .read-header .ensures) ∙ c .before .before .before .before .before .before .before .n .given .1) in
-    subst (λ (x : Decoding). Answers x (c .before .before .kept-in .result) (a .buffer .now) (c .before .before .kept-in .last .1 .1 .1 .0))
-    (ap (λ (s : List ℕ). judgedValues (k .0) (k .1 .0) kind.Float32 (Plain Four) false (valuesIn (Plain Four) s)) (payload-is (a .column .now))
-    ∙ ap₂ (λ (x : Form) (d : Bool). judgedValues (k .0) (k .1 .0) kind.Float32 x d (valuesIn x (drop 12 (a .column .now)))) (sym (w .0)) (sym (w .1))
-    ∙ ap (λ (x : Kind). judgedValues (k .0) (k .1 .0) x (k .1 .1 .1 .0) (k .1 .1 .1 .1 .0) (valuesIn (k .1 .1 .1 .0) (drop 12 (a .column .now)))) (sym t) ∙ sym e)
+    subst (λ (x : Decoding). Answers floatBits (exactly x) (a .buffer .now) (c .before .before .kept-in .result) (c .before .before .kept-in .last .1 .1 .1 .0))
+    (ap₂ (λ (x : Form) (d : Bool). judgedPayload (Good (k .0) (k .1 .0) kind.Float32 x d) (take (length (a .column .now) - headerSize) (drop headerSize (a .column .now)))) (sym (w .0)) (sym (w .1))
+    ∙ ap (λ (x : Kind). judgedPayload (Good (k .0) (k .1 .0) x (k .1 .1 .1 .0) (k .1 .1 .1 .1 .0)) (take (length (a .column .now) - headerSize) (drop headerSize (a .column .now)))) (sym t) ∙ sym e)
     (c .before .before .kept-in .ensures)
 
 pub decode-float32-spec : {M : Type 1} → statement M

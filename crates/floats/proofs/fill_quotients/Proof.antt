@@ -9,7 +9,7 @@ use mir.Facts.{toZ-ofZ}
 use borrow.Author.Needs.{needs}
 use Rattle.payloads.specs.Results.{Filled}
 use Rattle.payloads.specs.Laws.Writing.{filled-start, filled-next}
-use Rattle.floats.specs.Calls.{bitsBy}
+use Rattle.floats.specs.Steps.{bitsBy}
 use Rattle.floats.specs.Laws.Quotient.{run-exact}
 use Rattle.floats.proofs.fill_quotients.Statement.{statement}
 use Rattle.floats.proofs.fill_quotients.Tie as tie

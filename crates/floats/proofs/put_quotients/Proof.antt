@@ -8,14 +8,14 @@ use lib.Dec.{T}
 use lib.Ieee.{Float}
 use lib.Ieee.Positive.{positive}
 use borrow.Author.Needs.{needs}
-use Rattle.codecs.specs.declared.Size.the-variants.{One, Two, Four}
-use Rattle.codecs.specs.declared.Range.{Range}
-use Rattle.codecs.specs.declared.Form.{Form}
-use Rattle.codecs.specs.declared.Form.the-variants.{Plain, Packed, Runs, Names}
-use Rattle.payloads.specs.Results.{HasRoom, HasResults}
+use borrow.Author.Tests.{not-true}
+use Rattle.steps.specs.declared.Size.the-variants.{One, Two, Four}
+use Rattle.steps.specs.declared.Range.{Range}
+use Rattle.steps.specs.declared.Form.{Form}
+use Rattle.steps.specs.declared.Form.the-variants.{Plain, Packed, Runs, Names}
+use Rattle.payloads.specs.Results.{HasRoom, HasResults, Wrote, ResultsExact}
 use Rattle.payloads.specs.Scan.{judgesExact}
-use Rattle.floats.specs.Calls.{bitsBy, Wrote, ResultsExact}
-use Rattle.floats.specs.Laws.Tests.{not-true}
+use Rattle.floats.specs.Steps.{bitsBy}
 use Rattle.floats.proofs.put_quotients.Statement.{statement}
 use Rattle.floats.proofs.put_quotients.Tie as tie
 

@@ -1,20 +1,22 @@
--- 18 and 19 by the scan, 27 by its answer and by the divisor (`both`), then 25, and the quotients (`answer-count`).
+-- 18 and 19 by the scan, 27 by its answer and by the divisor (`both`), then 25, and the quotients (`holds-done`).
 use mathlib.Core.Path.{_≡_, refl, sym, ap, _∙_}
-use mathlib.Core.Bool.{Bool, true, false, not, _&&_}
+use mathlib.Core.Bool.{Bool, true, false, not, _&&_, and-eq-true-iff}
 use native.Mathlib.Omega.{arith}
 use lib.IntN.{pos}
 use borrow.Author.Needs.{needs}
-use Rattle.numbers.specs.Laws.BigEndian.{bytes-of}
-use Rattle.codecs.specs.Delta.{sumsIf}
-use Rattle.codecs.specs.Payload.{valuesIn}
+use borrow.Author.Tests.{not-true, not-false}
+use Rattle.refusal.specs.Table.{notExact}
+use Rattle.steps.specs.Delta.{sumsIf}
 use Rattle.columns.specs.declared.Kind.the-variants as kind
-use Rattle.columns.specs.Decode.{judgedValues}
-use Rattle.payloads.specs.Held.{exact, allExact}
-use Rattle.payloads.specs.Laws.Judged.{Holds, scan-refused, scan-fine}
-use Rattle.floats.specs.Laws.Tests.{and-both, not-true, not-false}
+use Rattle.columns.specs.declared.Header.the-variants.{Good}
+use Rattle.columns.specs.Decode.{column, judgedPayload}
+use Rattle.columns.specs.Laws.Buffer.{answers-refused}
+use Rattle.payloads.specs.Laws.Judged.{Holds, scan-refused, scan-fine, holds-small, holds-done}
+use Rattle.payloads.specs.Exact.{exact, allExact}
 use Rattle.floats.specs.Laws.Table.{exact-names}
 use Rattle.floats.specs.Laws.Quotient.{exact-in, divisor-positive}
-use Rattle.floats.specs.Laws.Calls.{holds-exact, all-results, answer-refused, answer-inexact, answer-short, answer-count}
+use Rattle.floats.specs.Calls.{exactly, floatBits}
+use Rattle.floats.specs.Laws.Calls.{holds-exact, all-results, exactly-refused, exactly-column}
 use Rattle.floats.proofs.quotients_in.Statement.{statement}
 use Rattle.floats.proofs.quotients_in.Tie as tie
 
@@ -25,11 +27,10 @@ found : (c : tie.After-exact)
 found c =
     let a = c .before .before .before .before .before in
     let k = c .exact .given .0 in
-    let b = bytes-of (a .args .payload .now) (λ i. omega (arith, c .before .before .before .before .shared-slice-known .given i)) in
-    let g = scan-fine (a .args .n) (a .args .m) kind.FixedPoint (a .args .form) (a .args .delta) (a .args .payload .now) (exact-names (a .args .form) (a .args .delta) (a .pre .0)) b (k .0) (sym (c .before .before .scan .ensures) ∙ c .exact .given .1) in
+    let g = scan-fine (a .args .n) (a .args .m) kind.FixedPoint (a .args .form) (a .args .delta) (a .args .payload .now) (exact-names (a .args .form) (a .args .delta) (a .pre .0)) (k .0) (sym (c .before .before .scan .ensures) ∙ c .exact .given .1) in
     (g .0, holds-exact (a .args .n) (a .args .m) kind.FixedPoint (a .args .form) (a .args .delta) (a .args .payload .now) (g .0) (k .0) (g .1) (a .pre .0))
 
--- and so are cells and divisor
+-- whether cells and divisor are exact
 both : (c : tie.After-are-exact) → (allExact (sumsIf (c .before .before .before .before .before .before .before .args .delta) (found (c .before .before) .0 .0)) && exact (pos (c .before .before .before .before .before .before .before .args .m))) ≡ c .are-exact .result
 both c = ap (λ (x : Bool). x && exact (pos (c .before .before .before .before .before .before .before .args .m))) (found (c .before .before) .1) ∙ sym (c .are-exact .ensures)
 
@@ -38,17 +39,24 @@ fine c = ap not (both (c .before)) ∙ c .if1 .left
 
 -- each of them
 parts : (c : tie.Else1) → (allExact (sumsIf (c .before .before .before .before .before .before .before .before .args .delta) (found (c .before .before .before) .0 .0)) ≡ true) × (exact (pos (c .before .before .before .before .before .before .before .before .args .m)) ≡ true)
-parts c = and-both _ _ (both (c .before) ∙ not-false _ (c .if1 .left))
+parts c = and-eq-true-iff _ _ .0 (both (c .before) ∙ not-false _ (c .if1 .left))
 
 returns : tie.Need-returns
 returns c =
     let a = c .before .before .before .before .before .before .before .before in
-    answer-inexact (a .args .n) (a .args .m) kind.FixedPoint (a .args .form) (a .args .delta) (a .args .payload .now) (found (c .before .before .before) .0) (a .args .buffer .now) refl (both (c .before) ∙ not-true _ (c .if1 .taken))
+    let h = found (c .before .before .before) .0 in
+    answers-refused floatBits (exactly (judgedPayload (Good (a .args .n) (a .args .m) kind.FixedPoint (a .args .form) (a .args .delta)) (a .args .payload .now))) (a .args .buffer .now) notExact (exactly-refused (a .args .n) (a .args .m) kind.FixedPoint (a .args .form) (a .args .delta) (a .args .payload .now) h refl (both (c .before) ∙ not-true _ (c .if1 .taken)))
+
+-- the column, where all is exact
+column-is : (c : tie.Else1) → exactly (judgedPayload (Good (c .before .before .before .before .before .before .before .before .args .n) (c .before .before .before .before .before .before .before .before .args .m) kind.FixedPoint (c .before .before .before .before .before .before .before .before .args .form) (c .before .before .before .before .before .before .before .before .args .delta)) (c .before .before .before .before .before .before .before .before .args .payload .now)) ≡ column kind.FixedPoint (c .before .before .before .before .before .before .before .before .args .m) (sumsIf (c .before .before .before .before .before .before .before .before .args .delta) (found (c .before .before .before) .0 .0))
+column-is c =
+    let a = c .before .before .before .before .before .before .before .before in
+    exactly-column (a .args .n) (a .args .m) kind.FixedPoint (a .args .form) (a .args .delta) (a .args .payload .now) (found (c .before .before .before) .0) (fine c)
 
 returns-2 : tie.Need-returns-2
 returns-2 c =
     let a = c .before .before .before .before .before .before .before .before .before in
-    answer-short (a .args .n) (a .args .m) kind.FixedPoint (a .args .form) (a .args .delta) (a .args .payload .now) (found (c .before .before .before .before) .0) (a .args .buffer .now) (fine (c .before)) (c .if2 .taken)
+    holds-small floatBits (a .args .n) (a .args .m) kind.FixedPoint (a .args .form) (a .args .delta) (a .args .payload .now) (found (c .before .before .before .before) .0) (exactly (judgedPayload (Good (a .args .n) (a .args .m) kind.FixedPoint (a .args .form) (a .args .delta)) (a .args .payload .now))) (column-is (c .before)) (a .args .buffer .now) (c .if2 .taken)
 
 int-to-float-put-quotients : tie.Need-int-to-float-put-quotients
 int-to-float-put-quotients c = exact-in (pos (c .before .before .before .before .before .before .before .before .before .before .args .m)) (parts (c .before .before) .1)
@@ -68,13 +76,13 @@ put-quotients-requires c κs =
 returns-3 : tie.Need-returns-3
 returns-3 c =
     let a = c .before .before .before .before .before .before in
-    answer-refused (judgedValues (a .args .n) (a .args .m) kind.FixedPoint (a .args .form) (a .args .delta) (valuesIn (a .args .form) (a .args .payload .now))) (c .before .r .given .0 .0) (a .args .buffer .now)
-    (scan-refused (a .args .n) (a .args .m) kind.FixedPoint (a .args .form) (a .args .delta) (a .args .payload .now) (c .before .r .given .0 .0) (sym (c .before .before .before .scan .ensures) ∙ c .before .r .given .1))
+    let r = c .before .r .given in
+    answers-refused floatBits (exactly (judgedPayload (Good (a .args .n) (a .args .m) kind.FixedPoint (a .args .form) (a .args .delta)) (a .args .payload .now))) (a .args .buffer .now) (r .0 .0) (ap exactly (scan-refused (a .args .n) (a .args .m) kind.FixedPoint (a .args .form) (a .args .delta) (a .args .payload .now) (r .0 .0) (sym (c .before .before .before .scan .ensures) ∙ r .1)))
 
 returns-4 : tie.Need-returns-4
 returns-4 c =
     let a = c .before .before .before .before .before .before .before .before .before .before .before .before .before .before in
-    answer-count (a .args .n) (a .args .m) kind.FixedPoint (a .args .form) (a .args .delta) (a .args .payload .now) (found (c .before .before .before .before .before .before .before .before .before) .0) (a .args .buffer .now) (fine (c .before .before .before .before .before .before)) (c .before .before .put-quotients .last .1 .1 .1 .1 .1 .0) (c .before .before .before .before .before .if2 .left) (c .before .before .put-quotients .ensures)
+    holds-done floatBits (a .args .n) (a .args .m) kind.FixedPoint (a .args .form) (a .args .delta) (a .args .payload .now) (found (c .before .before .before .before .before .before .before .before .before) .0) (exactly (judgedPayload (Good (a .args .n) (a .args .m) kind.FixedPoint (a .args .form) (a .args .delta)) (a .args .payload .now))) (column-is (c .before .before .before .before .before .before)) (a .args .buffer .now) (c .before .before .before .before .before .if2 .left) (c .before .before .put-quotients .last .1 .1 .1 .1 .1 .0) (c .before .before .put-quotients .ensures)
 
 pub quotients-in-spec : {M : Type 1} → statement M
 quotients-in-spec =

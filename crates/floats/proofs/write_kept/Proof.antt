@@ -9,9 +9,9 @@ use mir.Syntax.{w32}
 use mir.Facts.{ofZ-toZ}
 use borrow.Author.Needs.{needs}
 use Rattle.numbers.specs.BigEndian.{signedAt, unsignedAt}
-use Rattle.codecs.specs.declared.Size.the-variants.{Four}
-use Rattle.codecs.specs.declared.Form.the-variants.{Plain}
-use Rattle.payloads.specs.Items.{readIn}
+use Rattle.steps.specs.declared.Size.the-variants.{Four}
+use Rattle.steps.specs.declared.Form.the-variants.{Plain}
+use Rattle.steps.specs.Payload.{readIn}
 use Rattle.payloads.specs.Results.{HasRoom}
 use Rattle.payloads.specs.Laws.Items.{plain-run, plain-end}
 use Rattle.payloads.specs.Laws.Writing.{Written, written-start, written-length, written-room, written-run, written-end}

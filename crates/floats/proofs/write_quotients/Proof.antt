@@ -6,14 +6,13 @@ use lib.ListN.{length, drop}
 use mir.Syntax.{w32}
 use mir.Val.{toZ, ofZ}
 use mir.Facts.{toZ-ofZ}
+use Rattle.steps.specs.Payload.{readIn}
 use borrow.Author.Needs.{needs}
 use Rattle.payloads.specs.declared.Item.the-variants.{Run}
-use Rattle.payloads.specs.Items.{readIn}
 use Rattle.payloads.specs.Results.{HasRoom}
 use Rattle.payloads.specs.Laws.Items.{Gives, item-read}
-use Rattle.payloads.specs.Laws.Writing.{Written, written-start, written-length, written-room, written-run, written-end, written-wrong}
-use Rattle.floats.specs.Calls.{bitsBy}
-use Rattle.floats.specs.Laws.Calls.{written-exact}
+use Rattle.payloads.specs.Laws.Writing.{Written, written-start, written-length, written-room, written-run, written-exact, written-end, written-wrong}
+use Rattle.floats.specs.Steps.{bitsBy}
 use Rattle.floats.proofs.write_quotients.Statement.{statement}
 use Rattle.floats.proofs.write_quotients.Tie as tie
 
@@ -43,7 +42,7 @@ fill-quotients-requires c κs =
     let g = read (c .before .before) in
     let v = toZ-ofZ {w = w32} {z = k .0} (record { sfits = c .before .known-told .given .0 .1 }) in (
       written-room (bitsBy (a .args .divisor)) (a .args .form) (a .args .delta) (a .args .payload .now) (a .args .buffer .now) (a .pre .0) (readIn (a .args .form) (drop (p .at) (a .args .payload .now))) (p .o) (p .buffer) (toZ w32 (p .sum)) w (k .0) (k .1 .0) (readIn (a .args .form) (drop (k .1 .1 .0) (a .args .payload .now))) (g .3),
-      rw v (written-exact (a .args .form) (a .args .delta) (a .args .payload .now) (p .at) (k .1 .1 .0) (k .1 .0) (w .0) (a .pre .0 .0) (toZ w32 (p .sum)) (k .0) (a .pre .1) (a .pre .0 .1) (w .1) (w .3) (g .3)),
+      rw v (written-exact (bitsBy (a .args .divisor)) (a .args .form) (a .args .delta) (a .args .payload .now) (a .args .buffer .now) (a .pre .0) (readIn (a .args .form) (drop (p .at) (a .args .payload .now))) (p .o) (p .buffer) (toZ w32 (p .sum)) w (k .0) (k .1 .0) (readIn (a .args .form) (drop (k .1 .1 .0) (a .args .payload .now))) (g .3) (a .pre .1)),
       a .pre .2,
     )
 

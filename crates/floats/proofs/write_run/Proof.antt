@@ -1,21 +1,15 @@
 -- Four floats that are the run and more (`covered-four`), or the run alone.
-use mathlib.Core.Path.{sym, _∙_}
 use Prim.Native.Nat.{_≤_}
 use native.Mathlib.Omega.{arith}
 use lib.ListN.{length-set}
-use lib.Dec.{leb}
 use borrow.Author.Needs.{needs}
-use borrow.Author.Tests.{leb-true}
-use Rattle.payloads.specs.Laws.Runs.{covered-four}
-use Rattle.floats.specs.Laws.Tests.{and-both}
+use Rattle.payloads.specs.Laws.Runs.{short-run, covered-four}
 use Rattle.floats.proofs.write_run.Statement.{statement}
 use Rattle.floats.proofs.write_run.Tie as tie
 
 -- a run of at most four where four are left
 short : (c : tie.Then2) → (c .before .before .before .before .args .count ≤ 4) × (4 ≤ c .before .before .before .before .args .left)
-short c =
-    let b = and-both (leb (c .before .before .before .before .args .count) 4) (leb 4 (c .before .before .before .before .args .left)) (sym (c .before .is-short .ensures) ∙ c .if2 .taken) in
-    (leb-true (c .before .before .before .before .args .count) 4 (b .0), leb-true 4 (c .before .before .before .before .args .left) (b .1))
+short c = let a = c .before .before .before .before .args in short-run (a .count) (a .left) (c .before .is-short .result) (c .before .is-short .ensures) (c .if2 .taken)
 
 returns : tie.Need-returns
 returns c = let w = c .before .before .fill-bits .ensures in let p = c .before .before .before .before .before .before .pre .0 in (w .0, w .1, omega (arith, w .2), w .3)

@@ -1,5 +1,5 @@
 -- The runs before the place stand at the buffer's start, and beyond the results nothing has changed (`begun-run`); the value of a run
--- is exact since all results are (`written-exact`).
+-- is exact since all results are (`next-exact`).
 use mathlib.Core.Path.{_≡_, refl, ap, _∙_}
 use mathlib.Core.Bool.{false}
 use mathlib.Core.Option.{Option·map}
@@ -14,16 +14,16 @@ use mir.Val.{toZ, ofZ}
 use mir.Facts.{toZ-ofZ}
 use borrow.Author.Needs.{needs}
 use Rattle.numbers.specs.BigEndian.{signedAt}
-use Rattle.codecs.specs.declared.Range.{Range}
-use Rattle.codecs.specs.declared.Form.the-variants.{Runs}
-use Rattle.payloads.specs.Items.{readIn}
-use Rattle.payloads.specs.Results.{lastFrom, HasResults}
+use Rattle.steps.specs.declared.Range.{Range}
+use Rattle.steps.specs.declared.Form.the-variants.{Runs}
+use Rattle.steps.specs.Delta.{lastFrom}
+use Rattle.steps.specs.Payload.{readIn}
+use Rattle.payloads.specs.Results.{HasResults}
 use Rattle.payloads.specs.Laws.Items.{runs-end}
-use Rattle.payloads.specs.Laws.Parts.{part-number}
-use Rattle.payloads.specs.Laws.Runs.{run-here, Begun, begun-start, begun-rest, begun-room, begun-run, begun-end}
-use Rattle.floats.specs.Calls.{bitsBy}
+use Rattle.payloads.specs.Laws.Writing.{next-exact}
+use Rattle.payloads.specs.Laws.Runs.{run-here, Begun, begun-start, begun-rest, begun-room, begun-run, begun-end, part-number}
+use Rattle.floats.specs.Steps.{bitsBy}
 use Rattle.floats.specs.Laws.Quotient.{run-exact}
-use Rattle.floats.specs.Laws.Calls.{written-exact}
 use Rattle.floats.proofs.write_runs.Statement.{statement}
 use Rattle.floats.proofs.write_runs.Tie as tie
 
@@ -59,7 +59,7 @@ quotient-bits-requires c κs =
     let w = p .inv .1 (a .args .range) (a .pre .0) (a .pre .1) in
     let q = next c (a .args .range) (a .pre .0) in
     let s = a .args .payload .now in
-    let e = written-exact (Runs (a .args .range)) false (a .args .payload .now) (p .at) (p .at + 8) (ofZ w32 (signedAt w32 (a .args .payload .now) (p .at + 4))) (w .0) (a .pre .0 .0) (lastFrom false (pos 0) (w .0)) (signedAt w32 (a .args .payload .now) (p .at)) (a .pre .2) (a .pre .0 .1) (w .1) refl (q .1) in
+    let e = next-exact (Runs (a .args .range)) false (a .args .payload .now) (w .0) (lastFrom false (pos 0) (w .0)) (signedAt w32 (a .args .payload .now) (p .at)) (ofZ w32 (signedAt w32 (a .args .payload .now) (p .at + 4))) (readIn (Runs (a .args .range)) (drop (p .at) (a .args .payload .now))) (readIn (Runs (a .args .range)) (drop (p .at + 8) (a .args .payload .now))) (a .pre .0 .0) (a .pre .2) (a .pre .0 .1) (w .1) refl (q .1) in
     (rw (value c) (run-exact false (lastFrom false (pos 0) (w .0)) (signedAt w32 (a .args .payload .now) (p .at)) (ofZ w32 (signedAt w32 (a .args .payload .now) (p .at + 4))) 0 e (q .0)), a .pre .3)
 
 -- its count

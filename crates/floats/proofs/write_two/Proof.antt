@@ -6,21 +6,19 @@ use Prim.Native.Nat.{_+_, _-_, _≤_}
 use native.Mathlib.Omega.{arith}
 use lib.ListN.{length}
 use mir.Syntax.{w16, w32}
-use mir.Val.{toZ, ofZ, SFits}
+use mir.Val.{toZ, ofZ}
 use mir.Facts.{toZ-ofZ}
 use borrow.Author.Needs.{needs}
+use borrow.Author.Tests.{not-true, not-false}
 use Rattle.numbers.specs.BigEndian.{signedAt}
-use Rattle.numbers.specs.Laws.BigEndian.{bytes-of}
-use Rattle.codecs.specs.declared.Size.the-variants.{Two}
-use Rattle.codecs.specs.declared.Form.the-variants.{Packed}
-use Rattle.codecs.specs.Delta.{plusDelta}
-use Rattle.codecs.specs.Packing.{isLimit}
-use Rattle.payloads.specs.Held.{exact, allExact}
+use Rattle.steps.specs.declared.Size.the-variants.{Two}
+use Rattle.steps.specs.declared.Form.the-variants.{Packed}
+use Rattle.steps.specs.Delta.{plusDelta}
+use Rattle.steps.specs.Packing.{isLimit}
 use Rattle.payloads.specs.Results.{HasRoom}
-use Rattle.payloads.specs.Laws.Scan.{results-if}
-use Rattle.payloads.specs.Laws.Totals.{two-fits, WrittenTotal, total-written-start, total-written-length, total-written-more, total-written-room, total-written-exact, total-written-done, total-written-end}
-use Rattle.floats.specs.Calls.{bitsBy}
-use Rattle.floats.specs.Laws.Tests.{not-true, not-false}
+use Rattle.payloads.specs.Laws.Totals.{WrittenTotal, total-written-start, total-written-length, total-written-more, total-written-room, total-written-exact, total-written-done, total-written-end}
+use Rattle.payloads.specs.Exact.{exact}
+use Rattle.floats.specs.Steps.{bitsBy}
 use Rattle.floats.proofs.write_two.Statement.{statement}
 use Rattle.floats.proofs.write_two.Tie as tie
 
@@ -38,9 +36,6 @@ loop-holds c = let a = c .before .before .args in (omega arith, (λ room. total-
 number : (c : tie.After-is-limit Inv-loop μ-loop) → toZ w32 (ofZ w32 (c .before .before .number-at .result)) ≡ signedAt w16 (c .before .before .before .before .before .before .before .args .payload .now) (c .before .before .before .before .loop .i)
 number c = toZ-ofZ {w = w32} (record { sfits = c .before .before .number-at .ok }) ∙ c .before .before .number-at .ensures
 
-fits : (c : tie.After-is-limit Inv-loop μ-loop) → SFits w16 (signedAt w16 (c .before .before .before .before .before .before .before .args .payload .now) (c .before .before .before .before .loop .i))
-fits c = two-fits (c .before .before .before .before .before .before .before .args .payload .now) (c .before .before .before .before .loop .i) (bytes-of (c .before .before .before .before .before .before .before .args .payload .now) (λ j. omega (arith, c .before .before .before .before .before .before .shared-slice-known .given j))) (omega arith)
-
 total : (c : tie.After-is-limit Inv-loop μ-loop) → toZ w32 (ofZ w32 (c .before .add-delta .result)) ≡ plusDelta (toZ w32 (c .before .before .before .before .loop .total)) (signedAt w16 (c .before .before .before .before .before .before .before .args .payload .now) (c .before .before .before .before .loop .i))
 total c = toZ-ofZ {w = w32} (record { sfits = c .before .add-delta .ok }) ∙ c .before .add-delta .ensures ∙ ap (plusDelta (toZ w32 (c .before .before .before .before .loop .total))) (number c)
 
@@ -55,10 +50,9 @@ has-room c =
     let p = c .before .before .before .before .before .loop in
     let w = p .inv .1 (a .pre .0) in
     let l = limit (c .before) ∙ not-true _ (c .if1 .taken) in (
-      total-written-room (bitsBy (a .args .divisor)) (a .args .delta) (a .args .payload .now) (a .args .buffer .now) (a .pre .0) (p .i) (toZ w32 (p .total)) (p .o) (p .buffer) w (omega arith) (fits (c .before)) (toZ w32 (ofZ w32 (c .before .before .add-delta .result))) (total (c .before)) l,
+      total-written-room (bitsBy (a .args .divisor)) (a .args .delta) (a .args .payload .now) (a .args .buffer .now) (a .pre .0) (p .i) (toZ w32 (p .total)) (p .o) (p .buffer) w (omega arith) (toZ w32 (ofZ w32 (c .before .before .add-delta .result))) (total (c .before)) l,
       total-written-length (bitsBy (a .args .divisor)) (a .args .delta) (a .args .payload .now) (a .args .buffer .now) (a .pre .0) (p .i) (toZ w32 (p .total)) (p .o) (p .buffer) w,
-      total-written-exact (bitsBy (a .args .divisor)) (a .args .delta) (a .args .payload .now) (a .args .buffer .now) (a .pre .0) (p .i) (toZ w32 (p .total)) (p .o) (p .buffer) w (omega arith) (fits (c .before)) (toZ w32 (ofZ w32 (c .before .before .add-delta .result))) (total (c .before)) l
-          (λ t e. ap allExact (sym (results-if (a .args .delta) t)) ∙ a .pre .1 t e),
+      total-written-exact (bitsBy (a .args .divisor)) (a .args .delta) (a .args .payload .now) (a .args .buffer .now) (a .pre .0) (p .i) (toZ w32 (p .total)) (p .o) (p .buffer) w (omega arith) (toZ w32 (ofZ w32 (c .before .before .add-delta .result))) (total (c .before)) l (a .pre .1),
     )
 
 loop-again : tie.Need-loop-again Inv-loop μ-loop
@@ -68,7 +62,7 @@ loop-again c =
     let o = toZ-ofZ {w = w32} {z = c .before .before .before .before .add-delta .result} (record { sfits = c .before .before .before .before .add-delta .ok }) in
     let t = toZ-ofZ {w = w32} (record { sfits = c .total-after .ok }) ∙ c .total-after .ensures in (
       omega arith,
-      (λ room. rw t (total-written-done (bitsBy (a .args .divisor)) (a .args .delta) (a .args .payload .now) (a .args .buffer .now) room (p .i) (toZ w32 (p .total)) (p .o) (p .buffer) (p .inv .1 room) (omega arith) (fits (c .before .before .before)) (toZ w32 (ofZ w32 (c .before .before .before .before .add-delta .result))) (total (c .before .before .before)) (limit (c .before .before .before) ∙ not-true _ (c .before .before .if1 .taken))
+      (λ room. rw t (total-written-done (bitsBy (a .args .divisor)) (a .args .delta) (a .args .payload .now) (a .args .buffer .now) room (p .i) (toZ w32 (p .total)) (p .o) (p .buffer) (p .inv .1 room) (omega arith) (toZ w32 (ofZ w32 (c .before .before .before .before .add-delta .result))) (total (c .before .before .before)) (limit (c .before .before .before) ∙ not-true _ (c .before .before .if1 .taken))
           (rw o (record { sfits = c .before .before .before .before .add-delta .ok })) (c .before .quotient-bits .result) 0 (c .before .quotient-bits .ensures))),
     )
 
@@ -77,7 +71,7 @@ loop-again-2 c =
     let a = c .before .before .before .before .before .before .before .before in
     let p = c .before .before .before .before .before .loop in (
       omega arith,
-      (λ room. total-written-more (bitsBy (a .args .divisor)) (a .args .delta) (a .args .payload .now) (a .args .buffer .now) room (p .i) (toZ w32 (p .total)) (p .o) (p .buffer) (p .inv .1 room) (omega arith) (fits (c .before)) (toZ w32 (ofZ w32 (c .before .before .add-delta .result))) (total (c .before)) (limit (c .before) ∙ not-false _ (c .if1 .left))),
+      (λ room. total-written-more (bitsBy (a .args .divisor)) (a .args .delta) (a .args .payload .now) (a .args .buffer .now) room (p .i) (toZ w32 (p .total)) (p .o) (p .buffer) (p .inv .1 room) (omega arith) (toZ w32 (ofZ w32 (c .before .before .add-delta .result))) (total (c .before)) (limit (c .before) ∙ not-false _ (c .if1 .left))),
     )
 
 same-length : tie.Need-same-length Inv-loop μ-loop

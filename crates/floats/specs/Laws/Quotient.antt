@@ -1,7 +1,6 @@
 -- Laws of quotients: which numbers may be converted, and that no quotient is a NaN. Assumes nothing.
 use mathlib.Core.Path.{_≡_, refl}
-use mathlib.Core.Bool.{Bool, true, false, cond, not, _&&_}
-use mathlib.Core.List.{List, [], _∷_, _++_}
+use mathlib.Core.Bool.{Bool, true, false, cond, not, and-eq-true-iff}
 use Prim.Native.Nat.{ℕ, zero, suc, _+_, _*_, _^_, _<_, _≤_}
 use native.Mathlib.Omega.{arith}
 use lib.ListN.{replicate}
@@ -11,21 +10,20 @@ use lib.Ieee.{Float, nan, inf, fin, Format, binary32, isNan, inFloat, ofInt, div
 use lib.Ieee.Exact.{HasValue}
 use lib.Ieee.Back.{round-whole}
 use lib.Ieee.Positive.{positive, positive-of-value}
+use Rattle.steps.specs.Delta.{advance, resultsFrom, lastFrom}
+use Rattle.payloads.specs.Exact.{exactLimit, exact, allExact}
 use borrow.Author.Tests.{leb-true, lt-ltb, ne-eqb}
-use Rattle.payloads.specs.Held.{exact, allExact}
-use Rattle.payloads.specs.Results.{advance, resultsFrom, lastFrom}
-use Rattle.floats.specs.Laws.Tests.{and-both}
 
 -- a number that is exact may be converted
 pub exact-in : (z : ℤ) → exact z ≡ true → T (inFloat binary32 z)
 unfolding inFloat
 exact-in (pos n) e = rw e tt
-exact-in (negsuc n) e = let h = leb-true (suc n) 16777216 e in rw (lt-ltb n 16777216 (omega arith)) tt
+exact-in (negsuc n) e = let h = leb-true (suc n) exactLimit e in rw (lt-ltb n exactLimit (omega arith)) tt
 
 -- an exact divisor that is at least 1 is above zero as a float
 pub divisor-positive : (m : ℕ) → exact (pos m) ≡ true → 1 ≤ m → T (positive (ofInt binary32 (pos m)))
 unfolding ofInt
-divisor-positive m e h = positive-of-value (round binary32 false m 1) m 1 (round-whole binary32 false m (leb-true m 16777216 e)) h
+divisor-positive m e h = positive-of-value (round binary32 false m 1) m 1 (round-whole binary32 false m (leb-true m exactLimit e)) h
 
 -- No NaN
 
@@ -60,24 +58,13 @@ finite-number (fin t m e) s a h (fin false n k) p =
 -- a number by a divisor above zero is a number
 pub quotient-number : (z : ℤ) (d : Float) → exact z ≡ true → T (positive d) → T (not (isNan (div binary32 (ofInt binary32 z) d)))
 unfolding ofInt
-quotient-number (pos n) d e p = rw (finite-number (round binary32 false n 1) false n (round-whole binary32 false n (leb-true n 16777216 e)) d p) tt
-quotient-number (negsuc n) d e p = rw (finite-number (round binary32 true (suc n) 1) true (suc n) (round-whole binary32 true (suc n) (leb-true (suc n) 16777216 e)) d p) tt
-
--- Parts of lists of exact numbers
-
-pub exact-parts : (p q : List ℤ) → allExact (p ++ q) ≡ true → (allExact p ≡ true) × (allExact q ≡ true)
-unfolding allExact
-exact-parts [] q h = (refl, h)
-exact-parts (x ∷ p) q h = by (exact x) (λ e. exact-parts p q e) h
-  where
-    by : (t : Bool) → (allExact (p ++ q) ≡ true → (allExact p ≡ true) × (allExact q ≡ true)) → (t && allExact (p ++ q)) ≡ true → ((t && allExact p) ≡ true) × (allExact q ≡ true)
-    by true f h = f h
-    by false f h = let y : _≡_ {A = ℕ} 0 1 = cc in absurd (omega arith)
+quotient-number (pos n) d e p = rw (finite-number (round binary32 false n 1) false n (round-whole binary32 false n (leb-true n exactLimit e)) d p) tt
+quotient-number (negsuc n) d e p = rw (finite-number (round binary32 true (suc n) 1) true (suc n) (round-whole binary32 true (suc n) (leb-true (suc n) exactLimit e)) d p) tt
 
 -- each of the k results of a run
 pub run-exact : (d : Bool) (a v : ℤ) (k n : ℕ) → allExact (resultsFrom d a (replicate k v)) ≡ true → n < k → exact (advance d (lastFrom d a (replicate n v)) v) ≡ true
 unfolding resultsFrom lastFrom allExact
 run-exact d a v zero n h l = absurd (omega arith)
-run-exact d a v (suc k) zero h l = and-both (exact (advance d a v)) (allExact (resultsFrom d (advance d a v) (replicate k v))) h .0
+run-exact d a v (suc k) zero h l = and-eq-true-iff (exact (advance d a v)) (allExact (resultsFrom d (advance d a v) (replicate k v))) .0 h .0
 run-exact d a v (suc k) (suc n) h l =
-    run-exact d (advance d a v) v k n (and-both (exact (advance d a v)) (allExact (resultsFrom d (advance d a v) (replicate k v))) h .1) (omega arith)
+    run-exact d (advance d a v) v k n (and-eq-true-iff (exact (advance d a v)) (allExact (resultsFrom d (advance d a v) (replicate k v))) .0 h .1) (omega arith)

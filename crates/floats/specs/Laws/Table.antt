@@ -1,24 +1,23 @@
 -- Laws of the table's rows: what the codecs of real columns have in common. Assumes nothing.
 use mathlib.Core.Path.{_≡_, refl, sym, ap, _∙_}
-use mathlib.Core.Bool.{Bool, true, false, not, _&&_}
+use mathlib.Core.Bool.{Bool, true, false, not, _&&_, and-eq-true-iff}
 use Prim.Native.Nat.{ℕ, _≤_}
 use native.Mathlib.Omega.{arith}
 use lib.Dec.{leb}
-use borrow.Author.Tests.{leb-true}
-use Rattle.codecs.specs.declared.Size.the-variants.{One, Two, Four}
-use Rattle.codecs.specs.declared.Form.{Form}
-use Rattle.codecs.specs.declared.Form.the-variants.{Plain, Packed, Runs, Names}
+use borrow.Author.Tests.{leb-true, not-true}
+use Rattle.numbers.specs.Ranges.{integerLimit}
+use Rattle.steps.specs.declared.Size.the-variants.{One, Two, Four}
+use Rattle.steps.specs.declared.Form.{Form}
+use Rattle.steps.specs.declared.Form.the-variants.{Plain, Packed, Runs, Names}
 use Rattle.columns.specs.declared.Kind.{Kind}
 use Rattle.columns.specs.declared.Kind.the-variants as kind
 use Rattle.columns.specs.declared.Parameter.{Parameter}
 use Rattle.columns.specs.declared.Parameter.the-variants.{Unused, Divisor, NameSize}
 use Rattle.columns.specs.declared.Codec.{Codec}
 use Rattle.columns.specs.declared.Codec.the-variants.{Known, Unknown}
-use Rattle.columns.specs.Table.{codecOf, parameterOk}
-use Rattle.columns.specs.Laws.Table.{every-codec}
+use Rattle.columns.specs.Table.{codecOf, parameterOk, isNames}
+use Rattle.columns.specs.Laws.Rows.{every-codec}
 use Rattle.payloads.specs.Scan.{judgesExact}
-use Rattle.payloads.specs.Items.{isNames}
-use Rattle.floats.specs.Laws.Tests.{and-both, not-true}
 
 abbrev isDivisor : Parameter → Bool
 isDivisor Unused = false
@@ -53,11 +52,11 @@ every-row = every-codec codecOk refl refl
 module _ (c : ℕ) (f : Form) (d : Bool) (p : Parameter) where
   -- a codec with a divisor
   pub fixed-row : (m : ℕ) → codecOf c ≡ Known kind.FixedPoint f d p → parameterOk p m ≡ true → (judgesExact f d ≡ true) × (1 ≤ m)
-  fixed-row m e g = let w = and-both (judgesExact f d) (isDivisor p) (sym (ap codecOk e) ∙ every-row c) in (w .0, by p (w .1) g)
+  fixed-row m e g = let w = and-eq-true-iff (judgesExact f d) (isDivisor p) .0 (sym (ap codecOk e) ∙ every-row c) in (w .0, by p (w .1) g)
     where
       by : (p : Parameter) → isDivisor p ≡ true → parameterOk p m ≡ true → 1 ≤ m
       by Unused h g = let y : _≡_ {A = ℕ} 0 1 = cc in absurd (omega arith)
-      by Divisor h g = leb-true 1 m (and-both (leb 1 m) (leb m 2147483647) g .0)
+      by Divisor h g = leb-true 1 m (and-eq-true-iff (leb 1 m) (leb m integerLimit) .0 g .0)
       by NameSize h g = let y : _≡_ {A = ℕ} 0 1 = cc in absurd (omega arith)
 
   -- codec 1

@@ -26,7 +26,7 @@ returns-2 : tie.Need-returns-2
 unfolding headBy
 returns-2 c =
     let a = c .before .before .before .before .before .before .before .args in
-    let size : getD (a .leads .now) (getD (a .file .now) (a .at) 0) 0 % 8 ≡ c .before .size-of .result = sym (c .before .size-of .ensures ∙ ap (λ (i : ℕ). getD (a .leads .now) i 0 % 8) (c .before .before .before .wide .ensures)) in
+    let size : getD (a .leads .now) (getD (a .file .now) (a .at) 0) 0 % 8 ≡ c .before .size-of .result = sym (c .before .size-of .ensures ∙ ap (λ (i : ℕ). getD (a .leads .now) i 0 % 8) (c .before .before .before .u8-to-usize .ensures .0)) in
     let e : Head.Cut ≡ headBy (a .leads .now) (a .file .now) (a .at) = rw (lt-ltb _ _ (c .before .before .before .before .before .if1 .left), size, lt-ltb _ _ (c .if2 .taken)) in
     (e, head-rule (a .file .now) (bytes-of _ (λ i. omega (arith, c .before .before .before .before .before .before .shared-slice-known .given i))) (a .at) e)
 
@@ -34,7 +34,7 @@ returns-3 : tie.Need-returns-3
 unfolding headBy
 returns-3 c =
     let a = c .before .before .before .before .before .before .before .before .args in
-    let size : getD (a .leads .now) (getD (a .file .now) (a .at) 0) 0 % 8 ≡ c .before .before .size-of .result = sym (c .before .before .size-of .ensures ∙ ap (λ (i : ℕ). getD (a .leads .now) i 0 % 8) (c .before .before .before .before .wide .ensures)) in
+    let size : getD (a .leads .now) (getD (a .file .now) (a .at) 0) 0 % 8 ≡ c .before .before .size-of .result = sym (c .before .before .size-of .ensures ∙ ap (λ (i : ℕ). getD (a .leads .now) i 0 % 8) (c .before .before .before .before .u8-to-usize .ensures .0)) in
     let e : Head.At (c .number .result) (a .at + c .before .before .size-of .result) ≡ headBy (a .leads .now) (a .file .now) (a .at) =
     rw (lt-ltb _ _ (c .before .before .before .before .before .before .if1 .left), size, le-ltb _ _ (c .before .if2 .left)) (ap (λ (n : ℕ). Head.At n (a .at + c .before .before .size-of .result)) (c .number .ensures)) in
     (e, head-rule (a .file .now) (bytes-of _ (λ i. omega (arith, c .before .before .before .before .before .before .before .shared-slice-known .given i))) (a .at) e)

@@ -17,7 +17,7 @@ returns : tie.Need-returns
 unfolding kindBy
 returns c =
     let a = c .before .before .before .before .before .before .args in
-    let e : c .kind-of .result ≡ kindBy (a .leads .now) (a .file .now) (a .at) = rw (lt-ltb _ _ (c .before .before .before .before .if1 .taken), ← c .before .before .wide .ensures) (c .kind-of .ensures) in
+    let e : c .kind-of .result ≡ kindBy (a .leads .now) (a .file .now) (a .at) = rw (lt-ltb _ _ (c .before .before .before .before .if1 .taken), ← c .before .before .u8-to-usize .ensures .0) (c .kind-of .ensures) in
     (e, kind-rule (a .file .now) (bytes-of _ (λ i. omega (arith, c .before .before .before .before .before .shared-slice-known .given i))) (a .at) e)
 
 returns-2 : tie.Need-returns-2

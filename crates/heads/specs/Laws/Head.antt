@@ -25,16 +25,6 @@ module _ (s : List ℕ) (at : ℕ) where
   unfolding kindAt
   kind-in lt = rw (lt-ltb at (length s) lt)
 
-  -- past the end there is none
-  pub kind-past : length s ≤ at → kindAt s at ≡ Kind.Missing
-  unfolding kindAt
-  kind-past le = rw (le-ltb at (length s) le)
-
-  -- what the definition says of a head, case by case
-  pub head-past : length s ≤ at → headAt s at ≡ Head.Cut
-  unfolding headAt
-  head-past le = rw (le-ltb at (length s) le)
-
   pub head-cut : {size : ℕ} → size ≡ moreOf (getD s at 0) + 1 → at < length s → length s - at < size → headAt s at ≡ Head.Cut
   unfolding headAt
   head-cut e lt short = rw (lt-ltb at (length s) lt, lt-ltb (length s - (at + 1)) (moreOf (getD s at 0)) (omega arith))

@@ -15,7 +15,7 @@ use Rattle.numbers.specs.BigEndian.{Bytes}
 use Rattle.numbers.specs.Laws.BigEndian.{unsignedAt-in, byte-at}
 use Rattle.heads.specs.Lead.{Row, row, leadBytes, inRow, rowIn, kindOf, moreOf, heldBy}
 use Rattle.heads.specs.Head.{kindAt, headNumber, headFrom, headAt}
-use Rattle.heads.specs.Table.{kindNumber, kindFrom, valuesFrom, kindTable, sizeTable, leadTable, kindBy, sizedNumber, sizedHead, headBy}
+use Rattle.heads.specs.Table.{kindCell, kindFrom, valuesFrom, kindTable, sizeTable, leadTable, kindBy, sizedNumber, sizedHead, headBy}
 use Rattle.heads.specs.declared.Kind.{Kind}
 use Rattle.heads.specs.declared.Head.{Head}
 
@@ -82,7 +82,7 @@ present Kind.Bin = true
 present Kind.Array = true
 present Kind.Map = true
 
-number-kind : (k : Kind) → present k ≡ true → kindFrom (kindNumber k) ≡ k
+number-kind : (k : Kind) → present k ≡ true → kindFrom (kindCell k) ≡ k
 number-kind Kind.Missing h = let z : _≡_ {A = ℕ} 0 1 = cc in absurd (omega arith)
 number-kind Kind.Outside h = refl
 number-kind Kind.Unsigned h = refl
@@ -93,7 +93,7 @@ number-kind Kind.Bin h = refl
 number-kind Kind.Array h = refl
 number-kind Kind.Map h = refl
 
-kind-named : (b : ℕ) → kindFrom (kindNumber (kindOf b)) ≡ kindOf b
+kind-named : (b : ℕ) → kindFrom (kindCell (kindOf b)) ≡ kindOf b
 unfolding kindOf
 kind-named b = number-kind _ (row-passes (λ r. present (r .kind)) b leadBytes refl refl)
 
@@ -114,7 +114,7 @@ pub record Alone (k : Kind) (b n : ℕ) : Type 0 where
 pub low-lead : (b : ℕ) → b < 0x80 → Alone Kind.Unsigned b b
 unfolding kindOf moreOf heldBy
 low-lead b h = record {
-  kind = sym (kind-named b) ∙ ap kindFrom (values-agree (λ i. kindNumber (kindOf i)) (λ i. 1) 0 0x80 refl b (omega arith) (omega arith));
+  kind = sym (kind-named b) ∙ ap kindFrom (values-agree (λ i. kindCell (kindOf i)) (λ i. 1) 0 0x80 refl b (omega arith) (omega arith));
   more = values-agree moreOf (λ i. 0) 0 0x80 refl b (omega arith) (omega arith);
   held = values-agree heldBy (λ i. i) 0 0x80 refl b (omega arith) (omega arith);
 }
@@ -123,7 +123,7 @@ low-lead b h = record {
 pub string-lead : (b : ℕ) → 0xa0 ≤ b → b < 0xc0 → Alone Kind.Str b (b - 0xa0)
 unfolding kindOf moreOf heldBy
 string-lead b l h = record {
-  kind = sym (kind-named b) ∙ ap kindFrom (values-agree (λ i. kindNumber (kindOf i)) (λ i. 4) 0xa0 32 refl b l (omega arith));
+  kind = sym (kind-named b) ∙ ap kindFrom (values-agree (λ i. kindCell (kindOf i)) (λ i. 4) 0xa0 32 refl b l (omega arith));
   more = values-agree moreOf (λ i. 0) 0xa0 32 refl b l (omega arith);
   held = values-agree heldBy (λ i. i - 0xa0) 0xa0 32 refl b l (omega arith);
 }
@@ -131,9 +131,9 @@ string-lead b l h = record {
 -- the tables of lead bytes, row by row
 
 module _ (b : ℕ) (byte : b < 256) where
-  kinds-row : getD kindTable b 0 ≡ kindNumber (kindOf b)
+  kinds-row : getD kindTable b 0 ≡ kindCell (kindOf b)
   unfolding kindTable
-  kinds-row = rows-at (λ i. kindNumber (kindOf i)) 256 b byte
+  kinds-row = rows-at (λ i. kindCell (kindOf i)) 256 b byte
 
   sizes-row : getD sizeTable b 0 ≡ moreOf b + 1
   unfolding sizeTable
@@ -142,7 +142,7 @@ module _ (b : ℕ) (byte : b < 256) where
   -- kinds are at most 7 and head sizes at most 5, so that a row of both is a byte
   pub kinds-bound : getD kindTable b 0 ≤ 7
   unfolding kindOf
-  kinds-bound = rw kinds-row (leb-true _ 7 (row-passes (λ r. leb (kindNumber (r .kind)) 7) b leadBytes refl refl))
+  kinds-bound = rw kinds-row (leb-true _ 7 (row-passes (λ r. leb (kindCell (r .kind)) 7) b leadBytes refl refl))
 
   pub sizes-bound : getD sizeTable b 0 ≤ 5
   sizes-bound = omega (arith, sizes-row, moreOf-bound b)
@@ -153,16 +153,16 @@ module _ (b : ℕ) (byte : b < 256) where
   leads-row = rows-at (λ i. getD kindTable i 0 * 8 + getD sizeTable i 0) 256 b byte
 
   -- a row of the table of lead bytes, by the lead-byte rule: eight times its kind's number, plus the size of its head
-  pub row-is : getD leadTable b 0 ≡ kindNumber (kindOf b) * 8 + (moreOf b + 1)
+  pub row-is : getD leadTable b 0 ≡ kindCell (kindOf b) * 8 + (moreOf b + 1)
   row-is = leads-row ∙ rw (kinds-row, sizes-row)
 
   row-kind : kindFrom (getD leadTable b 0 / 8) ≡ kindOf b
   row-kind =
-      let q : (kindNumber (kindOf b) * 8 + (moreOf b + 1)) / 8 ≡ kindNumber (kindOf b) = digits-div (kindNumber (kindOf b)) (omega (arith, moreOf-bound b)) in
+      let q : (kindCell (kindOf b) * 8 + (moreOf b + 1)) / 8 ≡ kindCell (kindOf b) = digits-div (kindCell (kindOf b)) (omega (arith, moreOf-bound b)) in
       rw (row-is, q) (kind-named b)
 
   row-size : getD leadTable b 0 % 8 ≡ moreOf b + 1
-  row-size = rw row-is (digits-mod (kindNumber (kindOf b)) (omega (arith, moreOf-bound b)))
+  row-size = rw row-is (digits-mod (kindCell (kindOf b)) (omega (arith, moreOf-bound b)))
 
 -- 256 rows that are packed from the two tables are the table of lead bytes
 pub leads-packed : (rows : List ℕ) → length rows ≡ 256 → ((k : ℕ) → k < 256 → getD rows k 0 ≡ getD kindTable k 0 * 8 + getD sizeTable k 0) → rows ≡ leadTable

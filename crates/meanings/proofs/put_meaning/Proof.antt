@@ -22,21 +22,21 @@ loop-holds c =
     let e = c .table .ensures in
     (ap length e ∙ table-length, subst (λ (t : List ℕ). Seeking t (c .before .before .args .number) 0) (sym e) (seek-start (c .before .before .args .number)), refl)
 
-array-read-wide : tie.Need-array-read-wide Inv-loop μ-loop
+array-read-wide : tie.Need-array-read-u8-to-usize Inv-loop μ-loop
 array-read-wide c = let i = c .before .loop .inv in let h = seek-inside (i .1) (omega arith) in omega arith
 
 add-end : tie.Need-add-end Inv-loop μ-loop
-add-end c = let i = c .before .before .loop .inv in let h = seek-inside (i .1) (omega arith) in omega (arith, c .wide .ensures)
+add-end c = let i = c .before .before .loop .inv in let h = seek-inside (i .1) (omega arith) in omega (arith, c .u8-to-usize .ensures .0)
 
 part-put-end : tie.Need-part-put-end Inv-loop μ-loop
-part-put-end c = let i = c .before .before .before .before .before .loop .inv in let h = seek-inside (i .1) (omega arith) in omega (arith, c .before .before .before .wide .ensures)
+part-put-end c = let i = c .before .before .before .before .before .loop .inv in let h = seek-inside (i .1) (omega arith) in omega (arith, c .before .before .before .u8-to-usize .ensures .0)
 
 returns : tie.Need-returns Inv-loop μ-loop
 returns c =
     let a = c .before .before .before .before .before .before .before .before .before .before .before .before .args in
     let table = c .before .before .before .before .before .before .before .before .before .before .table .result in
     let p = c .before .before .before .before .before .before .before .before .before .loop in
-    let w = c .before .before .before .before .before .before .before .wide in
+    let w = c .before .before .before .before .before .before .before .u8-to-usize in
     let e : getD table (p .row + 1) 0 ≡ (p .row + 2 + w .result) - (p .row + 2) = omega (arith, w .ensures) in
     let t = sym (seek-found (p .inv .1) (omega arith) (c .before .before .before .before .before .before .if1 .taken)) ∙ ap (λ (n : ℕ). take n (drop (p .row + 2) table)) e in
     subst (λ (b : List ℕ). Put b (a .at) (meaningOf (a .number)) (c .before .before .put .last .0) (c .before .before .put .result)) (p .inv .2) (put-as (c .before .before .put .ensures) t)
@@ -47,7 +47,7 @@ loop-less c = omega arith
 loop-again : tie.Need-loop-again Inv-loop μ-loop
 loop-again c =
     let p = c .before .before .before .loop in
-    let e = c .before .wide .ensures in
+    let e = c .before .u8-to-usize .ensures .0 in
     (p .inv .0, rw e (seek-next (p .inv .1) (omega arith) (c .if1 .left)), p .inv .2)
 
 pub put-meaning-spec : {M : Type 1} → statement M

@@ -9,7 +9,7 @@ use borrow.Author.Needs.{needs}
 use borrow.Fn.Kinds.{In}
 use borrow.Fn.PlainCycle.{Measures, is, falls, and}
 use Rattle.messagepack.specs.Walk.{valueAt, manyAt}
-use Rattle.messagepack.specs.Keys.{Free, Kept, Walked}
+use Rattle.messagepack.specs.Keys.{Free, Kept, KeysWalked}
 use Rattle.messagepack.specs.declared.Walk.{Walk}
 use Rattle.messagepack.specs.Laws.Walk as w
 use Rattle.messagepack.specs.Laws.Quick.{leaf-ends, leaf-refuses, quick-ends}
@@ -214,7 +214,7 @@ map-returns-4 t c = going-last _ (c .before .loop .inv) (c .loop-test .left)
 -- the value
 
 -- an answer that leaves the tables alone
-unchanged : {leads file : List ℕ} {depth : ℕ} {starts prints : List ℕ} {r expected : Walk} → Free leads file depth starts prints → r ≡ expected → Walked expected depth starts prints r starts prints
+unchanged : {leads file : List ℕ} {depth : ℕ} {starts prints : List ℕ} {r expected : Walk} → Free leads file depth starts prints → r ≡ expected → KeysWalked expected depth starts prints r starts prints
 unchanged {depth = depth} x e = record { answer = e; starts-kept = kept-all depth (x .starts-long); prints-kept = kept-all depth (x .prints-long) }
 
 value-returns : (t : ℕ) → value-lts.Need-returns (value-claims t) (value-at t) value.Post

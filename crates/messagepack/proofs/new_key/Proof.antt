@@ -5,6 +5,7 @@ use borrow.Author.Needs.{needs}
 use Rattle.messagepack.specs.Keys.{refused, repeated, noted}
 use Rattle.heads.specs.Laws.Head.{head-inside}
 use Rattle.messagepack.specs.Laws.Walk.{text-is, key-is}
+use Rattle.messagepack.specs.Laws.Tables.{sought}
 use Rattle.messagepack.proofs.new_key.Statement.{statement}
 use Rattle.messagepack.proofs.new_key.Tie as tie
 
@@ -12,7 +13,7 @@ print-of-requires : tie.Need-print-of-requires
 print-of-requires c κs = text-is _ _ (key-is _ _ (sym (c .before .before .before .key-at .ensures) ∙ c .before .a .given .1) .1) .inside
 
 seen-requires : tie.Need-seen-requires
-seen-requires c κs = (c .before .before .before .before .before .before .before .before .pre .0, record { rows = c .before .before .before .before .before .before .before .before .pre .1; key = (sym (c .before .before .before .before .before .before .key-at .ensures) ∙ c .before .before .before .before .a .given .1); is = c .before .before .print-of .ensures })
+seen-requires c κs = (c .before .before .before .before .before .before .before .before .pre .0, sought (c .before .before .before .before .before .before .before .before .pre .1) (sym (c .before .before .before .before .before .before .key-at .ensures) ∙ c .before .before .before .before .a .given .1) (c .before .before .print-of .ensures))
 
 returns : tie.Need-returns
 returns c = repeated (sym (c .before .before .before .before .before .before .before .before .key-at .ensures) ∙ c .before .before .before .before .before .before .a .given .1) (sym (c .before .seen .ensures) ∙ c .if1 .taken)
@@ -29,7 +30,7 @@ returns-2 : tie.Need-returns-2
 returns-2 c = refused (sym (c .before .before .before .key-at .ensures) ∙ c .before .e .given .1)
 
 returns-3 : tie.Need-returns-3
-returns-3 c = noted (record { rows = c .before .before .before .before .before .before .before .before .before .before .pre .1; key = (sym (c .before .before .before .before .before .before .before .before .key-at .ensures) ∙ c .before .before .before .before .before .before .a .given .1); is = c .before .before .before .before .print-of .ensures }) (sym (c .before .seen .ensures) ∙ c .if1 .left)
+returns-3 c = noted (sym (c .before .before .before .before .before .before .before .before .key-at .ensures) ∙ c .before .before .before .before .before .before .a .given .1) (sought (c .before .before .before .before .before .before .before .before .before .before .pre .1) (sym (c .before .before .before .before .before .before .before .before .key-at .ensures) ∙ c .before .before .before .before .before .before .a .given .1) (c .before .before .before .before .print-of .ensures)) (sym (c .before .seen .ensures) ∙ c .if1 .left)
 
 mul-starts : tie.Need-mul-starts
 mul-starts c = omega (arith, c .before .before .before .before .before .before .before .before .before .before .pre .1 .room)

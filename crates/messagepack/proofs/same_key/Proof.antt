@@ -2,8 +2,8 @@
 use mathlib.Core.Path.{_≡_, sym, ap₂, _∙_}
 use Prim.Native.Nat.{_+_, _-_}
 use native.Mathlib.Omega.{arith}
+use Rattle.text.specs.Equal.{equal}
 use borrow.Author.Needs.{needs}
-use Rattle.messagepack.specs.Equal.{equal}
 use Rattle.messagepack.specs.Laws.Tables.{there-read, there-head}
 use Rattle.messagepack.proofs.same_key.Statement.{statement}
 use Rattle.messagepack.proofs.same_key.Tie as tie

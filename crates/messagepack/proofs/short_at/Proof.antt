@@ -14,9 +14,9 @@ part-is-ascii-end c = omega arith
 returns-5 : tie.Need-returns-5
 returns-5 c =
     let a = c .before .before .before .before .before .before .before .before .before .before .args in
-    let n = c .before .before .before .before .wide-byte .result in
+    let n = c .before .before .before .before .u8-to-usize .result in
     let i : a .at + 1 + n - (a .at + 1) ≡ n = omega arith in
-    short-found (a .file .now) (a .at) (omega arith) n (c .before .before .before .before .before .before .if2 .left) (c .before .before .before .before .before .if3 .left) (c .before .before .before .before .wide-byte .ensures) (omega arith) (rw i at (sym (c .before .is-ascii .ensures) ∙ c .if5 .taken))
+    short-found (a .file .now) (a .at) (omega arith) n (c .before .before .before .before .before .before .if2 .left) (c .before .before .before .before .before .if3 .left) (c .before .before .before .before .u8-to-usize .ensures .0) (omega arith) (rw i at (sym (c .before .is-ascii .ensures) ∙ c .if5 .taken))
 
 returns : tie.Need-returns
 returns c = another

@@ -19,8 +19,8 @@ use Rattle.heads.specs.declared.Head.{Head}
 use Rattle.heads.specs.Laws.Span.{follows, holds, fits}
 use Rattle.heads.specs.Laws.Head.{Told, head-told}
 use Rattle.numbers.specs.BigEndian.{bytesOf}
+use Rattle.numbers.specs.Ranges.{integerLimit}
 use Rattle.heads.specs.Lead.{moreOf}
-use Rattle.messagepack.specs.Limits.{integerLimit}
 use Rattle.messagepack.specs.Document.{Document, Documents, Entries, integer, float, string, binary, array, map, none, item, empty, entry, count, size, UnsignedOf, SignedOf, TextOf, Writes, WritesAll, WritesEntries}
 use Rattle.messagepack.specs.Rules.{depth, depthAll, depthEntries, InRange, Distinct, Keeps, KeepsAll, KeepsEntries}
 use Rattle.messagepack.specs.Walk.{bodyAt, textAt, keyAt, manyAt, entriesFrom, valueAt}

@@ -14,6 +14,7 @@ use lib.Seq.{drop-length}
 use borrow.Author.Tests.{eqb-true, eq-eqb, leb-true, le-leb}
 use Rattle.refusal.specs.Table.{accepted, fileOverLimit, bytesAfter}
 use Rattle.numbers.specs.BigEndian.{Bytes}
+use Rattle.numbers.specs.Laws.Tests.{either}
 use Rattle.heads.specs.Head.{kindAt, headAt}
 use Rattle.heads.specs.declared.Kind.{Kind}
 use Rattle.heads.specs.Laws.Head.{head-told}
@@ -23,7 +24,7 @@ use Rattle.messagepack.specs.Rules.{Container}
 use Rattle.messagepack.specs.Walk.{valueAt, ended, outer, containerNumber}
 use Rattle.messagepack.specs.declared.Walk.{Walk}
 use Rattle.messagepack.specs.Laws.Walk as w
-use Rattle.messagepack.specs.Laws.Refused.{Sure, refused, either, value-sure}
+use Rattle.messagepack.specs.Laws.Refused.{Sure, refused, value-sure}
 use Rattle.messagepack.specs.Laws.Sound.{MapIn, map-in, value-in}
 use Rattle.messagepack.specs.Laws.Complete.{value-of}
 

@@ -6,6 +6,7 @@ use mathlib.Core.List.{List}
 use Prim.Native.Nat.{ℕ, _+_, _-_, _<_, _≤_}
 use native.Mathlib.Omega.{arith}
 use lib.ListN.{length, getD, take, drop}
+use Rattle.numbers.specs.Ranges.{integerLimit}
 use borrow.Author.Tests.{le-leb}
 use Rattle.utf8.specs.Check.{isAscii}
 use Rattle.utf8.specs.Laws.Check.{isAscii-isUtf8}
@@ -15,7 +16,6 @@ use Rattle.heads.specs.declared.Kind.{Kind}
 use Rattle.heads.specs.declared.Head.{Head}
 use Rattle.heads.specs.Laws.Head.{kind-in, head-held}
 use Rattle.heads.specs.Laws.Table.{low-lead, string-lead}
-use Rattle.messagepack.specs.Limits.{integerLimit}
 use Rattle.messagepack.specs.Walk.{keyAt, integerAt, plainAt, binaryAt, stringAt, valueAt}
 use Rattle.messagepack.specs.Quick.{leafOf, leafByKind, leafAt, QuickSays, ends, ShortSays, found, RunSays}
 use Rattle.messagepack.specs.declared.Walk.{Walk}
@@ -57,7 +57,7 @@ module _ (s : List ℕ) where
       go Kind.Array e = is-array e
       go Kind.Map e = is-map e
 
-  -- the same by an answer's case
+  -- what is said of the value at a place, by the case that is answered
   says : {l : Leaf} (at : ℕ) → leafAt s at ≡ l → LeafSays at l
   says at e = subst (λ (l : Leaf). LeafSays at l) e (leaf-says at)
 
@@ -72,18 +72,6 @@ module _ (s : List ℕ) where
     where
       go : LeafSays at (Leaf.Refused n) → Walk.Refused n ≡ valueAt s d at
       go (refuses h) = sym (h d)
-
-  pub leaf-array : (at : ℕ) → leafAt s at ≡ Leaf.Array → kindAt s at ≡ Kind.Array
-  leaf-array at e = go (says at e)
-    where
-      go : LeafSays at Leaf.Array → kindAt s at ≡ Kind.Array
-      go (is-array h) = h
-
-  pub leaf-map : (at : ℕ) → leafAt s at ≡ Leaf.Map → kindAt s at ≡ Kind.Map
-  leaf-map at e = go (says at e)
-    where
-      go : LeafSays at Leaf.Map → kindAt s at ≡ Kind.Map
-      go (is-map h) = h
 
 -- quick looks
 

@@ -6,11 +6,13 @@ use Prim.Native.Nat.{ℕ, zero, suc, _+_, _≤_, _<_}
 use lib.Dec.{leb, lit<, lit≤}
 use lib.ListN.{length, take, drop}
 use Rattle.refusal.specs.Table.{bytesAfter}
+use Rattle.numbers.specs.Ranges.{integerLimit}
+use Rattle.numbers.specs.Laws.Tests.{either}
 use Rattle.utf8.specs.Check.{isUtf8}
 use Rattle.heads.specs.Head.{kindAt, headAt}
 use Rattle.heads.specs.declared.Kind.{Kind}
 use Rattle.heads.specs.declared.Head.{Head}
-use Rattle.messagepack.specs.Limits.{entryLimit, integerLimit}
+use Rattle.messagepack.specs.Limits.{entryLimit}
 use Rattle.messagepack.specs.Walk.{onHead, onWalk, onText, bodyAt, textBody, textHead, textAt, keyOfKind, keyAt, among, manyAt, entriesFrom, entriesAt, byKind, valueAt}
 use Rattle.messagepack.specs.declared.Walk.{Walk}
 use Rattle.messagepack.specs.declared.Text.{Text}
@@ -23,11 +25,6 @@ pub data Sure : Walk → Type 0 where
 data SureText : Text → Type 0 where
   found : {p n : ℕ} → SureText (Text.At p n)
   refusedText : {e : ℕ} → 0 < e → e ≤ bytesAfter → SureText (Text.Refused e)
-
--- what holds of both answers holds of either
-pub either : {A : Type 0} (P : A → Type 0) (b : Bool) {x y : A} → P x → P y → P (cond b x y)
-either P true p q = p
-either P false p q = q
 
 onWalk-sure : (v : Walk) {f : ℕ → Walk} → Sure v → ((q : ℕ) → Sure (f q)) → Sure (onWalk v f)
 onWalk-sure (Walk.End e) o k = k e

@@ -13,6 +13,7 @@ use lib.ListN.{length, getD, take, drop}
 use borrow.Author.Tests.{leb-true, ltb-true, ltb-false}
 use Rattle.refusal.specs.Table.{unsignedTooLarge, nestedTooDeep, tooManyEntries, keyRepeated}
 use Rattle.numbers.specs.BigEndian.{Bytes}
+use Rattle.numbers.specs.Ranges.{integerLimit}
 use Rattle.utf8.specs.Laws.Utf8.{isUtf8-utf8}
 use Rattle.heads.specs.Lead.{kindOf, moreOf}
 use Rattle.heads.specs.Head.{HeadOf, kindAt, headAt}
@@ -22,7 +23,7 @@ use Rattle.heads.specs.Span.{Span}
 use Rattle.heads.specs.Laws.Span.{part-length, span-none, span-join, span-part}
 use Rattle.heads.specs.Laws.Table.{moreOf-bound}
 use Rattle.heads.specs.Laws.Head.{Found, kind-in, head-found}
-use Rattle.messagepack.specs.Limits.{entryLimit, integerLimit}
+use Rattle.messagepack.specs.Limits.{entryLimit}
 use Rattle.messagepack.specs.Document.{Document, Documents, Entries, integer, float, string, binary, array, map, none, item, empty, entry, count, size, signedValue, TextOf, Writes, WritesAll, WritesEntries}
 use Rattle.messagepack.specs.Rules.{depth, depthAll, depthEntries, InRange, Distinct, Keeps, KeepsAll, KeepsEntries}
 use Rattle.messagepack.specs.Walk.{onHead, onWalk, onText, bodyAt, textAt, keyAt, among, manyAt, entriesFrom, entriesAt, byKind, valueAt}
@@ -40,7 +41,7 @@ pub record ValueIn (s : List ℕ) (d at e : ℕ) : Type 0 where
   pub keeps : Keeps doc
   pub span : Span s at e w
 
--- the same of a map
+-- a map that keeps the rules stands from a place up to another
 pub record MapIn (s : List ℕ) (d at e : ℕ) : Type 0 where
   pub entries : Entries
   pub w : List ℕ

@@ -5,44 +5,34 @@ use mathlib.Core.Bool.{Bool, false, _||_}
 use mathlib.Core.List.{List, _∷_}
 use mathlib.Core.Logic.{⊎-elim, _≢_}
 use Prim.Native.Nat.{ℕ, zero, suc, _+_, _-_, _*_, _%_, _<_, _≤_}
-use native.Mathlib.Nat.{not-suc-le-zero, eq-or-lt-of-le, le-of-suc-le-suc, add-zero, add-assoc, mod-eq-of-lt}
+use native.Mathlib.Nat.{not-suc-le-zero, eq-or-lt-of-le, le-of-suc-le-suc, add-zero, mod-eq-of-lt}
 use native.Mathlib.Omega.{arith}
 use lib.ListN.{length, getD, take, drop, set, length-set, length-drop}
-use lib.Seq.{drop-drop, getD-drop, getD-take, getD-set-same, getD-set-other, drop-set-lt, drop-set-add}
+use lib.Seq.{drop-drop, getD-drop, getD-set-same, getD-set-other, drop-set-lt, drop-set-add}
 use borrow.Author.Tests.{le-leb, lt-leb}
 use Rattle.numbers.specs.BigEndian.{unsignedAt}
-use Rattle.numbers.specs.Laws.BigEndian.{loads, unsignedAt-loads, unsignedAt-out}
+use Rattle.numbers.specs.Laws.BigEndian.{unsignedAt-part, unsignedAt-out}
+use Rattle.text.specs.Equal.{equal}
+use Rattle.text.specs.Laws.Equal.{equal-false}
 use Rattle.heads.specs.Head.{headAt}
 use Rattle.heads.specs.Table.{leadTable}
 use Rattle.heads.specs.declared.Head.{Head}
 use Rattle.heads.specs.Laws.Span.{part-length}
 use Rattle.messagepack.specs.Limits.{fileLimit, nestingLimit, entryLimit}
-use Rattle.messagepack.specs.Equal.{equal}
 use Rattle.messagepack.specs.Walk.{among, keyAt, entriesFrom, entriesAt}
-use Rattle.messagepack.specs.Keys.{tableLength, printOf, keyBytes, keysOf, keysIn, KeyThere, RowHolds, Stored, Free, Kept, Walked, Rows, Sought, Noted, refused, repeated, noted}
+use Rattle.messagepack.specs.Keys.{tableLength, printOf, keyBytes, keyHere, keysOf, keysIn, KeyThere, RowHolds, Stored, Free, Kept, Rows, Sought, refused, repeated, noted, KeyNoted, KeysWalked}
 use Rattle.messagepack.specs.declared.Walk.{Walk}
 use Rattle.messagepack.specs.declared.Text.{Text}
-use Rattle.messagepack.specs.Laws.Keys.{equal-false}
 use Rattle.messagepack.specs.Laws.Walk as w
 
 -- prints
 
 module _ (s : List ℕ) (a m : ℕ) (le : a + m ≤ length s) where
-  -- bytes inside a part are read as in the whole
-  loads-part : (k i : ℕ) → i + k ≤ m → loads k (take m (drop a s)) i ≡ loads k s (a + i)
-  loads-part zero i h = refl
-  loads-part (suc k) i h =
-      let b : getD (take m (drop a s)) (i + k) 0 ≡ getD s (a + i + k) 0 = getD-take m (drop a s) (i + k) 0 (omega arith) ∙ getD-drop a s (i + k) 0 ∙ ap (λ (j : ℕ). getD s j 0) (sym (add-assoc a i k)) in
-      rw (loads-part k i (omega arith), b)
-
   last-part : (k : ℕ) → k ≤ m → unsignedAt k (take m (drop a s)) (m - k) ≡ unsignedAt k s (a + m - k)
-  last-part k h =
-      let i : a + (m - k) ≡ a + m - k = omega arith in
-      unsignedAt-loads k (take m (drop a s)) (m - k) (rw (part-length s a m le) (omega arith)) ∙ loads-part k (m - k) (omega arith) ∙ rw i (sym (unsignedAt-loads k s (a + m - k) (omega arith)))
+  last-part k h = let i : a + (m - k) ≡ a + m - k = omega arith in unsignedAt-part k s a m (m - k) le (omega arith) ∙ rw i
 
   first-part : (k : ℕ) → k ≤ m → unsignedAt k (take m (drop a s)) 0 ≡ unsignedAt k s a
-  first-part k h =
-      unsignedAt-loads k (take m (drop a s)) 0 (rw (part-length s a m le) (omega arith)) ∙ loads-part k 0 (omega arith) ∙ rw (add-zero a) (sym (unsignedAt-loads k s a (omega arith)))
+  first-part k h = unsignedAt-part k s a m 0 le (omega arith) ∙ rw (add-zero a)
 
   pub print-four : 4 ≤ m → printOf (take m (drop a s)) ≡ (m % 65536 * 65536 + (unsignedAt 4 s a + unsignedAt 4 s (a + m - 4)) % 4294967296) % 4294967296
   unfolding printOf
@@ -65,7 +55,7 @@ module _ (s starts : List ℕ) where
   unfolding among keysOf
   keys-none k = refl
 
-  keys-next : (k : List ℕ) (n : ℕ) (t : Bool) → equal k (keyBytes s (keyAt s (getD starts n 0))) ≡ t → among k (keysOf s starts (suc n)) ≡ t || among k (keysOf s starts n)
+  keys-next : (k : List ℕ) (n : ℕ) (t : Bool) → equal k (keyHere s (getD starts n 0)) ≡ t → among k (keysOf s starts (suc n)) ≡ t || among k (keysOf s starts n)
   unfolding among keysOf
   keys-next k n t e = rw (← e)
 
@@ -74,11 +64,11 @@ module _ (s starts : List ℕ) where
   keys-set j at zero h = refl
   keys-set j at (suc i) h = let ne : i ≢ j = omega arith in rw (getD-set-other starts j i at 0 ne, keys-set j at i (omega arith))
 
-  keys-more : (j at : ℕ) → j < length starts → keysOf s (set starts j at) (suc j) ≡ keyBytes s (keyAt s at) ∷ keysOf s starts j
+  keys-more : (j at : ℕ) → j < length starts → keysOf s (set starts j at) (suc j) ≡ keyHere s at ∷ keysOf s starts j
   unfolding keysOf
   keys-more j at h = rw (getD-set-same starts j at 0 h, keys-set j at j (omega arith))
 
-stored-more : (s starts prints : List ℕ) (j at q : ℕ) → j < length starts → j < length prints → KeyThere s at → q ≡ printOf (keyBytes s (keyAt s at)) → Stored s starts prints j → Stored s (set starts j at) (set prints j q) (suc j)
+stored-more : (s starts prints : List ℕ) (j at q : ℕ) → j < length starts → j < length prints → KeyThere s at → q ≡ printOf (keyHere s at) → Stored s starts prints j → Stored s (set starts j at) (set prints j q) (suc j)
 unfolding Stored
 stored-more s starts prints j at q h k key p old i lt = ⊎-elim
     (λ (e : i ≡ j). record { key = rw (e, getD-set-same starts j at 0 h) key; print = rw (e, getD-set-same starts j at 0 h, getD-set-same prints j q 0 k) p })
@@ -105,7 +95,7 @@ module _ (s starts : List ℕ) (base : ℕ) where
     pub seen-none : (i : ℕ) → i ≤ base → among k (keysIn s starts base i) ≡ false
     seen-none i le = let e : i - base ≡ 0 = omega arith in rw e (keys-none s (drop base starts) k)
 
-    pub seen-next : (i : ℕ) (t : Bool) → base < i → equal k (keyBytes s (keyAt s (getD starts (i - 1) 0))) ≡ t → among k (keysIn s starts base i) ≡ t || among k (keysIn s starts base (i - 1))
+    pub seen-next : (i : ℕ) (t : Bool) → base < i → equal k (keyHere s (getD starts (i - 1) 0)) ≡ t → among k (keysIn s starts base i) ≡ t || among k (keysIn s starts base (i - 1))
     seen-next i t lt h =
         let e : i - base ≡ suc (i - 1 - base) = omega arith in
         let f : base + (i - 1 - base) ≡ i - 1 = omega arith in
@@ -113,7 +103,7 @@ module _ (s starts : List ℕ) (base : ℕ) where
         rw e (keys-next s (drop base starts) k (i - 1 - base) t (rw a h))
 
 -- a key that stands at a place: its head is read, and its bytes are inside
-pub there-read : {s : List ℕ} {at n p : ℕ} → KeyThere s at → headAt s at ≡ Head.At n p → (p + n ≤ length s) × (keyBytes s (keyAt s at) ≡ take n (drop p s))
+pub there-read : {s : List ℕ} {at n p : ℕ} → KeyThere s at → headAt s at ≡ Head.At n p → (p + n ≤ length s) × (keyHere s at ≡ take n (drop p s))
 there-read {s} {at} {n} {p} k g =
     let i = w.text-is s at (w.key-is s at (k .is) .1) in
     let h : headAt s at ≡ Head.At (k .m) (k .a) = i .head in
@@ -128,11 +118,11 @@ there-head {s} at k g =
     omega arith
 
 -- a row's key, by the place that it has
-pub row-same : (s starts : List ℕ) (i at : ℕ) {a m q : ℕ} {b : Bool} → keyAt s at ≡ Text.At a m → q ≡ getD starts i 0 → b ≡ equal (keyBytes s (keyAt s at)) (keyBytes s (keyAt s q)) → equal (take m (drop a s)) (keyBytes s (keyAt s (getD starts i 0))) ≡ b
-row-same s starts i at k o h = rw (← o, ← ap (keyBytes s) k) (sym h)
+pub row-same : (s starts : List ℕ) (i at : ℕ) {q : ℕ} {b : Bool} → q ≡ getD starts i 0 → b ≡ equal (keyHere s at) (keyHere s q) → equal (keyHere s at) (keyHere s (getD starts i 0)) ≡ b
+row-same s starts i at o h = rw (← o) (sym h)
 
 -- a row whose print is another holds another key
-pub row-differs : {s starts prints : List ℕ} {i : ℕ} (k : List ℕ) {print : ℕ} → RowHolds s starts prints i → print ≡ printOf k → (getD prints i 0 ≡ print → ⊥) → equal k (keyBytes s (keyAt s (getD starts i 0))) ≡ false
+pub row-differs : {s starts prints : List ℕ} {i : ℕ} (k : List ℕ) {print : ℕ} → RowHolds s starts prints i → print ≡ printOf k → (getD prints i 0 ≡ print → ⊥) → equal k (keyHere s (getD starts i 0)) ≡ false
 row-differs k r p ne = equal-false k _ (λ e. ne (r .print ∙ ap printOf (sym e) ∙ sym p))
 
 -- no row has the print: the key is in none
@@ -142,15 +132,19 @@ module _ (s starts prints : List ℕ) (base end : ℕ) (st : Stored s (drop base
   none-below (suc n) h =
       let i : base + suc n - 1 ≡ base + n = omega arith in
       let r : RowHolds s starts prints (base + n) = row-holds s starts base prints (end - base) st (base + n) (omega arith) (omega arith) in
-      let d : equal k (keyBytes s (keyAt s (getD starts (base + suc n - 1) 0))) ≡ false = rw i (row-differs k r is (no (base + n) (omega arith) (omega arith))) in
+      let d : equal k (keyHere s (getD starts (base + suc n - 1) 0)) ≡ false = rw i (row-differs k r is (no (base + n) (omega arith) (omega arith))) in
       seen-next s starts base k (base + suc n) false (omega arith) d ∙ rw i (none-below n (omega arith))
 
   pub none-seen : base ≤ end → among k (keysIn s starts base end) ≡ false
   none-seen le = let e : base + (end - base) ≡ end = omega arith in subst (λ (i : ℕ). among k (keysIn s starts base i) ≡ false) e (none-below (end - base) (omega arith))
 
+-- the key whose bytes and print were read
+pub sought : {s starts prints : List ℕ} {at base end a m print : ℕ} → Rows s base end starts prints → keyAt s at ≡ Text.At a m → print ≡ printOf (take m (drop a s)) → Sought s base end starts prints at print
+sought {s} {a = a} {m = m} r k p = record { rows = r; key = record { a = a; m = m; is = k }; is = rw k p }
+
 -- a row more
 
-module _ {s starts prints : List ℕ} {base end at a m print : ℕ} (x : Sought s base end starts prints at a m print) where
+module _ {s starts prints : List ℕ} {base end at print : ℕ} (x : Sought s base end starts prints at print) where
   split : end ≡ base + (end - base)
   split = omega (arith, x .rows .order)
 
@@ -166,16 +160,13 @@ module _ {s starts prints : List ℕ} {base end at a m print : ℕ} (x : Sought 
   prints-room : end - base < length (drop base prints)
   prints-room = simp length-drop (omega (arith, x .rows .order, x .rows .room, x .rows .prints-long))
 
-  key-bytes : keyBytes s (keyAt s at) ≡ take m (drop a s)
-  key-bytes = ap (keyBytes s) (x .key)
-
-  pub noted-keys : keysIn s (set starts end at) base (end + 1) ≡ take m (drop a s) ∷ keysIn s starts base end
-  noted-keys = rw (rows-set starts at, next, ← key-bytes) (keys-more s (drop base starts) (end - base) at starts-room)
+  pub noted-keys : keysIn s (set starts end at) base (end + 1) ≡ keyHere s at ∷ keysIn s starts base end
+  noted-keys = rw (rows-set starts at, next) (keys-more s (drop base starts) (end - base) at starts-room)
 
   pub noted-stored : Stored s (drop base (set starts end at)) (drop base (set prints end print)) (end + 1 - base)
   noted-stored =
       rw (rows-set starts at, rows-set prints print, next)
-      (stored-more s (drop base starts) (drop base prints) (end - base) at print starts-room prints-room (record { a = a; m = m; is = x .key }) (x .is ∙ ap printOf (sym key-bytes)) (x .rows .stored))
+      (stored-more s (drop base starts) (drop base prints) (end - base) at print starts-room prints-room (x .key) (x .is) (x .rows .stored))
 
 -- tables that are kept
 
@@ -202,23 +193,27 @@ pub free-kept : {leads s : List ℕ} {d : ℕ} {starts prints starts' prints' : 
 free-kept x ks kp = record { small = x .small; table = x .table; levels = x .levels; starts-long = ks .long; prints-long = kp .long }
 
 -- an answer by its case, and one for a value with more levels left
-pub walked-as : {expected : Walk} {d : ℕ} {starts prints starts' prints' : List ℕ} {r q : Walk} → r ≡ q → Walked expected d starts prints r starts' prints' → Walked expected d starts prints q starts' prints'
+pub walked-as : {expected : Walk} {d : ℕ} {starts prints starts' prints' : List ℕ} {r q : Walk} → r ≡ q → KeysWalked expected d starts prints r starts' prints' → KeysWalked expected d starts prints q starts' prints'
 walked-as e v = record { answer = sym e ∙ v .answer; starts-kept = v .starts-kept; prints-kept = v .prints-kept }
 
-pub walked-in : {inner outer : Walk} {d e : ℕ} {starts prints starts' prints' : List ℕ} {r : Walk} → d ≡ e → outer ≡ inner → Walked inner d starts prints r starts' prints' → Walked outer e starts prints r starts' prints'
+pub walked-in : {inner outer : Walk} {d e : ℕ} {starts prints starts' prints' : List ℕ} {r : Walk} → d ≡ e → outer ≡ inner → KeysWalked inner d starts prints r starts' prints' → KeysWalked outer e starts prints r starts' prints'
 walked-in q o v = record { answer = v .answer ∙ sym o; starts-kept = kept-at q (v .starts-kept); prints-kept = kept-at q (v .prints-kept) }
 
-pub walked-more : {expected : Walk} {d : ℕ} {starts prints starts' prints' : List ℕ} {r : Walk} → Walked expected d starts prints r starts' prints' → Walked expected (d + 1) starts prints r starts' prints'
+pub walked-more : {expected : Walk} {d : ℕ} {starts prints starts' prints' : List ℕ} {r : Walk} → KeysWalked expected d starts prints r starts' prints' → KeysWalked expected (d + 1) starts prints r starts' prints'
 walked-more v = record { answer = v .answer; starts-kept = kept-more (v .starts-kept); prints-kept = kept-more (v .prints-kept) }
 
-pub noted-as : {s : List ℕ} {at base end : ℕ} {starts prints starts' prints' : List ℕ} {r q : Walk} → r ≡ q → Noted s at base end starts prints r starts' prints' → Noted s at base end starts prints q starts' prints'
-noted-as {s} {at} {base} {end} {starts} {prints} {starts'} {prints'} e n = subst (λ (v : Walk). Noted s at base end starts prints v starts' prints') e n
+pub noted-as : {s : List ℕ} {at base end : ℕ} {starts prints starts' prints' : List ℕ} {r q : Walk} → r ≡ q → KeyNoted s at base end starts prints r starts' prints' → KeyNoted s at base end starts prints q starts' prints'
+noted-as {s} {at} {base} {end} {starts} {prints} {starts'} {prints'} e n = subst (λ (v : Walk). KeyNoted s at base end starts prints v starts' prints') e n
 
 -- a row of the level itself is not among those that are kept
 pub kept-set : (depth i v : ℕ) (t : List ℕ) → length t ≡ tableLength → i < (depth + 1) * entryLimit → Kept (depth + 1) t (set t i v)
 kept-set depth i v t l lt = record { long = length-set t i v ∙ l; same = drop-set-lt ((depth + 1) * entryLimit) t i v lt }
 
 -- the loop over a map's entries
+
+-- the bytes of a key by its place and size
+among-key : (s : List ℕ) (at : ℕ) (keys : List (List ℕ)) {a m : ℕ} {t : Bool} → keyAt s at ≡ Text.At a m → among (keyHere s at) keys ≡ t → among (take m (drop a s)) keys ≡ t
+among-key s at keys k b = rw k at b
 
 -- the rows of the map's level hold its first keys, and the entries from here on decide
 pub record Going (leads s : List ℕ) (f : ℕ → Walk) (n at depth : ℕ) (starts₀ prints₀ starts prints : List ℕ) (row p : ℕ) : Type 0 where
@@ -253,7 +248,7 @@ module _ {leads s : List ℕ} (f : ℕ → Walk) {n at depth : ℕ} where
       }
 
   module _ {starts₀ prints₀ starts prints : List ℕ} {row p : ℕ} (g : Going leads s f n at depth starts₀ prints₀ starts prints row p) where
-    pub going-last : depth * entryLimit + n ≤ row → Walked (entriesAt s f n at) (depth + 1) starts₀ prints₀ (Walk.End p) starts prints
+    pub going-last : depth * entryLimit + n ≤ row → KeysWalked (entriesAt s f n at) (depth + 1) starts₀ prints₀ (Walk.End p) starts prints
     going-last le = record {
       answer = sym (g .goes ∙ w.entries-none s f (depth * entryLimit + n - row) p (keysIn s starts (depth * entryLimit) row) (omega arith));
       starts-kept = g .starts-kept;
@@ -272,21 +267,21 @@ module _ {leads s : List ℕ} (f : ℕ → Walk) {n at depth : ℕ} where
       }
 
       -- a key that is refused
-      pub going-key : {e : ℕ} {starts' prints' : List ℕ} → Noted s p (depth * entryLimit) row starts prints (Walk.Refused e) starts' prints' → Walked (entriesAt s f n at) (depth + 1) starts₀ prints₀ (Walk.Refused e) starts' prints'
+      pub going-key : {e : ℕ} {starts' prints' : List ℕ} → KeyNoted s p (depth * entryLimit) row starts prints (Walk.Refused e) starts' prints' → KeysWalked (entriesAt s f n at) (depth + 1) starts₀ prints₀ (Walk.Refused e) starts' prints'
       going-key (refused k) = record {
         answer = sym (g .goes ∙ w.entries-key s f (depth * entryLimit + n - row) p (keysIn s starts (depth * entryLimit) row) (omega arith) k);
         starts-kept = g .starts-kept;
         prints-kept = g .prints-kept;
       }
       going-key (repeated k b) = record {
-        answer = sym (g .goes ∙ w.entries-twice s f (depth * entryLimit + n - row) p (keysIn s starts (depth * entryLimit) row) (omega arith) k b);
+        answer = sym (g .goes ∙ w.entries-twice s f (depth * entryLimit + n - row) p (keysIn s starts (depth * entryLimit) row) (omega arith) k (among-key s p (keysIn s starts (depth * entryLimit) row) k b));
         starts-kept = g .starts-kept;
         prints-kept = g .prints-kept;
       }
 
       -- a key that is new: its value may be walked
-      pub going-free : {q : ℕ} {starts' prints' : List ℕ} → Noted s p (depth * entryLimit) row starts prints (Walk.End q) starts' prints' → Free leads s depth starts' prints'
-      going-free (noted x b) = record {
+      pub going-free : {q : ℕ} {starts' prints' : List ℕ} → KeyNoted s p (depth * entryLimit) row starts prints (Walk.End q) starts' prints' → Free leads s depth starts' prints'
+      going-free (noted k x b) = record {
         small = g .small;
         table = g .table;
         levels = omega (arith, g .levels);
@@ -302,16 +297,16 @@ module _ {leads s : List ℕ} (f : ℕ → Walk) {n at depth : ℕ} where
       kept-past {t₀} {t} {t'} v a b = kept-then a (kept-then (kept-set depth row v t (a .long) row-below) (kept-more b))
 
       -- its value is refused
-      pub going-value : {q e : ℕ} {starts' prints' starts'' prints'' : List ℕ} → Noted s p (depth * entryLimit) row starts prints (Walk.End q) starts' prints' → Walked (f q) depth starts' prints' (Walk.Refused e) starts'' prints'' → Walked (entriesAt s f n at) (depth + 1) starts₀ prints₀ (Walk.Refused e) starts'' prints''
-      going-value (noted x b) v = record {
-        answer = sym (g .goes ∙ w.entries-value s f (depth * entryLimit + n - row) p (keysIn s starts (depth * entryLimit) row) (omega arith) (x .key) b (sym (v .answer)));
+      pub going-value : {q e : ℕ} {starts' prints' starts'' prints'' : List ℕ} → KeyNoted s p (depth * entryLimit) row starts prints (Walk.End q) starts' prints' → KeysWalked (f q) depth starts' prints' (Walk.Refused e) starts'' prints'' → KeysWalked (entriesAt s f n at) (depth + 1) starts₀ prints₀ (Walk.Refused e) starts'' prints''
+      going-value (noted k x b) v = record {
+        answer = sym (g .goes ∙ w.entries-value s f (depth * entryLimit + n - row) p (keysIn s starts (depth * entryLimit) row) (omega arith) k (among-key s p (keysIn s starts (depth * entryLimit) row) k b) (sym (v .answer)));
         starts-kept = kept-past _ (g .starts-kept) (v .starts-kept);
         prints-kept = kept-past _ (g .prints-kept) (v .prints-kept);
       }
 
       -- its value ends: one entry more is done
-      pub going-next : {q e : ℕ} {starts' prints' starts'' prints'' : List ℕ} → Noted s p (depth * entryLimit) row starts prints (Walk.End q) starts' prints' → Walked (f q) depth starts' prints' (Walk.End e) starts'' prints'' → Going leads s f n at depth starts₀ prints₀ starts'' prints'' (row + 1) e
-      going-next (noted x b) v =
+      pub going-next : {q e : ℕ} {starts' prints' starts'' prints'' : List ℕ} → KeyNoted s p (depth * entryLimit) row starts prints (Walk.End q) starts' prints' → KeysWalked (f q) depth starts' prints' (Walk.End e) starts'' prints'' → Going leads s f n at depth starts₀ prints₀ starts'' prints'' (row + 1) e
+      going-next (noted k x b) v =
           let d : depth * entryLimit + n - row - 1 ≡ depth * entryLimit + n - (row + 1) = omega arith in
           record {
             table = g .table;
@@ -325,6 +320,6 @@ module _ {leads s : List ℕ} (f : ℕ → Walk) {n at depth : ℕ} where
             stored = rw (v .starts-kept .same, v .prints-kept .same) (noted-stored x);
             goes =
                 g .goes
-                ∙ w.entries-end s f (depth * entryLimit + n - row) p (keysIn s starts (depth * entryLimit) row) (omega arith) (x .key) b (sym (v .answer))
-                ∙ rw (v .starts-kept .same, noted-keys x, d);
+                ∙ w.entries-end s f (depth * entryLimit + n - row) p (keysIn s starts (depth * entryLimit) row) (omega arith) k (among-key s p (keysIn s starts (depth * entryLimit) row) k b) (sym (v .answer))
+                ∙ rw (v .starts-kept .same, noted-keys x, k, d);
           }

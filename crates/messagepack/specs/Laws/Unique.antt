@@ -41,7 +41,7 @@ first {k} {n} {h} t x =
       lead = starts (h ++ t) 0 (x .lead) (bytesOf (moreOf (x .lead)) n ++ t) (ap (λ (v : List ℕ). v ++ t) (x .is)) .1;
     }
 
--- the same behind a writing that begins with the head
+-- a writing that begins with a head, and what follows it
 past : (w h v t : List ℕ) → w ≡ h ++ v → w ++ t ≡ h ++ (v ++ t)
 past w h v t e = ap (λ (x : List ℕ). x ++ t) e ∙ append-assoc h v t
 

@@ -11,11 +11,12 @@ use lib.Dec.{leb}
 use lib.ListN.{length, take, drop}
 use borrow.Author.Tests.{leb-true, le-leb, lt-leb}
 use Rattle.refusal.specs.Table.{fileOverLimit, cutShort, leadByteUnknown, unsignedTooLarge, stringNotUtf8, nestedTooDeep, tooManyEntries, keyRepeated}
+use Rattle.numbers.specs.Ranges.{integerLimit}
 use Rattle.utf8.specs.Check.{isUtf8}
 use Rattle.heads.specs.Head.{kindAt, headAt}
 use Rattle.heads.specs.declared.Kind.{Kind}
 use Rattle.heads.specs.declared.Head.{Head}
-use Rattle.messagepack.specs.Limits.{fileLimit, entryLimit, integerLimit}
+use Rattle.messagepack.specs.Limits.{fileLimit, entryLimit}
 use Rattle.messagepack.specs.Walk.{onHead, onText, bodyAt, textBody, textHead, textAt, keyOfKind, keyAt, among, manyAt, entriesFrom, entriesAt, valueAt, outer, containerNumber}
 use Rattle.messagepack.specs.declared.Walk.{Walk}
 use Rattle.messagepack.specs.declared.Text.{Text}

@@ -4,13 +4,13 @@ use mathlib.Core.Path.{_≡_, refl, sym, ap, _∙_}
 use mathlib.Core.Bool.{Bool, true, false}
 use mathlib.Core.List.{List, [], _∷_, _++_, append-nil, append-assoc}
 use Prim.Native.Nat.{ℕ, zero, suc, _+_, _*_, _/_, _%_, _^_, _<_, _≤_}
-use native.Mathlib.Nat.{add-zero, pow-zero, pow-suc, pow-succ', one-le-pow, mod-lt, mod-one, mod-eq-of-lt, mul-add-mod-self-right, mul-add-div-right, mul-assoc, div-one, div-div-eq-div-mul}
+use native.Mathlib.Nat.{add-zero, add-assoc, pow-zero, pow-suc, pow-succ', one-le-pow, mod-lt, mod-one, mod-eq-of-lt, mul-add-mod-self-right, mul-add-div-right, mul-assoc, div-one, div-div-eq-div-mul, div-add-mod'}
 use native.Mathlib.Numerals.{add-one}
 use native.Mathlib.Omega.{arith}
 use lib.Dec.{lit<}
 use lib.Arith.{digits-lt, digits-div, mod-mul}
 use lib.ListN.{length, getD, take, drop, set, take-append-drop, length-append, length-take, length-drop}
-use lib.Seq.{getD-take, getD-drop, length-take-le, take-suc, drop-cons, take-at, drop-at, set-at}
+use lib.Seq.{getD-take, getD-drop, length-take-le, take-suc, drop-cons, drop-drop, take-at, drop-at, set-at}
 use lib.IntN.{ℤ}
 use mir.Syntax.{Width, w8, w16, w32, w64, w128}
 use mir.Val.{bits, SFits, ofZ}
@@ -51,6 +51,10 @@ part-bytes s at k fits h i lt =
     let b : i < k = omega (arith, simp (length-take, length-drop) at lt) in
     rw (getD-take, getD-drop) (h (at + i) (omega arith))
 
+pub drop-bytes : (k : ℕ) (s : List ℕ) → Bytes s → Bytes (drop k s)
+unfolding Bytes
+drop-bytes k s h i lt = rw getD-drop (h (k + i) (omega (arith, length-drop k s)))
+
 -- bytesOf
 
 pub length-bytesOf : (k n : ℕ) → length (bytesOf k n) ≡ k
@@ -78,6 +82,10 @@ bytesOf-above zero q n = refl
 bytesOf-above (suc k) q n =
     let e : q * 256 ^ suc k ≡ q * 256 * 256 ^ k = rw (pow-succ' 256 k, mul-assoc) in
     rw (e, mul-add-div-right (pow-pos k) (q * 256) n, mul-add-mod-self-right q 256 (n / 256 ^ k), bytesOf-above k (q * 256) n)
+
+-- only the low bytes of a number are written
+pub bytesOf-mod : (k n : ℕ) → bytesOf k (n % 256 ^ k) ≡ bytesOf k n
+bytesOf-mod k n = sym (bytesOf-above k (n / 256 ^ k) (n % 256 ^ k)) ∙ ap (bytesOf k) (div-add-mod' n (256 ^ k))
 
 -- numberOf
 
@@ -121,7 +129,7 @@ pub unsignedAt-out : (k : ℕ) (s : List ℕ) (at : ℕ) → length s < at + k �
 unfolding unsignedAt
 unsignedAt-out k s at h = rw (lt-leb (at + k) (length s) h)
 
--- the same k bytes loaded one after the other, as code does
+-- k bytes loaded one after the other, as code does, hold the number
 abbrev pub loads : ℕ → List ℕ → ℕ → ℕ
 loads zero s at = 0
 loads (suc k) s at = loads k s at * 256 + getD s (at + k) 0
@@ -134,6 +142,20 @@ unsignedAt-loads (suc k) s at h =
     let e : numberOf (take k (drop at s)) ≡ loads k s at = sym (unsignedAt-in k s at (omega arith)) ∙ unsignedAt-loads k s at (omega arith) in
     unsignedAt-in (suc k) s at h
     ∙ rw (take-suc (drop at s) k 0 b, getD-drop at s k 0) (numberOf-snoc (take k (drop at s)) (getD s (at + k) 0) ∙ rw e)
+
+-- a number inside a part is read as in the whole
+
+module _ (s : List ℕ) (a m : ℕ) (le : a + m ≤ length s) where
+  loads-part : (k i : ℕ) → i + k ≤ m → loads k (take m (drop a s)) i ≡ loads k s (a + i)
+  loads-part zero i h = refl
+  loads-part (suc k) i h =
+      let b : getD (take m (drop a s)) (i + k) 0 ≡ getD s (a + i + k) 0 = getD-take m (drop a s) (i + k) 0 (omega arith) ∙ getD-drop a s (i + k) 0 ∙ ap (λ (j : ℕ). getD s j 0) (sym (add-assoc a i k)) in
+      rw (loads-part k i (omega arith), b)
+
+pub unsignedAt-part : (k : ℕ) (s : List ℕ) (a m i : ℕ) → a + m ≤ length s → i + k ≤ m → unsignedAt k (take m (drop a s)) i ≡ unsignedAt k s (a + i)
+unsignedAt-part k s a m i le h =
+    let l : length (take m (drop a s)) ≡ m = simp (length-take, length-drop) (omega arith) in
+    unsignedAt-loads k (take m (drop a s)) i (rw l h) ∙ loads-part s a m le k i h ∙ sym (unsignedAt-loads k s (a + i) (omega arith))
 
 -- writtenAt
 
@@ -155,7 +177,7 @@ length-writtenAt k s at n = by-test (inside k s at) refl
         rw (writtenAt-in k s at n h) (simp (length-append, length-bytesOf, length-drop) (omega arith))
     by-test false e = ap length (writtenAt-out k s at n (leb-false (at + k) (length s) e))
 
--- the same k bytes stored one after the other, as code does
+-- k bytes stored one after the other, as code does, are the written ones
 abbrev pub stores : ℕ → List ℕ → ℕ → ℕ → List ℕ
 stores zero s at n = s
 stores (suc k) s at n = set (stores k s at (n / 256)) (at + k) (n % 256)
@@ -194,3 +216,25 @@ unfolding signedAt
 signedAt-writtenAt w s at z h f =
     let b : ofZ w z < 256 ^ bytesIn w = rw (pow-bytesIn w) at (fits-ofZ {w = w} f .fits) in
     rw (unsignedAt-writtenAt (bytesIn w) s at (ofZ w z) h b) (toZ-ofZ {w = w} f)
+
+-- Numbers in joined lists
+
+-- a number of k bytes behind others
+pub unsignedAt-behind : (k n at : ℕ) (a b : List ℕ) → length a ≡ at → n < 256 ^ k → unsignedAt k (a ++ (bytesOf k n ++ b)) at ≡ n
+unsignedAt-behind k n at a b l h =
+    let g = length-bytesOf k n in
+    let i : at + k ≤ length (a ++ (bytesOf k n ++ b)) = simp length-append (omega arith) in
+    unsignedAt-in k (a ++ (bytesOf k n ++ b)) at i ∙ rw (drop-at a (bytesOf k n ++ b) at l, take-at (bytesOf k n) b k g) (numberOf-bytesOf k n h)
+
+-- a number that is read is written so before what follows it
+pub bytesOf-unsignedAt : (s : List ℕ) → Bytes s → (k at : ℕ) → at + k ≤ length s → bytesOf k (unsignedAt k s at) ++ drop (at + k) s ≡ drop at s
+bytesOf-unsignedAt s b k at h =
+    let l : length (take k (drop at s)) ≡ k = length-take-le k (drop at s) (rw length-drop (omega arith)) in
+    let e : bytesOf k (numberOf (take k (drop at s))) ≡ take k (drop at s) = rw l at (bytesOf-numberOf (take k (drop at s)) (part-bytes s at k h b)) in
+    rw (unsignedAt-in k s at h, e, ← drop-drop k at s) (take-append-drop k (drop at s))
+
+-- a number behind others that are left out
+pub unsignedAt-drop : (k : ℕ) (s : List ℕ) (at i : ℕ) → at + i + k ≤ length s → unsignedAt k (drop at s) i ≡ unsignedAt k s (at + i)
+unsignedAt-drop k s at i h =
+    let l = length-drop at s in
+    unsignedAt-in k (drop at s) i (omega arith) ∙ ap (λ (t : List ℕ). numberOf (take k t)) (drop-drop i at s) ∙ sym (unsignedAt-in k s (at + i) h)

@@ -5,8 +5,8 @@ use native.Mathlib.Omega.{arith}
 use mir.Syntax.{w32}
 use mir.Val.{toZ, ofZ}
 use mir.Facts.{toZ-ofZ}
+use Rattle.steps.specs.Laws.Delta.{times-mod, times-fit}
 use borrow.Author.Needs.{needs}
-use Rattle.payloads.specs.Laws.Scan.{times-mod, times-fit}
 use Rattle.payloads.proofs.add_times.Statement.{statement}
 use Rattle.payloads.proofs.add_times.Tie as tie
 

@@ -4,8 +4,8 @@ use mathlib.Core.Bool.{Bool}
 use lib.IntN.{ℤ}
 use mir.Syntax.{w32}
 use mir.Facts.{toZ-ofZ}
+use Rattle.steps.specs.Delta.{plusTimes, afterRun}
 use borrow.Author.Needs.{needs}
-use Rattle.payloads.specs.Items.{plusTimes, afterRun}
 use Rattle.payloads.proofs.after_run.Statement.{statement}
 use Rattle.payloads.proofs.after_run.Tie as tie
 

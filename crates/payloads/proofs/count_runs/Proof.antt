@@ -7,14 +7,15 @@ use lib.ListN.{length}
 use lib.Dec.{eqb}
 use borrow.Author.Needs.{needs}
 use Rattle.refusal.specs.Table.{lengthDiffers}
-use Rattle.codecs.specs.declared.Form.the-variants.{Runs}
+use Rattle.steps.specs.declared.Form.the-variants.{Runs}
+use Rattle.steps.specs.Payload.{readIn}
+use Rattle.payloads.specs.Exact.{exact}
 use Rattle.payloads.specs.declared.Item.the-variants.{Run}
 use Rattle.payloads.specs.declared.Outcome.the-variants.{Fine, Refused}
-use Rattle.payloads.specs.Held.{exact}
-use Rattle.payloads.specs.Items.{readIn, told}
+use Rattle.payloads.specs.Items.{outcomeRefusal}
 use Rattle.payloads.specs.Laws.Items.{Gives, item-read}
 use Rattle.payloads.specs.Laws.Scan.{Kept, kept-start, kept-run, kept-wrong, kept-end}
-use Rattle.payloads.specs.Laws.Refusal.{told-scan}
+use Rattle.payloads.specs.Laws.Refusal.{outcome-scan}
 use Rattle.payloads.proofs.count_runs.Statement.{statement}
 use Rattle.payloads.proofs.count_runs.Tie as tie
 
@@ -46,11 +47,11 @@ returns : tie.Need-returns Inv-loop μ-loop
 returns c =
     let a = c .before .before .before .before .before .args in
     let p = c .before .before .before .loop in
-    ap told (kept-wrong (a .range) false (a .length) (a .payload .now) (p .at) (p .left) (p .over) (p .inv .1) (p .inv .2) (item-read (Runs (a .range)) (a .payload .now) (p .at) (c .before .before .run-item .ensures) (c .enum-told .given .1)))
-    ∙ told-scan (Runs (a .range)) false (a .length) (readIn (Runs (a .range)) (a .payload .now))
+    ap outcomeRefusal (kept-wrong (a .range) false (a .length) (a .payload .now) (p .at) (p .left) (p .over) (p .inv .1) (p .inv .2) (item-read (Runs (a .range)) (a .payload .now) (p .at) (c .before .before .run-item .ensures) (c .enum-told .given .1)))
+    ∙ outcome-scan (Runs (a .range)) false (a .length) (readIn (Runs (a .range)) (a .payload .now))
 
 -- whether the results are exact is not told
-same : (b ok : Bool) → told (cond b (Refused lengthDiffers) (Fine false)) ≡ told (cond b (Refused lengthDiffers) (Fine ok))
+same : (b ok : Bool) → outcomeRefusal (cond b (Refused lengthDiffers) (Fine false)) ≡ outcomeRefusal (cond b (Refused lengthDiffers) (Fine ok))
 same true ok = refl
 same false ok = refl
 
@@ -58,9 +59,9 @@ returns-2 : tie.Need-returns-2 Inv-loop μ-loop
 returns-2 c =
     let a = c .before .before .before .before .before .before .before .args in
     let p = c .before .before .before .before .before .loop in
-    c .refusal-in .ensures ∙ ap told (c .before .judged .ensures) ∙ same (p .over || not (eqb (p .left) 0)) (p .inv .1)
-    ∙ ap told (kept-end (a .range) false (a .length) (a .payload .now) (p .at) (p .left) (p .over) (p .inv .1) (p .inv .2) (item-read (Runs (a .range)) (a .payload .now) (p .at) (c .before .before .before .before .run-item .ensures) (c .before .before .enum-told2 .given .1)))
-    ∙ told-scan (Runs (a .range)) false (a .length) (readIn (Runs (a .range)) (a .payload .now))
+    c .refusal-in .ensures ∙ ap outcomeRefusal (c .before .judged .ensures) ∙ same (p .over || not (eqb (p .left) 0)) (p .inv .1)
+    ∙ ap outcomeRefusal (kept-end (a .range) false (a .length) (a .payload .now) (p .at) (p .left) (p .over) (p .inv .1) (p .inv .2) (item-read (Runs (a .range)) (a .payload .now) (p .at) (c .before .before .before .before .run-item .ensures) (c .before .before .enum-told2 .given .1)))
+    ∙ outcome-scan (Runs (a .range)) false (a .length) (readIn (Runs (a .range)) (a .payload .now))
 
 pub count-runs-spec : {M : Type 1} → statement M
 count-runs-spec =

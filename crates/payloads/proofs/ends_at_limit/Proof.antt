@@ -3,7 +3,7 @@ use mathlib.Core.Path.{sym, ap, _∙_}
 use borrow.Author.Needs.{needs}
 use mir.Syntax.{w32}
 use mir.Facts.{toZ-ofZ}
-use Rattle.codecs.specs.Packing.{isLimit}
+use Rattle.steps.specs.Packing.{isLimit}
 use Rattle.payloads.specs.Laws.Limits.{ends-none, ends-last}
 use Rattle.payloads.proofs.ends_at_limit.Statement.{statement}
 use Rattle.payloads.proofs.ends_at_limit.Tie as tie

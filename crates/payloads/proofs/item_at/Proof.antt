@@ -1,7 +1,7 @@
 -- Each arm is the reader of its form; at the end there is nothing.
 use mathlib.Core.Path.{sym, ap, _∙_}
 use borrow.Author.Needs.{needs}
-use Rattle.codecs.specs.declared.Form.{Form}
+use Rattle.steps.specs.declared.Form.{Form}
 use Rattle.payloads.specs.Items.{itemAt}
 use Rattle.payloads.specs.Laws.Items.{item-end}
 use Rattle.payloads.proofs.item_at.Statement.{statement}

@@ -3,8 +3,8 @@ use mathlib.Core.Path.{sym, ap, _∙_}
 use mir.Syntax.{w32}
 use mir.Facts.{toZ-ofZ}
 use borrow.Author.Needs.{needs}
-use Rattle.codecs.specs.declared.Range.the-variants.{Ascii}
-use Rattle.codecs.specs.Payload.{inRange}
+use Rattle.steps.specs.declared.Range.the-variants.{Ascii}
+use Rattle.steps.specs.Payload.{inRange}
 use Rattle.payloads.specs.Laws.Items.{name-item}
 use Rattle.payloads.proofs.name_item.Statement.{statement}
 use Rattle.payloads.proofs.name_item.Tie as tie

@@ -4,8 +4,7 @@ use mathlib.Core.Bool.{Bool}
 use mir.Syntax.{w32}
 use mir.Facts.{toZ-ofZ}
 use borrow.Author.Needs.{needs}
-use Rattle.codecs.specs.Delta.{plusDelta}
-use Rattle.payloads.specs.Results.{advance}
+use Rattle.steps.specs.Delta.{plusDelta, advance}
 use Rattle.payloads.proofs.next_result.Statement.{statement}
 use Rattle.payloads.proofs.next_result.Tie as tie
 

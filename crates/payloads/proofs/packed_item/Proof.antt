@@ -11,11 +11,11 @@ use mir.Val.{toZ}
 use mir.Facts.{toZ-ofZ}
 use borrow.Author.Needs.{needs}
 use borrow.Author.Tests.{lt-ltb, le-ltb}
-use Rattle.codecs.specs.declared.Form.the-variants.{Packed}
-use Rattle.codecs.specs.declared.Turn.{Turn}
-use Rattle.codecs.specs.Width.{sizeOf}
-use Rattle.codecs.specs.Steps.{turnOf}
-use Rattle.codecs.specs.Laws.Numbers.{size-pos}
+use Rattle.steps.specs.declared.Form.the-variants.{Packed}
+use Rattle.steps.specs.declared.Turn.{Turn}
+use Rattle.steps.specs.Width.{sizeOf}
+use Rattle.steps.specs.Steps.{turnOf}
+use Rattle.steps.specs.Laws.Numbers.{size-pos}
 use Rattle.payloads.specs.declared.Item.the-variants.{Wrong, End}
 use Rattle.payloads.specs.Items.{itemAt}
 use Rattle.payloads.specs.Laws.Items.{resultAt, next, result-turn, result-end, packed-item}

@@ -4,7 +4,7 @@ use native.Mathlib.Omega.{arith}
 use mir.Syntax.{w32}
 use mir.Facts.{toZ-ofZ}
 use borrow.Author.Needs.{needs}
-use Rattle.codecs.specs.declared.Form.the-variants.{Plain}
+use Rattle.steps.specs.declared.Form.the-variants.{Plain}
 use Rattle.payloads.specs.Laws.Items.{item-short, plain-item}
 use Rattle.payloads.proofs.plain_item.Statement.{statement}
 use Rattle.payloads.proofs.plain_item.Tie as tie

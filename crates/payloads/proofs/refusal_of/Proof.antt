@@ -1,46 +1,40 @@
--- Each arm is a loop of its form, or what a scan says (`told-scan`).
+-- Each arm is a loop of its form, or what a scan says (`outcome-scan`).
 use mathlib.Core.Path.{refl, ap, _∙_}
 use mathlib.Core.Bool.{false}
-use native.Mathlib.Omega.{arith}
 use borrow.Author.Needs.{needs}
-use Rattle.numbers.specs.Laws.BigEndian.{bytes-of}
-use Rattle.codecs.specs.declared.Size.the-variants.{One, Two, Four}
-use Rattle.codecs.specs.declared.Form.the-variants.{Plain, Packed, Runs}
-use Rattle.payloads.specs.Items.{readIn, told}
-use Rattle.payloads.specs.Laws.Refusal.{told-scan, refusal-held, names-as}
+use Rattle.steps.specs.declared.Size.the-variants.{One, Two, Four}
+use Rattle.steps.specs.declared.Form.the-variants.{Plain, Packed, Runs}
+use Rattle.steps.specs.Payload.{readIn}
+use Rattle.payloads.specs.Items.{outcomeRefusal}
+use Rattle.payloads.specs.Laws.Refusal.{outcome-scan, refusal-held, names-as}
 use Rattle.payloads.proofs.refusal_of.Statement.{statement}
 use Rattle.payloads.proofs.refusal_of.Tie as tie
 
 returns : tie.Need-returns
 returns c =
     let a = c .before .before .before .before .before .before .before .before .args in
-    let b = bytes-of (a .payload .now) (λ i. omega (arith, c .before .before .before .before .before .before .before .shared-slice-known .given i)) in
-    refusal-held (Packed One) (a .form) (a .size) (a .length) (a .payload .now) (c .refusal-in .result) b refl (c .before .before .before .before .before .form .given .1 ∙ ap Packed (c .before .before .enum-told .given .1)) (c .refusal-in .ensures ∙ ap told (c .before .scan-packed .ensures) ∙ told-scan (Packed One) false (a .length) (readIn (Packed One) (a .payload .now)))
+    refusal-held (Packed One) (a .form) (a .size) (a .length) (a .payload .now) (c .refusal-in .result) refl (c .before .before .before .before .before .form .given .1 ∙ ap Packed (c .before .before .enum-told .given .1)) (c .refusal-in .ensures ∙ ap outcomeRefusal (c .before .scan-packed .ensures) ∙ outcome-scan (Packed One) false (a .length) (readIn (Packed One) (a .payload .now)))
 
 returns-2 : tie.Need-returns-2
 returns-2 c =
     let a = c .before .before .before .before .before .before .before .args in
-    let b = bytes-of (a .payload .now) (λ i. omega (arith, c .before .before .before .before .before .before .shared-slice-known .given i)) in
-    refusal-held (Packed Two) (a .form) (a .size) (a .length) (a .payload .now) (c .count-two .result) b refl (c .before .before .before .before .form .given .1 ∙ ap Packed (c .before .enum-told2 .given .1)) (c .count-two .ensures)
+    refusal-held (Packed Two) (a .form) (a .size) (a .length) (a .payload .now) (c .count-two .result) refl (c .before .before .before .before .form .given .1 ∙ ap Packed (c .before .enum-told2 .given .1)) (c .count-two .ensures)
 
 returns-3 : tie.Need-returns-3
 returns-3 c =
     let a = c .before .before .before .before .before .before .before .before .args in
-    let b = bytes-of (a .payload .now) (λ i. omega (arith, c .before .before .before .before .before .before .before .shared-slice-known .given i)) in
-    refusal-held (Packed Four) (a .form) (a .size) (a .length) (a .payload .now) (c .refusal-in2 .result) b refl (c .before .before .before .before .before .form .given .1 ∙ ap Packed (c .before .before .enum-told3 .given .1)) (c .refusal-in2 .ensures ∙ ap told (c .before .scan-packed2 .ensures) ∙ told-scan (Packed Four) false (a .length) (readIn (Packed Four) (a .payload .now)))
+    refusal-held (Packed Four) (a .form) (a .size) (a .length) (a .payload .now) (c .refusal-in2 .result) refl (c .before .before .before .before .before .form .given .1 ∙ ap Packed (c .before .before .enum-told3 .given .1)) (c .refusal-in2 .ensures ∙ ap outcomeRefusal (c .before .scan-packed2 .ensures) ∙ outcome-scan (Packed Four) false (a .length) (readIn (Packed Four) (a .payload .now)))
 
 returns-4 : tie.Need-returns-4
 returns-4 c =
     let a = c .before .before .before .before .before .args in
-    let b = bytes-of (a .payload .now) (λ i. omega (arith, c .before .before .before .before .shared-slice-known .given i)) in
-    refusal-held (Runs (c .before .before .form2 .given .0 .0)) (a .form) (a .size) (a .length) (a .payload .now) (c .count-runs .result) b refl (c .before .before .form2 .given .1) (c .count-runs .ensures)
+    refusal-held (Runs (c .before .before .form2 .given .0 .0)) (a .form) (a .size) (a .length) (a .payload .now) (c .count-runs .result) refl (c .before .before .form2 .given .1) (c .count-runs .ensures)
 
 returns-5 : tie.Need-returns-5
 returns-5 c =
     let a = c .before .before .before .before .before .before .args in
-    let b = bytes-of (a .payload .now) (λ i. omega (arith, c .before .before .before .before .before .shared-slice-known .given i)) in
     let z = c .before .before .before .form3 .given .0 .0 in
-    refusal-held (Plain z) (a .form) (a .size) (a .length) (a .payload .now) (c .refusal-in3 .result) b refl (c .before .before .before .form3 .given .1) (c .refusal-in3 .ensures ∙ ap told (c .before .scan-plain .ensures) ∙ told-scan (Plain z) false (a .length) (readIn (Plain z) (a .payload .now)))
+    refusal-held (Plain z) (a .form) (a .size) (a .length) (a .payload .now) (c .refusal-in3 .result) refl (c .before .before .before .form3 .given .1) (c .refusal-in3 .ensures ∙ ap outcomeRefusal (c .before .scan-plain .ensures) ∙ outcome-scan (Plain z) false (a .length) (readIn (Plain z) (a .payload .now)))
 
 returns-6 : tie.Need-returns-6
 returns-6 c = let a = c .before .before .before .before .args in names-as (a .form) (a .size) (a .length) (a .payload .now) (c .names-refusal .result) (c .before .enum-told4 .given .1) (c .names-refusal .ensures)

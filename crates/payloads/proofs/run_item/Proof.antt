@@ -10,7 +10,7 @@ use mir.Val.{ofZ}
 use mir.Facts.{toZ-ofZ}
 use borrow.Author.Needs.{needs}
 use Rattle.numbers.specs.BigEndian.{signedAt}
-use Rattle.codecs.specs.Payload.{inRange}
+use Rattle.steps.specs.Payload.{inRange}
 use Rattle.payloads.specs.Laws.Items.{count-bits, run-short, run-item}
 use Rattle.payloads.proofs.run_item.Statement.{statement}
 use Rattle.payloads.proofs.run_item.Tie as tie

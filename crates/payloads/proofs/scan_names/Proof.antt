@@ -1,7 +1,7 @@
 -- By the refusal of the names (`names-scanned`, `names-fine`).
 use mathlib.Core.Path.{sym, _∙_}
 use borrow.Author.Needs.{needs}
-use Rattle.codecs.specs.declared.Form.the-variants.{Names}
+use Rattle.steps.specs.declared.Form.the-variants.{Names}
 use Rattle.columns.specs.Table.{elements}
 use Rattle.payloads.specs.Laws.Refusal.{names-scanned, names-fine}
 use Rattle.payloads.proofs.scan_names.Statement.{statement}

@@ -8,11 +8,11 @@ use mir.Syntax.{w32}
 use mir.Val.{toZ, ofZ}
 use mir.Facts.{toZ-ofZ}
 use borrow.Author.Needs.{needs}
-use Rattle.codecs.specs.Width.{sizeOf}
-use Rattle.codecs.specs.Steps.{turnOf}
-use Rattle.codecs.specs.Laws.Numbers.{size-pos}
-use Rattle.payloads.specs.Held.{exact}
-use Rattle.payloads.specs.Results.{advance}
+use Rattle.steps.specs.Width.{sizeOf}
+use Rattle.steps.specs.Steps.{turnOf}
+use Rattle.steps.specs.Laws.Numbers.{size-pos}
+use Rattle.steps.specs.Delta.{advance}
+use Rattle.payloads.specs.Exact.{exact}
 use Rattle.payloads.specs.Laws.Packed.{Unpacked, unpacked-start, unpacked-more, unpacked-done, unpacked-wrong, unpacked-unfinished, unpacked-other, unpacked-all}
 use Rattle.payloads.proofs.scan_packed.Statement.{statement}
 use Rattle.payloads.proofs.scan_packed.Tie as tie

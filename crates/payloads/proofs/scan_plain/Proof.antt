@@ -1,11 +1,9 @@
 -- The count of plain numbers is the payload's size (`plain-other`, `plain-right`).
 use mathlib.Core.Path.{sym, ap, _∙_}
 use Prim.Native.Nat.{ℕ, _/_}
-use native.Mathlib.Omega.{arith}
 use lib.ListN.{length}
 use borrow.Author.Needs.{needs}
-use Rattle.numbers.specs.Laws.BigEndian.{bytes-of}
-use Rattle.codecs.specs.Laws.Numbers.{size-pos}
+use Rattle.steps.specs.Laws.Numbers.{size-pos}
 use Rattle.payloads.specs.declared.Outcome.the-variants.{Fine}
 use Rattle.payloads.specs.Laws.Plain.{plain-other, plain-right}
 use Rattle.payloads.proofs.scan_plain.Statement.{statement}
@@ -22,9 +20,8 @@ returns c =
 returns-2 : tie.Need-returns-2
 returns-2 c =
     let a = c .before .before .before .before .args in
-    let b = bytes-of (a .payload .now) (λ i. omega (arith, c .before .before .before .shared-slice-known .given i)) in
     let l = sym (ap (λ (k : ℕ). length (a .payload .now) / k) (c .before .before .bytes .ensures)) ∙ c .before .if1 .left in
-    ap Fine (c .judges-exact .ensures) ∙ sym (plain-right (a .size) (a .delta) (a .payload .now) (a .length) b l)
+    ap Fine (c .judges-exact .ensures) ∙ sym (plain-right (a .size) (a .delta) (a .payload .now) (a .length) l)
 
 pub scan-plain-spec : {M : Type 1} → statement M
 scan-plain-spec =

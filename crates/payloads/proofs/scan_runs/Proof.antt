@@ -7,9 +7,9 @@ use lib.ListN.{length}
 use mir.Syntax.{w32}
 use mir.Facts.{toZ-ofZ}
 use borrow.Author.Needs.{needs}
-use Rattle.codecs.specs.declared.Form.the-variants.{Runs}
+use Rattle.steps.specs.declared.Form.the-variants.{Runs}
+use Rattle.payloads.specs.Exact.{exact}
 use Rattle.payloads.specs.declared.Item.the-variants.{Run}
-use Rattle.payloads.specs.Held.{exact}
 use Rattle.payloads.specs.Laws.Items.{Gives, item-read}
 use Rattle.payloads.specs.Laws.Scan.{Kept, kept-start, kept-run, kept-wrong, kept-end}
 use Rattle.payloads.proofs.scan_runs.Statement.{statement}

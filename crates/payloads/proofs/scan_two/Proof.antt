@@ -10,11 +10,12 @@ use mir.Val.{toZ, ofZ, SFits}
 use mir.Facts.{toZ-ofZ}
 use borrow.Author.Needs.{needs}
 use Rattle.numbers.specs.BigEndian.{signedAt}
-use Rattle.numbers.specs.Laws.BigEndian.{bytes-of}
-use Rattle.codecs.specs.Delta.{plusDelta}
-use Rattle.codecs.specs.Packing.{isLimit}
-use Rattle.payloads.specs.Held.{exact}
-use Rattle.payloads.specs.Laws.Totals.{two-fits, Totalled, totalled-start, totalled-more, totalled-done, totalled-unfinished, totalled-other, totalled-all}
+use Rattle.steps.specs.declared.Size.the-variants.{Two}
+use Rattle.steps.specs.Delta.{plusDelta}
+use Rattle.steps.specs.Packing.{isLimit}
+use Rattle.payloads.specs.Exact.{exact}
+use Rattle.steps.specs.Laws.NumbersBack.{signedAt-fits}
+use Rattle.payloads.specs.Laws.Totals.{Totalled, totalled-start, totalled-more, totalled-done, totalled-unfinished, totalled-other, totalled-all}
 use Rattle.payloads.proofs.scan_two.Statement.{statement}
 use Rattle.payloads.proofs.scan_two.Tie as tie
 
@@ -33,7 +34,7 @@ number : (c : tie.After-is-limit Inv-loop μ-loop) → toZ w32 (ofZ w32 (c .befo
 number c = toZ-ofZ {w = w32} (record { sfits = c .before .before .number-at .ok }) ∙ c .before .before .number-at .ensures
 
 fits : (c : tie.After-is-limit Inv-loop μ-loop) → SFits w16 (signedAt w16 (c .before .before .before .before .before .before .args .payload .now) (c .before .before .before .before .loop .i))
-fits c = two-fits (c .before .before .before .before .before .before .args .payload .now) (c .before .before .before .before .loop .i) (bytes-of (c .before .before .before .before .before .before .args .payload .now) (λ j. omega (arith, c .before .before .before .before .before .shared-slice-known .given j))) (omega arith)
+fits c = signedAt-fits Two (c .before .before .before .before .before .before .args .payload .now) (c .before .before .before .before .loop .i)
 
 -- the total with it
 total : (c : tie.After-is-limit Inv-loop μ-loop) → toZ w32 (ofZ w32 (c .before .add-delta .result)) ≡ plusDelta (toZ w32 (c .before .before .before .before .loop .total)) (signedAt w16 (c .before .before .before .before .before .before .args .payload .now) (c .before .before .before .before .loop .i))

@@ -13,25 +13,25 @@ use mir.Syntax.{w32}
 use mir.Val.{ofZ}
 use borrow.Author.Tests.{ltb-true, ltb-false}
 use Rattle.numbers.specs.BigEndian.{signedAt}
-use Rattle.codecs.specs.declared.Size.{Size}
-use Rattle.codecs.specs.declared.Size.the-variants.{One, Two, Four}
-use Rattle.codecs.specs.declared.Range.{Range}
-use Rattle.codecs.specs.declared.Range.the-variants.{Ascii}
-use Rattle.codecs.specs.declared.Form.{Form}
-use Rattle.codecs.specs.declared.Form.the-variants.{Plain, Packed, Runs, Names}
-use Rattle.codecs.specs.declared.Turn.{Turn}
-use Rattle.codecs.specs.declared.Turn.the-variants.{More, Done, Wrong}
-use Rattle.codecs.specs.Width.{widthOf, sizeOf, upper, lower}
-use Rattle.codecs.specs.Numbers.{numbersIn}
-use Rattle.codecs.specs.RunLength.{expand}
-use Rattle.codecs.specs.Packing.{isLimit, in32, unpackFrom}
-use Rattle.codecs.specs.Payload.{numberSize, inRange, allIn}
-use Rattle.codecs.specs.Steps.{turnOf}
-use Rattle.codecs.specs.Laws.Numbers.{size-pos, numbers-step, numbers-end}
+use Rattle.steps.specs.declared.Size.{Size}
+use Rattle.steps.specs.declared.Size.the-variants.{One, Two, Four}
+use Rattle.steps.specs.declared.Range.{Range}
+use Rattle.steps.specs.declared.Range.the-variants.{Ascii}
+use Rattle.steps.specs.declared.Form.{Form}
+use Rattle.steps.specs.declared.Form.the-variants.{Plain, Packed, Runs, Names}
+use Rattle.steps.specs.declared.Turn.{Turn}
+use Rattle.steps.specs.declared.Turn.the-variants.{More, Done, Wrong}
+use Rattle.steps.specs.Width.{widthOf, sizeOf, upper, lower}
+use Rattle.steps.specs.Numbers.{numbersIn}
+use Rattle.steps.specs.RunLength.{expand}
+use Rattle.steps.specs.Packing.{isLimit, in32, unpackFrom}
+use Rattle.steps.specs.Payload.{numberSize, inRange, allIn, onlyIn, readIn}
+use Rattle.steps.specs.Steps.{turnOf}
+use Rattle.steps.specs.Laws.Numbers.{size-pos, numbers-step, numbers-end}
 use Rattle.payloads.specs.declared.Item.{Item}
 use Rattle.payloads.specs.declared.Item.the-variants as item
 use Rattle.payloads.specs.declared.Item.the-variants.{Run, End}
-use Rattle.payloads.specs.Items.{within, readIn, resultOf, itemAt, itemOf}
+use Rattle.payloads.specs.Items.{resultOf, itemAt, itemOf}
 
 -- Items
 
@@ -55,7 +55,7 @@ all-run r (suc (suc n)) v l h = by (inRange r v) (all-run r (suc n) v l (omega a
     by false e = refl
 
 pub within-run : (r : Range) (n : ℕ) (v : ℤ) (o : Option (List ℤ)) → 1 ≤ n → inRange r v ≡ true
-    → within r (Option·map (λ (l : List ℤ). replicate n v ++ l) o) ≡ Option·map (λ (l : List ℤ). replicate n v ++ l) (within r o)
+    → onlyIn r (Option·map (λ (l : List ℤ). replicate n v ++ l) o) ≡ Option·map (λ (l : List ℤ). replicate n v ++ l) (onlyIn r o)
 within-run r n v none h e = refl
 within-run r n v (some l) h e = rw (all-run r n v l h, e) (by (allIn r l))
   where
@@ -64,7 +64,7 @@ within-run r n v (some l) h e = rw (all-run r n v l h, e) (by (allIn r l))
     by false = refl
 
 pub within-wrong : (r : Range) (n : ℕ) (v : ℤ) (o : Option (List ℤ)) → 1 ≤ n → inRange r v ≡ false
-    → within r (Option·map (λ (l : List ℤ). replicate n v ++ l) o) ≡ none
+    → onlyIn r (Option·map (λ (l : List ℤ). replicate n v ++ l) o) ≡ none
 within-wrong r n v none h e = refl
 within-wrong r n v (some l) h e = rw (all-run r n v l h, e)
 
@@ -84,8 +84,8 @@ read-end (Packed z) s at h = ap (unpackFrom (upper z) (lower z) (pos 0) false) (
     few One = omega arith
     few Two = omega arith
     few Four = omega arith
-read-end (Runs r) s at h = ap (λ (l : List ℤ). within r (expand l)) (numbers-end Four s at (omega arith))
-read-end Names s at h = ap (λ (l : List ℤ). within Ascii (some l)) (numbers-end One s at (omega arith))
+read-end (Runs r) s at h = ap (λ (l : List ℤ). onlyIn r (expand l)) (numbers-end Four s at (omega arith))
+read-end Names s at h = ap (λ (l : List ℤ). onlyIn Ascii (some l)) (numbers-end One s at (omega arith))
 
 -- Plain numbers and names
 
@@ -99,9 +99,9 @@ unfolding readIn
 plain-run z s at h = ap some (numbers-step z s at h)
 
 module _ (s : List ℕ) (at : ℕ) (h : at < length s) where
-  names-step : readIn Names (drop at s) ≡ within Ascii (Option·map (λ (l : List ℤ). replicate 1 (signedAt (widthOf One) s at) ++ l) (some (numbersIn One (drop (at + 1) s))))
+  names-step : readIn Names (drop at s) ≡ onlyIn Ascii (Option·map (λ (l : List ℤ). replicate 1 (signedAt (widthOf One) s at) ++ l) (some (numbersIn One (drop (at + 1) s))))
   unfolding readIn
-  names-step = ap (λ (l : List ℤ). within Ascii (some l)) (numbers-step One s at (omega arith))
+  names-step = ap (λ (l : List ℤ). onlyIn Ascii (some l)) (numbers-step One s at (omega arith))
 
   name-run : inRange Ascii (signedAt (widthOf One) s at) ≡ true
       → readIn Names (drop at s) ≡ Option·map (λ (l : List ℤ). replicate 1 (signedAt (widthOf One) s at) ++ l) (readIn Names (drop (at + 1) s))
@@ -155,21 +155,21 @@ pub runs-end : (r : Range) (s : List ℕ) (at : ℕ) → length s - at < 8 → r
 unfolding readIn expand allIn
 runs-end r s at h = by (ltb (length s - at) 4) refl
   where
-    by : (t : Bool) → ltb (length s - at) 4 ≡ t → within r (expand (numbersIn Four (drop at s))) ≡ some []
-    by true e = ap (λ (l : List ℤ). within r (expand l)) (numbers-end Four s at (omega (arith, ltb-true (length s - at) 4 e)))
+    by : (t : Bool) → ltb (length s - at) 4 ≡ t → onlyIn r (expand (numbersIn Four (drop at s))) ≡ some []
+    by true e = ap (λ (l : List ℤ). onlyIn r (expand l)) (numbers-end Four s at (omega (arith, ltb-true (length s - at) 4 e)))
     by false e =
         let f = ltb-false (length s - at) 4 e in
         let g : numbersIn Four (drop (at + 4) s) ≡ [] = numbers-end Four s (at + 4) (omega arith) in
-        ap (λ (l : List ℤ). within r (expand l)) (numbers-step Four s at (omega arith) ∙ ap (λ (l : List ℤ). signedAt w32 s at ∷ l) g)
+        ap (λ (l : List ℤ). onlyIn r (expand l)) (numbers-step Four s at (omega arith) ∙ ap (λ (l : List ℤ). signedAt w32 s at ∷ l) g)
 
 module _ (r : Range) (s : List ℕ) (at : ℕ) (h : at + 8 ≤ length s) where
   runs-pair : readIn (Runs r) (drop at s)
-      ≡ within r (cond (ltZ (signedAt w32 s (at + 4)) (pos 1)) none (Option·map (λ (l : List ℤ). replicate (natAbs (signedAt w32 s (at + 4))) (signedAt w32 s at) ++ l) (expand (numbersIn Four (drop (at + 8) s)))))
+      ≡ onlyIn r (cond (ltZ (signedAt w32 s (at + 4)) (pos 1)) none (Option·map (λ (l : List ℤ). replicate (natAbs (signedAt w32 s (at + 4))) (signedAt w32 s at) ++ l) (expand (numbersIn Four (drop (at + 8) s)))))
   unfolding readIn expand
   runs-pair =
       let a : at + 4 + 4 ≡ at + 8 = omega arith in
       let e = rw a at (numbers-step Four s (at + 4) (omega arith)) in
-      ap (λ (l : List ℤ). within r (expand l)) (numbers-step Four s at (omega arith) ∙ ap (λ (l : List ℤ). signedAt w32 s at ∷ l) e)
+      ap (λ (l : List ℤ). onlyIn r (expand l)) (numbers-step Four s at (omega arith) ∙ ap (λ (l : List ℤ). signedAt w32 s at ∷ l) e)
 
   pub runs-count : ltZ (signedAt w32 s (at + 4)) (pos 1) ≡ true → readIn (Runs r) (drop at s) ≡ none
   runs-count e = runs-pair ∙ rw e

@@ -13,18 +13,21 @@ use lib.Dec.{ltb}
 use mir.Syntax.{w16}
 use mir.Val.{toZ}
 use borrow.Author.Tests.{ltb-false, ne-eqb}
-use Rattle.refusal.specs.Table.{numberNotAllowed, lengthDiffers}
-use Rattle.numbers.specs.BigEndian.{Bytes, signedAt}
+use Rattle.refusal.specs.Table.{accepted, numberNotAllowed, lengthDiffers}
+use Rattle.numbers.specs.BigEndian.{signedAt}
 use Rattle.numbers.specs.Laws.BigEndian.{unsignedAt-loads}
-use Rattle.codecs.specs.declared.Size.the-variants.{Two}
-use Rattle.codecs.specs.declared.Form.the-variants.{Packed}
-use Rattle.codecs.specs.Delta.{plusDelta}
-use Rattle.codecs.specs.Packing.{isLimit}
+use Rattle.steps.specs.declared.Size.the-variants.{Two}
+use Rattle.steps.specs.declared.Form.the-variants.{Packed}
+use Rattle.steps.specs.Delta.{plusDelta}
+use Rattle.steps.specs.Packing.{isLimit}
+use Rattle.steps.specs.Payload.{readIn}
+use Rattle.steps.specs.Laws.NumbersBack.{signedAt-fits}
+use Rattle.steps.specs.Laws.Delta.{plus-fits}
 use Rattle.payloads.specs.Scan.{refusalOf}
-use Rattle.payloads.specs.Items.{readIn, told}
+use Rattle.payloads.specs.Items.{outcomeRefusal}
 use Rattle.payloads.specs.Limits.{limitAt, limitsIn, endsAtLimit}
-use Rattle.payloads.specs.Laws.Totals.{two-fits, plus-fits, Totalled, totalled-start, totalled-more, totalled-done, totalled-unfinished, totalled-other, totalled-all}
-use Rattle.payloads.specs.Laws.Refusal.{told-scan}
+use Rattle.payloads.specs.Laws.Totals.{Totalled, totalled-start, totalled-more, totalled-done, totalled-unfinished, totalled-other, totalled-all}
+use Rattle.payloads.specs.Laws.Refusal.{outcome-scan}
 
 few : (t : Bool) → cond t 1 0 ≤ 1
 few true = omega arith
@@ -123,17 +126,17 @@ abbrev Few : ℕ → List ℕ → ℕ → ℕ → Bool → Type 0
 Few n s at limits begun = (total : ℤ) × (ok : Bool) × Totalled false s at limits begun total ok
 
 -- a number more
-one-more : (n : ℕ) (s : List ℕ) → Bytes s → (k m : ℕ) → m ≤ 65534 → (limits : ℕ) (begun : Bool) → 2 * suc k ≤ length s → (limits ≤ m → Few n s (2 * k) limits begun) → (t : Bool) → isLimit 32767 32768 (signedAt w16 s (2 * k)) ≡ t → limits + cond t 1 0 ≤ m → Few n s (2 * suc k) (limits + cond t 1 0) t
-one-more n s b k m l limits begun h before true e f =
+one-more : (n : ℕ) (s : List ℕ) (k m : ℕ) → m ≤ 65534 → (limits : ℕ) (begun : Bool) → 2 * suc k ≤ length s → (limits ≤ m → Few n s (2 * k) limits begun) → (t : Bool) → isLimit 32767 32768 (signedAt w16 s (2 * k)) ≡ t → limits + cond t 1 0 ≤ m → Few n s (2 * suc k) (limits + cond t 1 0) t
+one-more n s k m l limits begun h before true e f =
     let w = before (omega arith) in
     let x = signedAt w16 s (2 * k) in
     let i : 2 * suc k ≡ 2 * k + 2 = omega arith in
-    rw i (plusDelta (w .0) x, w .1, totalled-more false n s (2 * k) limits begun (w .0) (w .1) (w .2) (omega arith) (omega arith) x (two-fits s (2 * k) b (omega arith)) refl (plusDelta (w .0) x) e refl)
-one-more n s b k m l limits begun h before false e f =
+    rw i (plusDelta (w .0) x, w .1, totalled-more false n s (2 * k) limits begun (w .0) (w .1) (w .2) (omega arith) (omega arith) x (signedAt-fits Two s (2 * k)) refl (plusDelta (w .0) x) e refl)
+one-more n s k m l limits begun h before false e f =
     let w = before (omega arith) in
     let x = signedAt w16 s (2 * k) in
     let i : 2 * suc k ≡ 2 * k + 2 = omega arith in
-    rw (i, add-zero limits) (_, _, totalled-done false n s (2 * k) limits begun (w .0) (w .1) (w .2) (omega arith) (omega arith) x (two-fits s (2 * k) b (omega arith)) refl (plusDelta (w .0) x) e refl (plus-fits (w .0) x))
+    rw (i, add-zero limits) (_, _, totalled-done false n s (2 * k) limits begun (w .0) (w .1) (w .2) (omega arith) (omega arith) x (signedAt-fits Two s (2 * k)) refl (plusDelta (w .0) x) e refl (plus-fits (w .0) x))
 
 shorter : (k n : ℕ) → 2 * suc k ≤ n → 2 * k ≤ n
 shorter k n h = omega arith
@@ -141,33 +144,33 @@ shorter k n h = omega arith
 first : (n : ℕ) (s : List ℕ) → Few n s (2 * 0) (limitsIn s 0 0) (endsAtLimit s 0)
 first n s = rw (limits-none s 0, ends-none s 0 refl) (pos 0, true, totalled-start false s)
 
-next : (n : ℕ) (s : List ℕ) → Bytes s → (k m : ℕ) → m ≤ 65534 → 2 * suc k ≤ length s → (limitsIn s 0 k ≤ m → Few n s (2 * k) (limitsIn s 0 k) (endsAtLimit s k)) → limitsIn s 0 (suc k) ≤ m → Few n s (2 * suc k) (limitsIn s 0 (suc k)) (endsAtLimit s (suc k))
-next n s b k m l h before f =
+next : (n : ℕ) (s : List ℕ) (k m : ℕ) → m ≤ 65534 → 2 * suc k ≤ length s → (limitsIn s 0 k ≤ m → Few n s (2 * k) (limitsIn s 0 k) (endsAtLimit s k)) → limitsIn s 0 (suc k) ≤ m → Few n s (2 * suc k) (limitsIn s 0 (suc k)) (endsAtLimit s (suc k))
+next n s k m l h before f =
     rw (limits-next s k, ends-next s k)
-    (one-more n s b k m l (limitsIn s 0 k) (endsAtLimit s k) h before (isLimit 32767 32768 (signedAt w16 s (2 * k))) refl (rw (limits-next s k) at f))
+    (one-more n s k m l (limitsIn s 0 k) (endsAtLimit s k) h before (isLimit 32767 32768 (signedAt w16 s (2 * k))) refl (rw (limits-next s k) at f))
 
-from-first : (n : ℕ) (s : List ℕ) → Bytes s → (m : ℕ) → m ≤ 65534 → (k : ℕ) → 2 * k ≤ length s → limitsIn s 0 k ≤ m → Few n s (2 * k) (limitsIn s 0 k) (endsAtLimit s k)
-from-first n s b m l zero h f = first n s
-from-first n s b m l (suc k) h f = next n s b k m l h (from-first n s b m l k (shorter k (length s) h)) f
+from-first : (n : ℕ) (s : List ℕ) (m : ℕ) → m ≤ 65534 → (k : ℕ) → 2 * k ≤ length s → limitsIn s 0 k ≤ m → Few n s (2 * k) (limitsIn s 0 k) (endsAtLimit s k)
+from-first n s m l zero h f = first n s
+from-first n s m l (suc k) h f = next n s k m l h (from-first n s m l k (shorter k (length s) h)) f
 
-module _ (n : ℕ) (s : List ℕ) (b : Bytes s) (k : ℕ) (h : 2 * k ≤ length s) (g : length s - 2 * k < 2) (f : limitsIn s 0 k ≤ 65534) where
+module _ (n : ℕ) (s : List ℕ) (k : ℕ) (h : 2 * k ≤ length s) (g : length s - 2 * k < 2) (f : limitsIn s 0 k ≤ 65534) where
   all : Few n s (2 * k) (limitsIn s 0 k) (endsAtLimit s k)
-  all = from-first n s b 65534 (omega arith) k h f
+  all = from-first n s 65534 (omega arith) k h f
 
   pub limits-unfinished : endsAtLimit s k ≡ true → numberNotAllowed ≡ refusalOf n (readIn (Packed Two) s)
   limits-unfinished e =
       let w = all in
-      ap told (totalled-unfinished false n s (2 * k) (limitsIn s 0 k) (endsAtLimit s k) (w .0) (w .1) (w .2) g e) ∙ told-scan (Packed Two) false n (readIn (Packed Two) s)
+      ap outcomeRefusal (totalled-unfinished false n s (2 * k) (limitsIn s 0 k) (endsAtLimit s k) (w .0) (w .1) (w .2) g e) ∙ outcome-scan (Packed Two) false n (readIn (Packed Two) s)
 
   module _ (e : endsAtLimit s k ≡ false) where
     pub limits-other : (k - limitsIn s 0 k ≡ n → ⊥) → lengthDiffers ≡ refusalOf n (readIn (Packed Two) s)
     limits-other q =
         let w = all in
         let c = w .2 .4 in
-        ap told (totalled-other false n s (2 * k) (limitsIn s 0 k) (endsAtLimit s k) (w .0) (w .1) (w .2) g e (λ x. q (omega arith))) ∙ told-scan (Packed Two) false n (readIn (Packed Two) s)
+        ap outcomeRefusal (totalled-other false n s (2 * k) (limitsIn s 0 k) (endsAtLimit s k) (w .0) (w .1) (w .2) g e (λ x. q (omega arith))) ∙ outcome-scan (Packed Two) false n (readIn (Packed Two) s)
 
-    pub limits-all : k - limitsIn s 0 k ≡ n → 0 ≡ refusalOf n (readIn (Packed Two) s)
+    pub limits-all : k - limitsIn s 0 k ≡ n → accepted ≡ refusalOf n (readIn (Packed Two) s)
     limits-all q =
         let w = all in
         let c = w .2 .4 in
-        ap told (totalled-all false n s (2 * k) (limitsIn s 0 k) (endsAtLimit s k) (w .0) (w .1) (w .2) g e (omega arith)) ∙ told-scan (Packed Two) false n (readIn (Packed Two) s)
+        ap outcomeRefusal (totalled-all false n s (2 * k) (limitsIn s 0 k) (endsAtLimit s k) (w .0) (w .1) (w .2) g e (omega arith)) ∙ outcome-scan (Packed Two) false n (readIn (Packed Two) s)

@@ -2,29 +2,31 @@
 use mathlib.Core.Path.{_≡_, refl, sym, ap, subst, _∙_}
 use mathlib.Core.Bool.{Bool, true, false, cond, _&&_}
 use mathlib.Core.Option.{Option, none, some, Option·map}
-use mathlib.Core.List.{List, [], _∷_, _++_, append-nil, append-assoc, map}
+use mathlib.Core.List.{List, [], _∷_, _++_, append-nil, append-assoc}
 use Prim.Native.Nat.{ℕ, _+_, _-_, _<_, _≤_}
 use native.Mathlib.Omega.{arith}
-use lib.ListN.{length, drop, set, length-append}
+use lib.ListN.{length, set, length-append}
 use lib.IntN.{ℤ, pos}
 use borrow.Author.Tests.{eq-eqb, ne-eqb}
 use Rattle.refusal.specs.Table.{numberNotAllowed, lengthDiffers}
 use Rattle.numbers.specs.BigEndian.{signedAt}
-use Rattle.codecs.specs.declared.Size.{Size}
-use Rattle.codecs.specs.declared.Form.the-variants.{Packed}
-use Rattle.codecs.specs.declared.Turn.{Turn}
-use Rattle.codecs.specs.declared.Turn.the-variants.{More, Done, Wrong}
-use Rattle.codecs.specs.Width.{widthOf, sizeOf}
-use Rattle.codecs.specs.Delta.{sumsIf}
-use Rattle.codecs.specs.Steps.{turnOf}
-use Rattle.codecs.specs.Laws.Allowed.{and-true}
+use Rattle.steps.specs.declared.Size.{Size}
+use Rattle.steps.specs.declared.Form.the-variants.{Packed}
+use Rattle.steps.specs.declared.Turn.{Turn}
+use Rattle.steps.specs.declared.Turn.the-variants.{More, Done, Wrong}
+use Rattle.steps.specs.Width.{widthOf, sizeOf}
+use Rattle.steps.specs.Delta.{advance, resultsFrom, lastFrom}
+use Rattle.steps.specs.Steps.{turnOf}
+use Rattle.steps.specs.Laws.Allowed.{and-true}
+use Rattle.steps.specs.Payload.{readIn}
+use Rattle.steps.specs.Laws.Delta.{results-one, last-one}
 use Rattle.payloads.specs.declared.Outcome.the-variants.{Fine, Refused}
-use Rattle.payloads.specs.Held.{exact, allExact}
+use Rattle.payloads.specs.Exact.{exact, allExact}
 use Rattle.payloads.specs.Scan.{scanOf}
-use Rattle.payloads.specs.Items.{readIn}
-use Rattle.payloads.specs.Results.{advance, resultsFrom, lastFrom, HasRoom}
+use Rattle.payloads.specs.Results.{HasRoom, Wrote}
 use Rattle.payloads.specs.Laws.Items.{from, after, from-turn, from-end, packed-is}
-use Rattle.payloads.specs.Laws.Scan.{results-if, results-append, last-append, exact-append, map-id, map-both}
+use Rattle.payloads.specs.Laws.Exact.{exact-append}
+use Rattle.payloads.specs.Laws.Scan.{map-id, map-both}
 use Rattle.payloads.specs.Laws.Writing.{WrittenTo, written-start, written-length, written-room, written-one, written-end, written-wrong}
 
 -- The results of the values p are done before the place: how many, the last, and whether all are exact. A result that has begun has the
@@ -37,15 +39,6 @@ Unpacked z d s at part begun count sum ok =
 pub unpacked-start : (z : Size) (d : Bool) (s : List ℕ) → Unpacked z d s 0 (pos 0) false 0 (pos 0) true
 unfolding lastFrom resultsFrom allExact
 unpacked-start z d s = ([], packed-is z s 0 ∙ map-id (from z s (pos 0) false 0), refl, refl, refl)
-
--- one result more
-results-one : (d : Bool) (p : List ℤ) (r : ℤ) → resultsFrom d (pos 0) (p ++ (r ∷ [])) ≡ resultsFrom d (pos 0) p ++ (advance d (lastFrom d (pos 0) p) r ∷ [])
-unfolding resultsFrom
-results-one d p r = results-append d (pos 0) p (r ∷ [])
-
-last-one : (d : Bool) (p : List ℤ) (r : ℤ) → lastFrom d (pos 0) (p ++ (r ∷ [])) ≡ advance d (lastFrom d (pos 0) p) r
-unfolding lastFrom
-last-one d p r = last-append d (pos 0) p (r ∷ [])
 
 exact-one : (l : List ℤ) (y : ℤ) → allExact (l ++ (y ∷ [])) ≡ (allExact l && exact y)
 unfolding allExact
@@ -69,11 +62,11 @@ module _ (z : Size) (d : Bool) (n : ℕ) (s : List ℕ) (at : ℕ) (part : ℤ) 
         let v = q ∙ ap (λ (x : ℤ). advance d x r) (w .3) in
         let l = length-append (w .0) (r ∷ []) in
         let k = w .2 in
-        let m = results-one d (w .0) r ∙ ap (λ (x : ℤ). resultsFrom d (pos 0) (w .0) ++ (x ∷ [])) (sym v) in (
+        let m = results-one d (pos 0) (w .0) r ∙ ap (λ (x : ℤ). resultsFrom d (pos 0) (w .0) ++ (x ∷ [])) (sym v) in (
           w .0 ++ (r ∷ []),
           simp append-assoc a,
           omega arith,
-          v ∙ sym (last-one d (w .0) r),
+          v ∙ sym (last-one d (pos 0) (w .0) r),
           ap (λ (b : Bool). b && exact y) (w .4) ∙ sym (ap allExact m ∙ exact-one (resultsFrom d (pos 0) (w .0)) y),
         )
 
@@ -102,7 +95,7 @@ module _ (z : Size) (d : Bool) (n : ℕ) (s : List ℕ) (at : ℕ) (part : ℤ) 
       -- as many as there should be
       pub unpacked-all : count ≡ n → Fine ok ≡ scanOf (Packed z) d n (readIn (Packed z) s)
       unpacked-all q =
-          sym (ap (scanOf (Packed z) d n) whole ∙ rw (eq-eqb (length (w .0)) n (sym (w .2) ∙ q), results-if d (w .0)) (sym (ap Fine (w .4))))
+          sym (ap (scanOf (Packed z) d n) whole ∙ rw (eq-eqb (length (w .0)) n (sym (w .2) ∙ q)) (sym (ap Fine (w .4))))
 
 -- Writing
 
@@ -137,9 +130,9 @@ module _ {B : Type 0} (g : ℤ → B) (z : Size) (d : Bool) (s : List ℕ) (old 
       packed-written-wrong e = written-wrong g (Packed z) d s old room (from z s part (w .0) at) o new x (w .1) (step Wrong e)
 
     -- where too few bytes are left all is written
-    pub packed-written-end : length s - at < sizeOf z → (l : List ℤ) → readIn (Packed z) s ≡ some l → new ≡ map g (sumsIf d l) ++ drop (length l) old
+    pub packed-written-end : length s - at < sizeOf z → Wrote g (Packed z) d s old new
     packed-written-end h = by (w .0) (w .1)
       where
-        by : (b : Bool) → WrittenTo g (Packed z) d s old room (from z s part b at) o new x → (l : List ℤ) → readIn (Packed z) s ≡ some l → new ≡ map g (sumsIf d l) ++ drop (length l) old
+        by : (b : Bool) → WrittenTo g (Packed z) d s old room (from z s part b at) o new x → Wrote g (Packed z) d s old new
         by true v = written-wrong g (Packed z) d s old room (from z s part true at) o new x v (from-end z part true s at h)
         by false v = written-end g (Packed z) d s old room (from z s part false at) o new x v (from-end z part false s at h)

@@ -9,19 +9,20 @@ use lib.ListN.{length, drop, getD}
 use lib.IntN.{ℤ, pos}
 use borrow.Author.Tests.{eq-eqb, ne-eqb}
 use Rattle.refusal.specs.Table.{lengthDiffers}
-use Rattle.numbers.specs.BigEndian.{Bytes, signedAt}
-use Rattle.codecs.specs.declared.Size.{Size}
-use Rattle.codecs.specs.declared.Size.the-variants.{One, Two, Four}
-use Rattle.codecs.specs.declared.Form.the-variants.{Plain}
-use Rattle.codecs.specs.Width.{widthOf, sizeOf}
-use Rattle.codecs.specs.Delta.{sumsIf}
-use Rattle.codecs.specs.Numbers.{numbersIn}
-use Rattle.codecs.specs.Laws.Numbers.{numbers-step, length-numbers}
+use Rattle.numbers.specs.BigEndian.{signedAt}
+use Rattle.steps.specs.declared.Size.{Size}
+use Rattle.steps.specs.declared.Size.the-variants.{One, Two, Four}
+use Rattle.steps.specs.declared.Form.the-variants.{Plain}
+use Rattle.steps.specs.Width.{widthOf, sizeOf}
+use Rattle.steps.specs.Delta.{sumsIf}
+use Rattle.steps.specs.Numbers.{numbersIn}
+use Rattle.steps.specs.Laws.Numbers.{numbers-step, length-numbers}
+use Rattle.steps.specs.Laws.Delta.{results-plain}
+use Rattle.steps.specs.Payload.{readIn}
 use Rattle.payloads.specs.declared.Outcome.the-variants.{Fine, Refused}
-use Rattle.payloads.specs.Held.{allExact}
+use Rattle.payloads.specs.Exact.{allExact}
 use Rattle.payloads.specs.Scan.{judgesExact, scanOf}
-use Rattle.payloads.specs.Items.{readIn}
-use Rattle.payloads.specs.Laws.Held.{plain-exact}
+use Rattle.payloads.specs.Laws.Exact.{plain-exact}
 
 -- the number at i, counted from the place j
 number-from : (z : Size) (s : List ℕ) (i j : ℕ) → j + suc i * sizeOf z ≤ length s → getD (numbersIn z (drop j s)) i (pos 0) ≡ signedAt (widthOf z) s (j + i * sizeOf z)
@@ -50,18 +51,18 @@ number-at-place z s n i e h =
     number-from z s i 0 (omega arith) ∙ ap (signedAt (widthOf z) s) a
 
 -- whether they are exact
-plain-judged : (z : Size) (d : Bool) (s : List ℕ) → Bytes s → (judgesExact (Plain z) d && allExact (sumsIf d (numbersIn z s))) ≡ judgesExact (Plain z) d
-plain-judged One false s b = plain-exact One s b (λ e. let y : _≡_ {A = ℕ} 0 1 = cc in absurd (omega arith))
-plain-judged Two false s b = plain-exact Two s b (λ e. let y : _≡_ {A = ℕ} 0 1 = cc in absurd (omega arith))
-plain-judged One true s b = refl
-plain-judged Two true s b = refl
-plain-judged Four d s b = refl
+plain-judged : (z : Size) (d : Bool) (s : List ℕ) → (judgesExact (Plain z) d && allExact (sumsIf d (numbersIn z s))) ≡ judgesExact (Plain z) d
+plain-judged One false s = ap allExact (results-plain (pos 0) (numbersIn One s)) ∙ plain-exact One s (λ e. let y : _≡_ {A = ℕ} 0 1 = cc in absurd (omega arith))
+plain-judged Two false s = ap allExact (results-plain (pos 0) (numbersIn Two s)) ∙ plain-exact Two s (λ e. let y : _≡_ {A = ℕ} 0 1 = cc in absurd (omega arith))
+plain-judged One true s = refl
+plain-judged Two true s = refl
+plain-judged Four d s = refl
 
 module _ (z : Size) (d : Bool) (s : List ℕ) (n : ℕ) where
   pub plain-other : (length s / sizeOf z ≡ n → ⊥) → scanOf (Plain z) d n (readIn (Plain z) s) ≡ Refused lengthDiffers
   unfolding readIn
   plain-other h = rw (ne-eqb (length (numbersIn z s)) n (λ e. h (sym (length-numbers z s) ∙ e)))
 
-  pub plain-right : Bytes s → length s / sizeOf z ≡ n → scanOf (Plain z) d n (readIn (Plain z) s) ≡ Fine (judgesExact (Plain z) d)
+  pub plain-right : length s / sizeOf z ≡ n → scanOf (Plain z) d n (readIn (Plain z) s) ≡ Fine (judgesExact (Plain z) d)
   unfolding readIn
-  plain-right b e = rw (eq-eqb (length (numbersIn z s)) n (length-numbers z s ∙ e), plain-judged z d s b)
+  plain-right e = rw (eq-eqb (length (numbersIn z s)) n (length-numbers z s ∙ e), plain-judged z d s)

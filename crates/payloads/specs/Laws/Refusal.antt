@@ -11,43 +11,45 @@ use lib.IntN.{ℤ, pos}
 use lib.Dec.{eqb}
 use borrow.Author.Tests.{eq-eqb, ne-eqb, eqb-true, eqb-false}
 use Rattle.refusal.specs.Table.{numberNotAllowed, lengthDiffers}
+use Rattle.refusal.specs.First.{unless}
 use Rattle.numbers.specs.BigEndian.{Bytes}
-use Rattle.codecs.specs.declared.Size.the-variants.{One}
-use Rattle.codecs.specs.declared.Form.{Form}
-use Rattle.codecs.specs.declared.Form.the-variants.{Names}
-use Rattle.codecs.specs.Numbers.{numbersIn}
-use Rattle.codecs.specs.Delta.{sumsIf}
-use Rattle.codecs.specs.Payload.{valuesIn, allowed}
-use Rattle.codecs.specs.Laws.Names.{names-length, allowed-bytes}
-use Rattle.columns.specs.Table.{elements}
+use Rattle.steps.specs.declared.Size.the-variants.{One}
+use Rattle.steps.specs.declared.Range.the-variants.{Ascii}
+use Rattle.steps.specs.declared.Form.{Form}
+use Rattle.steps.specs.declared.Form.the-variants.{Names}
+use Rattle.steps.specs.Numbers.{numbersIn}
+use Rattle.steps.specs.Delta.{sumsIf}
+use Rattle.steps.specs.Payload.{allIn, padded, allowed, onlyIf, readIn, heldIn}
+use Rattle.steps.specs.Laws.Names.{names-length, allowed-bytes}
+use Rattle.columns.specs.Table.{elements, isNames}
 use Rattle.payloads.specs.declared.Outcome.the-variants.{Fine, Refused}
-use Rattle.payloads.specs.Held.{heldIn, allExact}
-use Rattle.payloads.specs.Items.{readIn, isNames, told}
+use Rattle.payloads.specs.Exact.{allExact}
+use Rattle.payloads.specs.Items.{outcomeRefusal}
 use Rattle.payloads.specs.Scan.{judgesExact, scanOf, refusalOf}
-use Rattle.payloads.specs.Laws.Held.{held-read, elements-one}
+use Rattle.payloads.specs.Laws.Scan.{held-read, elements-one}
 
 module _ (f : Form) (d : Bool) (n : ℕ) where
   -- what a scan says
-  pub told-scan : (o : Option (List ℤ)) → told (scanOf f d n o) ≡ refusalOf n o
-  told-scan none = refl
-  told-scan (some l) = by (eqb (length l) n)
+  pub outcome-scan : (o : Option (List ℤ)) → outcomeRefusal (scanOf f d n o) ≡ refusalOf n o
+  outcome-scan none = refl
+  outcome-scan (some l) = by (eqb (length l) n)
     where
-      by : (t : Bool) → told (cond t (Fine (judgesExact f d && allExact (sumsIf d l))) (Refused lengthDiffers)) ≡ cond t 0 lengthDiffers
+      by : (t : Bool) → outcomeRefusal (cond t (Fine (judgesExact f d && allExact (sumsIf d l))) (Refused lengthDiffers)) ≡ unless t lengthDiffers
       by true = refl
       by false = refl
 
 -- what is read of the payload of a form other than names is what it holds
-pub refusal-held : (f g : Form) (m n : ℕ) (s : List ℕ) (r : ℕ) → Bytes s → isNames f ≡ false → g ≡ f → r ≡ refusalOf n (readIn f s)
+pub refusal-held : (f g : Form) (m n : ℕ) (s : List ℕ) (r : ℕ) → isNames f ≡ false → g ≡ f → r ≡ refusalOf n (readIn f s)
     → r ≡ refusalOf (elements g n m) (heldIn g m s)
-refusal-held f g m n s r b h q e =
-    e ∙ ap (refusalOf n) (sym (held-read f m s b h)) ∙ ap (λ (c : ℕ). refusalOf c (heldIn f m s)) (sym (elements-one f n m h))
+refusal-held f g m n s r h q e =
+    e ∙ ap (refusalOf n) (sym (held-read f m s h)) ∙ ap (λ (c : ℕ). refusalOf c (heldIn f m s)) (sym (elements-one f n m h))
     ∙ ap (λ (x : Form). refusalOf (elements x n m) (heldIn x m s)) (sym q)
 
 -- a scan of names by their refusal
 pub names-scanned : (c m : ℕ) (s : List ℕ) (r : ℕ) → r ≡ refusalOf c (heldIn Names m s) → (r ≡ 0 → ⊥) → Refused r ≡ scanOf Names false c (heldIn Names m s)
 names-scanned c m s r e h = by (heldIn Names m s) e
   where
-    tested : (l : List ℤ) (t : Bool) → r ≡ cond t 0 lengthDiffers → Refused r ≡ cond t (Fine false) (Refused lengthDiffers)
+    tested : (l : List ℤ) (t : Bool) → r ≡ unless t lengthDiffers → Refused r ≡ cond t (Fine false) (Refused lengthDiffers)
     tested l true q = absurd (h q)
     tested l false q = ap Refused q
 
@@ -58,7 +60,7 @@ names-scanned c m s r e h = by (heldIn Names m s) e
 pub names-fine : (c m : ℕ) (s : List ℕ) → 0 ≡ refusalOf c (heldIn Names m s) → Fine false ≡ scanOf Names false c (heldIn Names m s)
 names-fine c m s e = by (heldIn Names m s) e
   where
-    tested : (t : Bool) → 0 ≡ cond t 0 lengthDiffers → Fine false ≡ cond t (Fine false) (Refused lengthDiffers)
+    tested : (t : Bool) → 0 ≡ unless t lengthDiffers → Fine false ≡ cond t (Fine false) (Refused lengthDiffers)
     tested true q = refl
     tested false q = absurd (omega arith)
 
@@ -70,16 +72,17 @@ names-fine c m s e = by (heldIn Names m s) e
 
 -- the refusal by whether names are allowed, and whether they are as many as stated
 abbrev namesBy : Bool → Bool → ℕ
-namesBy t u = cond t (cond u 0 lengthDiffers) numberNotAllowed
+namesBy t u = cond t (unless u lengthDiffers) numberNotAllowed
 
 pub names-told : (n m : ℕ) (s : List ℕ) (t u : Bool) → Bytes s → t ≡ allowed Names m (map pos s) → u ≡ eqb (length s) (n * m) → namesBy t u ≡ refusalOf (elements Names n m) (heldIn Names m s)
-unfolding heldIn valuesIn
+unfolding heldIn readIn
 names-told n m s t u b e f =
-    ap₂ namesBy (e ∙ sym (allowed-bytes m s b)) (f ∙ ap (λ (l : ℕ). eqb l (n * m)) (sym (names-length s))) ∙ by (allowed Names m (numbersIn One s))
+    ap₂ namesBy (e ∙ sym (allowed-bytes m s b)) (f ∙ ap (λ (l : ℕ). eqb l (n * m)) (sym (names-length s))) ∙ by (allIn Ascii (numbersIn One s)) (padded Names m (numbersIn One s)) refl
   where
-    by : (v : Bool) → namesBy v (eqb (length (numbersIn One s)) (n * m)) ≡ refusalOf (n * m) (cond v (some (numbersIn One s)) none)
-    by true = refl
-    by false = refl
+    by : (v w : Bool) → padded Names m (numbersIn One s) ≡ w → namesBy (v && w) (eqb (length (numbersIn One s)) (n * m)) ≡ refusalOf (n * m) (onlyIf (padded Names m) (cond v (some (numbersIn One s)) none))
+    by true true q = rw q
+    by true false q = rw q
+    by false w q = refl
 
 pub names-as : (g : Form) (m n : ℕ) (s : List ℕ) (r : ℕ) → g ≡ Names → r ≡ refusalOf (elements Names n m) (heldIn Names m s) → r ≡ refusalOf (elements g n m) (heldIn g m s)
 names-as g m n s r q e = e ∙ ap (λ (x : Form). refusalOf (elements x n m) (heldIn x m s)) (sym q)

@@ -1,29 +1,39 @@
 -- Laws of writing runs where more than a run may be written for it, inside the room of the results: what stands there is written over.
 -- Assumes nothing.
 use mathlib.Core.Path.{_≡_, refl, sym, ap, ap₂, _∙_}
-use mathlib.Core.Bool.{Bool, true, false}
-use mathlib.Core.Option.{Option, none, some, Option·map}
+use mathlib.Core.Bool.{Bool, true, false, _&&_, and-eq-true-iff}
+use mathlib.Core.Option.{none, some, Option·map}
 use mathlib.Core.List.{List, [], _∷_, _++_, append-nil, append-assoc, map}
 use Prim.Native.Nat.{ℕ, zero, suc, _+_, _-_, _≤_}
 use native.Mathlib.Omega.{arith}
-use lib.ListN.{length, take, drop, set, replicate, length-append, length-replicate, take-append-drop, replicate-append-replicate}
-use lib.Seq.{drop-drop, length-take-le, take-at, drop-at}
+use lib.ListN.{length, take, drop, set, replicate, length-append, length-replicate, length-drop, take-append-drop, replicate-append-replicate}
+use lib.Seq.{take-all, drop-drop, length-take-le, take-at, drop-at}
 use lib.IntN.{ℤ, pos}
 use lib.Signed.{ltZ}
+use lib.Dec.{leb}
+use borrow.Author.Tests.{leb-true}
 use mir.Syntax.{w32}
-use mir.Val.{ofZ}
+use mir.Val.{toZ, ofZ}
 use Rattle.numbers.specs.BigEndian.{signedAt}
-use Rattle.codecs.specs.declared.Range.{Range}
-use Rattle.codecs.specs.declared.Form.{Form}
-use Rattle.codecs.specs.declared.Form.the-variants.{Runs}
-use Rattle.codecs.specs.Payload.{inRange}
-use Rattle.payloads.specs.Items.{readIn}
-use Rattle.payloads.specs.Results.{paste, Filled, HasResults, Covered}
+use Rattle.numbers.specs.Laws.BigEndian.{unsignedAt-drop}
+use Rattle.steps.specs.declared.Range.{Range}
+use Rattle.steps.specs.declared.Form.{Form}
+use Rattle.steps.specs.declared.Form.the-variants.{Runs}
+use Rattle.steps.specs.Payload.{inRange, readIn}
+use Rattle.steps.specs.Laws.Delta.{results-plain}
+use Rattle.payloads.specs.Results.{paste, Filled, HasResults, Covered, Wrote}
 use Rattle.payloads.specs.Laws.Items.{count-bits, runs-count, runs-run, runs-wrong}
-use Rattle.payloads.specs.Laws.Scan.{results-plain, map-id, map-both}
+use Rattle.payloads.specs.Laws.Scan.{map-id, map-both, rest-of}
 use Rattle.payloads.specs.Laws.Writing.{map-append, paste-length, paste-set, paste-none}
 
 -- The next run
+
+-- a number in the part of a payload from a place on is the number of the payload itself
+pub part-number : (s : List ℕ) (at i : ℕ) → at + i + 4 ≤ length s → signedAt w32 (take (length s - at) (drop at s)) i ≡ signedAt w32 s (at + i)
+unfolding signedAt
+part-number s at i h =
+    let l = length-drop at s in
+    rw (take-all (length s - at) (drop at s) (omega arith)) (ap (toZ w32) (unsignedAt-drop 4 s at i h))
 
 -- where the payload has results, the value and the count at a place are a run
 pub run-here : (r : Range) (s : List ℕ) (at : ℕ) (t : List ℤ) → at + 8 ≤ length s → readIn (Runs r) (drop at s) ≡ some t
@@ -48,6 +58,10 @@ map-replicate g (suc n) v = ap (λ (l : List _). g v ∷ l) (map-replicate g n v
 -- a run that is written
 pub covered-filled : {B : Type 0} (g : ℤ → B) (a v x : ℤ) (old new : List B) (from n bound : ℕ) → n ≤ bound → Filled g false a v old from n new x → Covered (g v) old from n bound new
 covered-filled g a v x old new from n bound h w = (n, omega arith, h, w .0 ∙ ap (paste old from) (ap (map g) (results-plain a (replicate n v)) ∙ map-replicate g n v))
+
+-- the test of a short run
+pub short-run : (count left : ℕ) (t : Bool) → t ≡ (leb count 4 && leb 4 left) → t ≡ true → (count ≤ 4) × (4 ≤ left)
+short-run count left t e h = let b = and-eq-true-iff (leb count 4) (leb 4 left) .0 (sym e ∙ h) in (leb-true count 4 (b .0), leb-true 4 left (b .1))
 
 -- four elements
 pub covered-four : {B : Type 0} (b e : B) (old : List B) (o n bound : ℕ) → n ≤ 4 → 4 ≤ bound → o + bound ≤ length old
@@ -103,36 +117,21 @@ module _ {B : Type 0} (g : ℤ → B) (f : Form) (s : List ℕ) (old : List B) (
   module _ (at o : ℕ) (new : List B) (w : Begun at o new) where
     -- the rest of the values
     pub begun-rest : (r : List ℤ) × (readIn f (drop at s) ≡ some r) × (w .0 ++ r ≡ held .0)
-    begun-rest = by (readIn f (drop at s)) refl
-      where
-        by : (y : Option (List ℤ)) → readIn f (drop at s) ≡ y → (r : List ℤ) × (readIn f (drop at s) ≡ some r) × (w .0 ++ r ≡ held .0)
-        by none e =
-            let q : none ≡ some (held .0) = sym (ap (Option·map (λ (l : List ℤ). w .0 ++ l)) e) ∙ sym (w .1) ∙ held .1 in
-            let z : _≡_ {A = ℕ} 0 1 = cc in absurd (omega arith)
-        by (some r) e =
-            let q : some (w .0 ++ r) ≡ some (held .0) = sym (ap (Option·map (λ (l : List ℤ). w .0 ++ l)) e) ∙ sym (w .1) ∙ held .1 in
-            (r, e, cc)
+    begun-rest = let r = rest-of (w .0) (held .0) (readIn f (drop at s)) (sym (held .1) ∙ w .1) in (r .0, r .1, sym (r .2))
 
     module _ (v : ℤ) (k e : ℕ) (q : readIn f (drop at s) ≡ Option·map (λ (l : List ℤ). replicate k v ++ l) (readIn f (drop e s))) where
       -- there is room for a run
       pub begun-room : o + k ≤ n
-      begun-room = by (readIn f (drop e s)) refl
-        where
-          by : (y : Option (List ℤ)) → readIn f (drop e s) ≡ y → o + k ≤ n
-          by none u =
-              let z : none ≡ some (begun-rest .0) = sym (ap (Option·map (λ (l : List ℤ). replicate k v ++ l)) u) ∙ sym q ∙ begun-rest .1 in
-              let y : _≡_ {A = ℕ} 0 1 = cc in absurd (omega arith)
-          by (some t) u =
-              let z : some (replicate k v ++ t) ≡ some (begun-rest .0) = sym (ap (Option·map (λ (l : List ℤ). replicate k v ++ l)) u) ∙ sym q ∙ begun-rest .1 in
-              let y : replicate k v ++ t ≡ begun-rest .0 = cc in
-              let a = ap length y in
-              let b = length-append (replicate k v) t in
-              let c = length-replicate k v in
-              let m = length-append (w .0) (begun-rest .0) in
-              let i = ap length (begun-rest .2) in
-              let j = w .2 in
-              let x = held .2 in
-              omega arith
+      begun-room =
+          let t = rest-of (replicate k v) (begun-rest .0) (readIn f (drop e s)) (sym (begun-rest .1) ∙ q) in
+          let a = ap length (t .2) in
+          let b = length-append (replicate k v) (t .0) in
+          let c = length-replicate k v in
+          let m = length-append (w .0) (begun-rest .0) in
+          let i = ap length (begun-rest .2) in
+          let j = w .2 in
+          let x = held .2 in
+          omega arith
 
       -- a run more
       pub begun-run : (new′ : List B) → Covered (g v) new o k (n - o) new′ → Begun e (o + k) new′
@@ -155,7 +154,7 @@ module _ {B : Type 0} (g : ℤ → B) (f : Form) (s : List ℕ) (old : List B) (
           )
 
     -- where the reading ends all is written
-    pub begun-end : readIn f (drop at s) ≡ some [] → (l : List ℤ) → readIn f s ≡ some l → new ≡ map g l ++ drop (length l) old
+    pub begun-end : readIn f (drop at s) ≡ some [] → Wrote g f false s old new
     begun-end q l e =
         let a : some (w .0) ≡ some l = sym (w .1 ∙ ap (Option·map (λ (l : List ℤ). w .0 ++ l)) q ∙ ap some (append-nil (w .0))) ∙ e in
         let p : w .0 ≡ l = cc in
@@ -163,4 +162,4 @@ module _ {B : Type 0} (g : ℤ → B) (f : Form) (s : List ℕ) (old : List B) (
         let c : l ≡ held .0 = cc in
         let o′ : o ≡ length l = w .2 ∙ ap length p in
         let n′ : n ≡ length l = sym (held .2) ∙ ap length (sym c) in
-        sym (take-append-drop n new) ∙ ap₂ (λ (t u : List B). t ++ u) (ap (λ (j : ℕ). take j new) (n′ ∙ sym o′) ∙ w .4 ∙ ap (map g) p) (w .5 ∙ ap (λ (j : ℕ). drop j old) n′)
+        sym (take-append-drop n new) ∙ ap₂ (λ (t u : List B). t ++ u) (ap (λ (j : ℕ). take j new) (n′ ∙ sym o′) ∙ w .4 ∙ ap (map g) (p ∙ sym (results-plain (pos 0) l))) (w .5 ∙ ap (λ (j : ℕ). drop j old) n′)

@@ -1,123 +1,28 @@
--- Laws of scans: results one after the other, and what is kept of the runs before a place. Assumes nothing.
+-- Laws of scans: what is kept of the runs before a place, and what is held by forms other than names. Assumes nothing.
 use mathlib.Core.Path.{_≡_, refl, sym, ap, ap₂, _∙_}
 use mathlib.Core.Bool.{Bool, true, false, cond, not, _&&_, _||_}
 use mathlib.Core.Option.{Option, none, some, Option·map}
 use mathlib.Core.List.{List, [], _∷_, _++_, append-nil, append-assoc}
-use Prim.Native.Nat.{ℕ, zero, suc, _+_, _-_, _*_, _/_, _%_, _^_, _<_, _≤_}
-use native.Mathlib.Nat.{mod-lt, div-add-mod', mul-le-mul, add-mul, mul-right-comm}
+use Prim.Native.Nat.{ℕ, zero, suc, _+_, _-_, _<_, _≤_}
 use native.Mathlib.Omega.{arith}
 use lib.ListN.{length, drop, getD, replicate, length-append, length-replicate}
 use lib.IntN.{ℤ, pos}
 use lib.Dec.{eqb, ltb}
-use mir.Syntax.{w32}
-use mir.Val.{toZ, ofZ}
-use mir.Facts.{ofZ-toZ}
 use borrow.Author.Tests.{eq-eqb, ne-eqb, eqb-true, eqb-false, lt-ltb, le-ltb, ltb-true, ltb-false}
 use Rattle.refusal.specs.Table.{numberNotAllowed, lengthDiffers}
-use Rattle.codecs.specs.declared.Range.{Range}
-use Rattle.codecs.specs.declared.Form.{Form}
-use Rattle.codecs.specs.declared.Form.the-variants.{Runs, Names}
-use Rattle.codecs.specs.Delta.{plusDelta, sumsFrom, sumsIf}
-use Rattle.codecs.specs.Laws.Allowed.{and-true, and-more}
-use Rattle.columns.specs.Table.{elements}
-use Rattle.numbers.specs.BigEndian.{Bytes}
+use Rattle.steps.specs.declared.Range.{Range}
+use Rattle.steps.specs.declared.Form.{Form}
+use Rattle.steps.specs.declared.Form.the-variants.{Plain, Packed, Runs, Names}
+use Rattle.steps.specs.Delta.{sumsIf}
+use Rattle.steps.specs.Payload.{padded, onlyIf, readIn, heldIn}
+use Rattle.steps.specs.Laws.Allowed.{and-true, and-more}
+use Rattle.steps.specs.Laws.Delta.{results-plain}
+use Rattle.columns.specs.Table.{isNames, elements}
 use Rattle.payloads.specs.declared.Outcome.{Outcome}
 use Rattle.payloads.specs.declared.Outcome.the-variants.{Fine, Refused}
-use Rattle.payloads.specs.Held.{heldIn, exact, allExact}
-use Rattle.payloads.specs.Results.{advance, resultsFrom, lastFrom}
+use Rattle.payloads.specs.Exact.{exact, allExact}
 use Rattle.payloads.specs.Scan.{scanOf}
-use Rattle.payloads.specs.Laws.Held.{held-read, elements-one}
-use Rattle.payloads.specs.Items.{readIn, isNames, plusTimes, afterRun}
-
--- Results
-
-results-sums : (a : ℤ) (l : List ℤ) → resultsFrom true a l ≡ sumsFrom a l
-unfolding resultsFrom sumsFrom
-results-sums a [] = refl
-results-sums a (v ∷ l) = ap (λ (t : List ℤ). plusDelta a v ∷ t) (results-sums (plusDelta a v) l)
-
-pub results-plain : (a : ℤ) (l : List ℤ) → resultsFrom false a l ≡ l
-unfolding resultsFrom
-results-plain a [] = refl
-results-plain a (v ∷ l) = ap (λ (t : List ℤ). v ∷ t) (results-plain v l)
-
-pub results-if : (d : Bool) (l : List ℤ) → sumsIf d l ≡ resultsFrom d (pos 0) l
-results-if true l = sym (results-sums (pos 0) l)
-results-if false l = sym (results-plain (pos 0) l)
-
-pub length-results : (d : Bool) (a : ℤ) (l : List ℤ) → length (resultsFrom d a l) ≡ length l
-unfolding resultsFrom
-length-results d a [] = refl
-length-results d a (v ∷ l) = ap suc (length-results d (advance d a v) l)
-
-pub results-append : (d : Bool) (a : ℤ) (p q : List ℤ) → resultsFrom d a (p ++ q) ≡ resultsFrom d a p ++ resultsFrom d (lastFrom d a p) q
-unfolding resultsFrom lastFrom
-results-append d a [] q = refl
-results-append d a (v ∷ p) q = ap (λ (t : List ℤ). advance d a v ∷ t) (results-append d (advance d a v) p q)
-
-pub last-append : (d : Bool) (a : ℤ) (p q : List ℤ) → lastFrom d a (p ++ q) ≡ lastFrom d (lastFrom d a p) q
-unfolding lastFrom
-last-append d a [] q = refl
-last-append d a (v ∷ p) q = last-append d (advance d a v) p q
-
--- Runs of one value
-
-times-step : (a v : ℤ) (k : ℕ) → plusTimes (plusDelta a v) v k ≡ plusTimes a v (suc k)
-times-step a v k = ap (toZ w32) (inner (ofZ w32 a) (ofZ w32 v))
-  where
-    inner : (m n : ℕ) → (ofZ w32 (toZ w32 ((m + n) % 2 ^ 32)) + k * n) % 2 ^ 32 ≡ (m + suc k * n) % 2 ^ 32
-    inner m n =
-        let b : (m + n) % 2 ^ 32 < 2 ^ 32 = mod-lt (m + n) (omega arith) in
-        let e = ofZ-toZ {w = w32} {n = (m + n) % 2 ^ 32} (record { fits = b }) in
-        let f : suc k * n ≡ n + k * n = omega arith in
-        rw (e, f) (linear (k * n))
-      where
-        linear : (t : ℕ) → ((m + n) % 2 ^ 32 + t) % 2 ^ 32 ≡ (m + (n + t)) % 2 ^ 32
-        linear t = omega arith
-
-times-one : (a v : ℤ) → plusTimes a v 1 ≡ plusDelta a v
-times-one a v = let e : 1 * ofZ w32 v ≡ ofZ w32 v = omega arith in rw e
-
-pub run-at : (d : Bool) (a v : ℤ) (k j : ℕ) → j < k → getD (resultsFrom d a (replicate k v)) j (pos 0) ≡ afterRun d a v (suc j)
-unfolding resultsFrom
-run-at d a v zero j h = absurd (omega arith)
-run-at true a v (suc k) zero h = sym (times-one a v)
-run-at false a v (suc k) zero h = refl
-run-at true a v (suc k) (suc j) h = run-at true (plusDelta a v) v k j (omega arith) ∙ times-step a v (suc j)
-run-at false a v (suc k) (suc j) h = run-at false v v k j (omega arith)
-
-pub run-last : (d : Bool) (a v : ℤ) (k : ℕ) → 1 ≤ k → lastFrom d a (replicate k v) ≡ afterRun d a v k
-unfolding lastFrom
-run-last d a v zero h = absurd (omega arith)
-run-last true a v (suc zero) h = sym (times-one a v)
-run-last false a v (suc zero) h = refl
-run-last true a v (suc (suc k)) h = run-last true (plusDelta a v) v (suc k) (omega arith) ∙ times-step a v (suc k)
-run-last false a v (suc (suc k)) h = run-last false v v (suc k) (omega arith)
-
--- Exact results
-
-pub exact-append : (p q : List ℤ) → allExact (p ++ q) ≡ (allExact p && allExact q)
-unfolding allExact
-exact-append [] q = refl
-exact-append (x ∷ p) q = by (exact x) (exact-append p q)
-  where
-    by : (t : Bool) → allExact (p ++ q) ≡ (allExact p && allExact q) → (t && allExact (p ++ q)) ≡ ((t && allExact p) && allExact q)
-    by true e = e
-    by false e = refl
-
-exact-same : (k : ℕ) (v : ℤ) → 1 ≤ k → allExact (replicate k v) ≡ exact v
-unfolding allExact
-exact-same zero v h = absurd (omega arith)
-exact-same (suc zero) v h = by (exact v)
-  where
-    by : (t : Bool) → (t && true) ≡ t
-    by true = refl
-    by false = refl
-exact-same (suc (suc k)) v h = by (exact v) (exact-same (suc k) v (omega arith))
-  where
-    by : (t : Bool) → allExact (replicate (suc k) v) ≡ t → (t && allExact (replicate (suc k) v)) ≡ t
-    by true e = e
-    by false e = refl
+use Rattle.payloads.specs.Laws.Exact.{exact-append, exact-same}
 
 -- Places in two lists
 
@@ -150,6 +55,11 @@ map-id (some l) = refl
 pub map-both : {A B C : Type 0} (f : B → C) (g : A → B) (o : Option A) → Option·map f (Option·map g o) ≡ Option·map (λ (x : A). f (g x)) o
 map-both f g none = refl
 map-both f g (some x) = refl
+
+-- the values behind p of those that are read
+pub rest-of : (p l : List ℤ) (o : Option (List ℤ)) → some l ≡ Option·map (λ (m : List ℤ). p ++ m) o → (m : List ℤ) × (o ≡ some m) × (l ≡ p ++ m)
+rest-of p l none q = let y : _≡_ {A = ℕ} 0 1 = cc in absurd (omega arith)
+rest-of p l (some m) q = let y : l ≡ p ++ m = cc in (m, refl, y)
 
 -- Runs
 
@@ -190,7 +100,7 @@ module _ (r : Range) (d : Bool) (n : ℕ) (s : List ℕ) (at left : ℕ) (over o
       -- without delta the results are the values
       judged : (b : Bool) → (not b && allExact (w .0)) ≡ (not b && allExact (sumsIf b (w .0)))
       judged true = refl
-      judged false = refl
+      judged false = ap allExact (sym (results-plain (pos 0) (w .0)))
 
       fine : Fine ok ≡ Fine (not d && allExact (sumsIf d (w .0)))
       fine = ap Fine (w .4 ∙ judged d)
@@ -203,32 +113,29 @@ module _ (r : Range) (d : Bool) (n : ℕ) (s : List ℕ) (at left : ℕ) (over o
       ended true o = rw (o, ne-eqb (length (w .0)) n (λ x. omega (arith, ltb-true n (length (w .0)) (sym (w .3) ∙ o))))
       ended false o = rw o (rest o (eqb left 0) refl)
 
--- A count may be taken modulo 2 ^ 32
-
-pub times-mod : (m n k : ℕ) → (m + (k % 4294967296) * n) % 4294967296 ≡ (m + k * n) % 2 ^ 32
-times-mod m n k =
-    let e : k / 4294967296 * 4294967296 + k % 4294967296 ≡ k = div-add-mod' k 4294967296 in
-    let f : k * n ≡ k / 4294967296 * n * 4294967296 + k % 4294967296 * n = ap (λ (x : ℕ). x * n) (sym e) ∙ spread (k / 4294967296) (k % 4294967296) in
-    rw f (multiple (k / 4294967296 * n) (k % 4294967296 * n))
-  where
-    spread : (q r : ℕ) → (q * 4294967296 + r) * n ≡ q * n * 4294967296 + r * n
-    spread q r = add-mul (q * 4294967296) r n ∙ ap (λ (x : ℕ). x + r * n) (mul-right-comm q 4294967296 n)
-
-    multiple : (q r : ℕ) → (m + r) % 4294967296 ≡ (m + (q * 4294967296 + r)) % 4294967296
-    multiple q r = omega arith
-
-pub times-fit : (k n : ℕ) → n < 4294967296 → k % 4294967296 * n ≤ 18446744065119617025
-times-fit k n h =
-    let b : k % 4294967296 < 4294967296 = mod-lt k (omega arith) in
-    let c : k % 4294967296 * n ≤ 4294967295 * 4294967295 = mul-le-mul {n₂ = 4294967295} {m₂ = 4294967295} (omega arith) (omega arith) in
-    omega arith
-
 -- By the form that a payload has
 
--- what is read of a form other than names is what is held
-pub scan-held : (f g : Form) (d : Bool) (m n : ℕ) (s : List ℕ) (r : Outcome) → Bytes s → isNames f ≡ false → g ≡ f → r ≡ scanOf f d n (readIn f s) → r ≡ scanOf g d (elements g n m) (heldIn g m s)
-scan-held f g d m n s r b h q e =
-    e ∙ ap (scanOf f d n) (sym (held-read f m s b h)) ∙ ap (λ (c : ℕ). scanOf f d c (heldIn f m s)) (sym (elements-one f n m h))
+-- forms other than names hold what is read, and have one element for each result
+pub held-read : (f : Form) (m : ℕ) (s : List ℕ) → isNames f ≡ false → heldIn f m s ≡ readIn f s
+unfolding heldIn
+held-read f m s h = by f h (readIn f s)
+  where
+    by : (f : Form) → isNames f ≡ false → (o : Option (List ℤ)) → onlyIf (padded f m) o ≡ o
+    by f h none = refl
+    by (Plain z) h (some l) = refl
+    by (Packed z) h (some l) = refl
+    by (Runs r) h (some l) = refl
+    by Names h (some l) = let y : _≡_ {A = ℕ} 0 1 = cc in absurd (omega arith)
+
+pub elements-one : (f : Form) (n m : ℕ) → isNames f ≡ false → elements f n m ≡ n
+elements-one (Plain z) n m e = refl
+elements-one (Packed z) n m e = refl
+elements-one (Runs r) n m e = refl
+elements-one Names n m e = let y : _≡_ {A = ℕ} 0 1 = cc in absurd (omega arith)
+
+pub scan-held : (f g : Form) (d : Bool) (m n : ℕ) (s : List ℕ) (r : Outcome) → isNames f ≡ false → g ≡ f → r ≡ scanOf f d n (readIn f s) → r ≡ scanOf g d (elements g n m) (heldIn g m s)
+scan-held f g d m n s r h q e =
+    e ∙ ap (scanOf f d n) (sym (held-read f m s h)) ∙ ap (λ (c : ℕ). scanOf f d c (heldIn f m s)) (sym (elements-one f n m h))
     ∙ ap (λ (x : Form). scanOf x d (elements x n m) (heldIn x m s)) (sym q)
 
 -- names are never judged to be exact

@@ -1,48 +1,39 @@
 -- Laws of packed numbers of two bytes by one running total: of the result that has begun, and with delta of those before it too. So
 -- few limits cannot lead a sum out of 32 bits. Assumes nothing.
-use mathlib.Core.Path.{_≡_, refl, sym, ap, subst, _∙_}
+use mathlib.Core.Path.{_≡_, refl, sym, ap, _∙_}
 use mathlib.Core.Bool.{Bool, true, false, cond, _&&_}
-use mathlib.Core.Option.{some}
-use mathlib.Core.List.{List, _++_, map}
+use mathlib.Core.List.{List}
 use Prim.Native.Nat.{ℕ, suc, _+_, _-_, _*_, _%_, _<_, _≤_}
-use native.Mathlib.Nat.{mod-lt}
 use native.Mathlib.Omega.{arith}
-use lib.ListN.{length, drop, set, replicate}
+use lib.ListN.{length, set, replicate}
 use lib.IntN.{ℤ, pos, negsuc, _+ℤ_}
 use lib.Signed.{mag}
 use lib.Dec.{ltb}
 use mir.Syntax.{w16, w32}
-use mir.Val.{toZ, ofZ, Fits, SFits}
-use mir.Facts.{toZ-ofZ, ofZ-toZ, fits-ofZ, sfits-toZ}
+use mir.Val.{toZ, ofZ, SFits}
+use mir.Facts.{toZ-ofZ, ofZ-toZ}
 use borrow.Author.Tests.{ltb-true, ltb-false}
 use Rattle.refusal.specs.Table.{numberNotAllowed, lengthDiffers}
-use Rattle.numbers.specs.BigEndian.{Bytes, signedAt}
-use Rattle.codecs.specs.declared.Size.the-variants.{Two}
-use Rattle.codecs.specs.declared.Form.the-variants.{Packed}
-use Rattle.codecs.specs.declared.Turn.the-variants.{More, Done}
-use Rattle.codecs.specs.Delta.{plusDelta, sumsIf}
-use Rattle.codecs.specs.Packing.{isLimit}
-use Rattle.codecs.specs.Steps.{turnOf}
-use Rattle.codecs.specs.Fits.{Every}
-use Rattle.codecs.specs.Laws.Numbers.{numbers-step}
-use Rattle.codecs.specs.Laws.NumbersBack.{drop-bytes, numbersIn-fit}
-use Rattle.codecs.specs.Laws.Packing.{mag-add, turn-inside, turn-outside}
+use Rattle.numbers.specs.BigEndian.{signedAt}
+use Rattle.steps.specs.declared.Size.the-variants.{Two}
+use Rattle.steps.specs.declared.Form.the-variants.{Packed}
+use Rattle.steps.specs.declared.Turn.the-variants.{More, Done}
+use Rattle.steps.specs.Delta.{plusDelta, advance, resultsFrom}
+use Rattle.steps.specs.Packing.{isLimit}
+use Rattle.steps.specs.Steps.{turnOf}
+use Rattle.steps.specs.Laws.NumbersBack.{signedAt-32}
+use Rattle.steps.specs.Laws.Delta.{wrapped, plus-zero}
+use Rattle.steps.specs.Laws.Packing.{mag-add, turn-inside, turn-outside}
+use Rattle.steps.specs.Payload.{readIn}
 use Rattle.payloads.specs.declared.Outcome.the-variants.{Fine, Refused}
-use Rattle.payloads.specs.Held.{exact, allExact}
-use Rattle.payloads.specs.Results.{advance, resultsFrom, HasRoom}
+use Rattle.payloads.specs.Exact.{exact, allExact}
+use Rattle.payloads.specs.Results.{HasRoom, Wrote, ResultsExact}
 use Rattle.payloads.specs.Scan.{scanOf}
-use Rattle.payloads.specs.Items.{readIn}
 use Rattle.payloads.specs.Laws.Items.{from}
 use Rattle.payloads.specs.Laws.Writing.{written-exact}
 use Rattle.payloads.specs.Laws.Packed.{step, WrittenPacked, packed-written-start, packed-written-length, packed-written-more, packed-written-room, packed-written-done, packed-written-wrong, packed-written-end, Unpacked, unpacked-start, unpacked-more, unpacked-done, unpacked-unfinished, unpacked-other, unpacked-all}
 
 -- The total
-
-wrapped : (n : ℕ) → Fits w32 (n % 4294967296)
-wrapped n = record { fits = mod-lt n (omega arith) }
-
-pub plus-fits : (a d : ℤ) → SFits w32 (plusDelta a d)
-plus-fits a d = sfits-toZ {w = w32} (wrapped (ofZ w32 a + ofZ w32 d))
 
 -- the bits of a sum that has 32
 sum-bits : (a b : ℤ) → SFits w32 a → SFits w32 b → mag (a +ℤ b) < 2147483648 → ofZ w32 (a +ℤ b) ≡ (ofZ w32 a + ofZ w32 b) % 4294967296
@@ -70,10 +61,7 @@ total-more true a part x f g h =
 -- the start of the next result
 pub total-start : (d : Bool) (a : ℤ) → SFits w32 a → cond d a (pos 0) ≡ advance d a (pos 0)
 total-start false a f = refl
-total-start true a f =
-    let k = fits-ofZ {w = w32} f in
-    let e : (ofZ w32 a + 0) % 4294967296 ≡ ofZ w32 a = omega arith in
-    sym (ap (toZ w32) e ∙ toZ-ofZ {w = w32} f)
+total-start true a f = sym (plus-zero a f)
 
 -- before the first number
 at-first : (d : Bool) → pos 0 ≡ advance d (pos 0) (pos 0)
@@ -81,10 +69,6 @@ at-first true = refl
 at-first false = refl
 
 -- Numbers with few limits
-
-pub two-fits : (s : List ℕ) (at : ℕ) → Bytes s → at + 2 ≤ length s → SFits w16 (signedAt w16 s at)
-unfolding Every
-two-fits s at b h = subst (Every (SFits w16)) (numbers-step Two s at h) (numbersIn-fit Two (drop at s) (drop-bytes at s b)) .0
 
 -- the numbers before the place are unpacked: so many were limits, and `part` is the sum of a result that has begun
 abbrev pub Totalled : Bool → List ℕ → ℕ → ℕ → Bool → ℤ → Bool → Type 0
@@ -155,10 +139,10 @@ module _ {B : Type 0} (g : ℤ → B) (d : Bool) (s : List ℕ) (old : List B) (
     pub total-written-length : length new ≡ length old
     total-written-length = packed-written-length g Two d s old room at (w .0) o new (w .1) (w .3)
 
-    pub total-written-end : length s - at < 2 → (l : List ℤ) → readIn (Packed Two) s ≡ some l → new ≡ map g (sumsIf d l) ++ drop (length l) old
+    pub total-written-end : length s - at < 2 → Wrote g (Packed Two) d s old new
     total-written-end h = packed-written-end g Two d s old room at (w .0) o new (w .1) (w .3) h
 
-    module _ (h : at + 2 ≤ length s) (f : SFits w16 (signedAt w16 s at)) where
+    module _ (h : at + 2 ≤ length s) where
       within-32 : mag (w .0 +ℤ signedAt w16 s at) < 2147483648
       within-32 = by (ltb (mag (w .0 +ℤ signedAt w16 s at)) 2147483648) refl
         where
@@ -168,7 +152,7 @@ module _ {B : Type 0} (g : ℤ → B) (d : Bool) (s : List ℕ) (old : List B) (
 
       module _ (y : ℤ) (e : y ≡ plusDelta total (signedAt w16 s at)) where
         next : y ≡ advance d (w .1) (w .0 +ℤ signedAt w16 s at)
-        next = e ∙ ap (λ (t : ℤ). plusDelta t (signedAt w16 s at)) (w .4) ∙ total-more d (w .1) (w .0) (signedAt w16 s at) (w .2) (record { sfits = let k = f .sfits in omega arith }) within-32
+        next = e ∙ ap (λ (t : ℤ). plusDelta t (signedAt w16 s at)) (w .4) ∙ total-more d (w .1) (w .0) (signedAt w16 s at) (w .2) (signedAt-32 Two s at) within-32
 
         -- a limit
         pub total-written-more : isLimit 32767 32768 (signedAt w16 s at) ≡ true → WrittenTotal (at + 2) y o new
@@ -184,7 +168,7 @@ module _ {B : Type 0} (g : ℤ → B) (d : Bool) (s : List ℕ) (old : List B) (
           pub total-written-room : o + 1 ≤ length new
           total-written-room = packed-written-room g Two d s old room at (w .0) o new (w .1) (w .3) h (w .0 +ℤ signedAt w16 s at) ends
 
-          pub total-written-exact : ((l : List ℤ) → readIn (Packed Two) s ≡ some l → allExact (resultsFrom d (pos 0) l) ≡ true) → exact y ≡ true
+          pub total-written-exact : ResultsExact (Packed Two) d s → exact y ≡ true
           unfolding allExact resultsFrom
           total-written-exact all =
               let u : allExact (resultsFrom d (w .1) (replicate 1 (w .0 +ℤ signedAt w16 s at))) ≡ true =

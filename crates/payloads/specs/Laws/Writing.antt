@@ -1,20 +1,22 @@
 -- Laws of writing a payload's results into a buffer, once over the elements' type: a run of them, and run after run. Assumes nothing.
 use mathlib.Core.Path.{_≡_, refl, sym, ap, ap₂, subst, _∙_}
-use mathlib.Core.Bool.{Bool, true, false, _&&_}
+use mathlib.Core.Bool.{Bool, true}
 use mathlib.Core.Option.{Option, none, some, Option·map}
 use mathlib.Core.List.{List, [], _∷_, _++_, append-nil, append-assoc, map}
 use Prim.Native.Nat.{ℕ, zero, suc, _+_, _-_, _<_, _≤_}
 use native.Mathlib.Omega.{arith}
 use native.Mathlib.Numerals.{add-one}
-use lib.ListN.{length, take, drop, set, getD, replicate, length-append, length-replicate, length-drop, take-append-drop}
+use lib.ListN.{length, take, drop, set, getD, replicate, length-map, length-append, length-replicate, length-drop, take-append-drop}
 use lib.Seq.{drop-cons, drop-drop, set-at, length-take-le, take-at, drop-at}
 use lib.IntN.{ℤ, pos}
-use Rattle.codecs.specs.declared.Form.{Form}
-use Rattle.codecs.specs.Delta.{sumsIf}
-use Rattle.payloads.specs.Held.{allExact}
-use Rattle.payloads.specs.Items.{readIn}
-use Rattle.payloads.specs.Results.{advance, resultsFrom, lastFrom, paste, Filled, HasRoom}
-use Rattle.payloads.specs.Laws.Scan.{results-if, length-results, results-append, last-append, exact-append, map-id, map-both}
+use Rattle.steps.specs.declared.Form.{Form}
+use Rattle.steps.specs.Delta.{advance, resultsFrom, lastFrom}
+use Rattle.steps.specs.Payload.{readIn}
+use Rattle.steps.specs.Laws.Delta.{length-results, results-append, last-append}
+use Rattle.payloads.specs.Exact.{allExact}
+use Rattle.payloads.specs.Results.{paste, Filled, HasRoom, Wrote, ResultsExact}
+use Rattle.payloads.specs.Laws.Exact.{exact-parts}
+use Rattle.payloads.specs.Laws.Scan.{map-id, map-both, rest-of}
 
 -- Lists
 
@@ -22,10 +24,6 @@ module _ {B : Type 0} (g : ℤ → B) where
   pub map-append : (p q : List ℤ) → map g (p ++ q) ≡ map g p ++ map g q
   map-append [] q = refl
   map-append (x ∷ p) q = ap (λ (l : List B). g x ∷ l) (map-append p q)
-
-  pub length-map : (p : List ℤ) → length (map g p) ≡ length p
-  length-map [] = refl
-  length-map (x ∷ p) = ap suc (length-map p)
 
 module _ {B : Type 0} (old : List B) (o : ℕ) where
   pub paste-none : paste old o [] ≡ old
@@ -80,10 +78,7 @@ module _ {B : Type 0} (g : ℤ → B) (d : Bool) (a v : ℤ) (old : List B) (fro
   filled-start = (sym (paste-none old from), refl)
 
   filled-size : (n : ℕ) → length (map g (resultsFrom d a (replicate n v))) ≡ n
-  filled-size n = length-map g (resultsFrom d a (replicate n v)) ∙ length-results d a (replicate n v) ∙ length-replicate n v
-
-  pub filled-length : (n : ℕ) (new : List B) (x : ℤ) → from + n ≤ length old → Filled g d a v old from n new x → length new ≡ length old
-  filled-length n new x h w = let s = filled-size n in ap length (w .0) ∙ paste-length old from (map g (resultsFrom d a (replicate n v))) (omega arith)
+  filled-size n = length-map (resultsFrom d a (replicate n v)) g ∙ length-results d a (replicate n v) ∙ length-replicate n v
 
   filled-more : (n : ℕ) (new : List B) (x y : ℤ) (e : B) → from + n < length old → Filled g d a v old from n new x → y ≡ advance d x v → Filled g d a v old from (suc n) (set new (from + n) (g y)) y
   filled-more n new x y e h w q =
@@ -101,13 +96,17 @@ module _ {B : Type 0} (g : ℤ → B) (d : Bool) (a v : ℤ) (old : List B) (fro
 
 -- Run after run
 
-exact-parts : (p q : List ℤ) → allExact (p ++ q) ≡ true → (allExact p ≡ true) × (allExact q ≡ true)
-exact-parts p q e = by (allExact p) refl (allExact q) refl (sym (exact-append p q) ∙ e)
+-- the results of the next run, behind those of the values p, are exact where all are
+pub next-exact : (f : Form) (d : Bool) (s : List ℕ) (p : List ℤ) (x v : ℤ) (k : ℕ) (left left′ : Option (List ℤ)) (l : List ℤ) → ResultsExact f d s → readIn f s ≡ some l
+    → readIn f s ≡ Option·map (λ (t : List ℤ). p ++ t) left → x ≡ lastFrom d (pos 0) p → left ≡ Option·map (λ (t : List ℤ). replicate k v ++ t) left′
+    → allExact (resultsFrom d x (replicate k v)) ≡ true
+next-exact f d s p x v k left left′ l h e a y q = by left′ (a ∙ ap (Option·map (λ (t : List ℤ). p ++ t)) q)
   where
-    by : (a : Bool) → allExact p ≡ a → (b : Bool) → allExact q ≡ b → (a && b) ≡ true → (allExact p ≡ true) × (allExact q ≡ true)
-    by true x true y z = (x, y)
-    by true x false y z = let y : _≡_ {A = ℕ} 0 1 = cc in absurd (omega arith)
-    by false x b y z = let y : _≡_ {A = ℕ} 0 1 = cc in absurd (omega arith)
+    by : (o : Option (List ℤ)) → readIn f s ≡ Option·map (λ (t : List ℤ). p ++ t) (Option·map (λ (t : List ℤ). replicate k v ++ t) o) → allExact (resultsFrom d x (replicate k v)) ≡ true
+    by none z = let y : _≡_ {A = ℕ} 0 1 = cc in absurd (omega arith)
+    by (some t) z =
+        let u = exact-parts (resultsFrom d (pos 0) p) (resultsFrom d (lastFrom d (pos 0) p) (replicate k v ++ t)) (rw results-append at (h (p ++ (replicate k v ++ t)) z)) .1 in
+        rw y (exact-parts (resultsFrom d (lastFrom d (pos 0) p) (replicate k v)) (resultsFrom d (lastFrom d (lastFrom d (pos 0) p) (replicate k v)) t) (rw results-append at u) .0)
 
 module _ {B : Type 0} (g : ℤ → B) (f : Form) (d : Bool) (s : List ℕ) (old : List B) (room : HasRoom f s (length old)) where
   -- the values p are read before those that are left, and their results stand at the buffer's start
@@ -127,22 +126,14 @@ module _ {B : Type 0} (g : ℤ → B) (f : Form) (d : Bool) (s : List ℕ) (old 
   module _ (left : Option (List ℤ)) (o : ℕ) (new : List B) (x : ℤ) (w : WrittenTo left o new x) where
     -- the rest of the values
     rest : (r : List ℤ) × (left ≡ some r) × (w .0 ++ r ≡ room .0)
-    rest = by left refl
-      where
-        by : (y : Option (List ℤ)) → left ≡ y → (r : List ℤ) × (left ≡ some r) × (w .0 ++ r ≡ room .0)
-        by none e =
-            let q : none ≡ some (room .0) = sym (ap (Option·map (λ (l : List ℤ). w .0 ++ l)) e) ∙ sym (w .1) ∙ room .1 in
-            let z : _≡_ {A = ℕ} 0 1 = cc in absurd (omega arith)
-        by (some r) e =
-            let q : some (w .0 ++ r) ≡ some (room .0) = sym (ap (Option·map (λ (l : List ℤ). w .0 ++ l)) e) ∙ sym (w .1) ∙ room .1 in
-            (r, e, cc)
+    rest = let r = rest-of (w .0) (room .0) left (sym (room .1) ∙ w .1) in (r .0, r .1, sym (r .2))
 
     pub written-length : length new ≡ length old
     written-length =
         let a = length-append (w .0) (rest .0) in
         let b = ap length (rest .2) in
         let m = length-append (map g (resultsFrom d (pos 0) (w .0))) (drop (length (w .0)) old) in
-        let c = length-map g (resultsFrom d (pos 0) (w .0)) in
+        let c = length-map (resultsFrom d (pos 0) (w .0)) g in
         let e = length-results d (pos 0) (w .0) in
         let k = length-drop (length (w .0)) old in
         let h = room .2 in
@@ -152,24 +143,17 @@ module _ {B : Type 0} (g : ℤ → B) (f : Form) (d : Bool) (s : List ℕ) (old 
     module _ (v : ℤ) (k : ℕ) (left′ : Option (List ℤ)) (q : left ≡ Option·map (λ (l : List ℤ). replicate k v ++ l) left′) where
       -- there is room for a run
       pub written-room : o + k ≤ length new
-      written-room = by (left′) refl
-        where
-          by : (y : Option (List ℤ)) → left′ ≡ y → o + k ≤ length new
-          by none e =
-              let z : none ≡ some (rest .0) = sym (ap (Option·map (λ (l : List ℤ). replicate k v ++ l)) e) ∙ sym q ∙ rest .1 in
-              let y : _≡_ {A = ℕ} 0 1 = cc in absurd (omega arith)
-          by (some t) e =
-              let z : some (replicate k v ++ t) ≡ some (rest .0) = sym (ap (Option·map (λ (l : List ℤ). replicate k v ++ l)) e) ∙ sym q ∙ rest .1 in
-              let y : replicate k v ++ t ≡ rest .0 = cc in
-              let a = ap length y in
-              let b = length-append (replicate k v) t in
-              let c = length-replicate k v in
-              let m = length-append (w .0) (rest .0) in
-              let i = ap length (rest .2) in
-              let h = room .2 in
-              let n = written-length in
-              let j = w .2 in
-              omega arith
+      written-room =
+          let x = rest-of (replicate k v) (rest .0) left′ (sym (rest .1) ∙ q) in
+          let a = ap length (x .2) in
+          let b = length-append (replicate k v) (x .0) in
+          let c = length-replicate k v in
+          let m = length-append (w .0) (rest .0) in
+          let i = ap length (rest .2) in
+          let h = room .2 in
+          let n = written-length in
+          let j = w .2 in
+          omega arith
 
       -- a run more
       pub written-run : (new′ : List B) (x′ : ℤ) → Filled g d x v new o k new′ x′ → WrittenTo left′ (o + k) new′ x′
@@ -190,17 +174,17 @@ module _ {B : Type 0} (g : ℤ → B) (f : Form) (d : Bool) (s : List ℕ) (old 
           Q = map g (resultsFrom d x (replicate k v))
 
           size : length P ≡ length (w .0)
-          size = length-map g (resultsFrom d (pos 0) (w .0)) ∙ length-results d (pos 0) (w .0)
+          size = length-map (resultsFrom d (pos 0) (w .0)) g ∙ length-results d (pos 0) (w .0)
 
           whole : P ++ Q ≡ map g (resultsFrom d (pos 0) (w .0 ++ replicate k v))
           whole = ap (λ (y : ℤ). P ++ map g (resultsFrom d y (replicate k v))) (w .3) ∙ sym (map-append g (resultsFrom d (pos 0) (w .0)) (resultsFrom d (lastFrom d (pos 0) (w .0)) (replicate k v))) ∙ ap (map g) (sym (results-append d (pos 0) (w .0) (replicate k v)))
 
           all : length (P ++ Q) ≡ length (w .0 ++ replicate k v)
-          all = ap length whole ∙ length-map g (resultsFrom d (pos 0) (w .0 ++ replicate k v)) ∙ length-results d (pos 0) (w .0 ++ replicate k v)
+          all = ap length whole ∙ length-map (resultsFrom d (pos 0) (w .0 ++ replicate k v)) g ∙ length-results d (pos 0) (w .0 ++ replicate k v)
 
           fits : length P + length Q ≤ length old
           fits =
-              let a = length-map g (resultsFrom d x (replicate k v)) ∙ length-results d x (replicate k v) ∙ length-replicate k v in
+              let a = length-map (resultsFrom d x (replicate k v)) g ∙ length-results d x (replicate k v) ∙ length-replicate k v in
               let r = written-room in
               let n = written-length in
               let j = w .2 in
@@ -212,17 +196,8 @@ module _ {B : Type 0} (g : ℤ → B) (f : Form) (d : Bool) (s : List ℕ) (old 
               ∙ paste-front old P Q fits ∙ ap₂ (λ (l : List B) (i : ℕ). l ++ drop i old) whole all
 
       -- the results of a run are exact where all are
-      pub written-exact : ((l : List ℤ) → readIn f s ≡ some l → allExact (resultsFrom d (pos 0) l) ≡ true) → allExact (resultsFrom d x (replicate k v)) ≡ true
-      written-exact h = by left′ refl
-        where
-          by : (y : Option (List ℤ)) → left′ ≡ y → allExact (resultsFrom d x (replicate k v)) ≡ true
-          by none e =
-              let z : none ≡ some (rest .0) = sym (ap (Option·map (λ (l : List ℤ). replicate k v ++ l)) e) ∙ sym q ∙ rest .1 in
-              let y : _≡_ {A = ℕ} 0 1 = cc in absurd (omega arith)
-          by (some t) e =
-              let a : readIn f s ≡ some (w .0 ++ (replicate k v ++ t)) = w .1 ∙ ap (Option·map (λ (l : List ℤ). w .0 ++ l)) (q ∙ ap (Option·map (λ (l : List ℤ). replicate k v ++ l)) e) in
-              let b = exact-parts (resultsFrom d (pos 0) (w .0)) (resultsFrom d (lastFrom d (pos 0) (w .0)) (replicate k v ++ t)) (rw results-append at (h (w .0 ++ (replicate k v ++ t)) a)) .1 in
-              rw (w .3) (exact-parts (resultsFrom d (lastFrom d (pos 0) (w .0)) (replicate k v)) (resultsFrom d (lastFrom d (lastFrom d (pos 0) (w .0)) (replicate k v)) t) (rw results-append at b) .0)
+      pub written-exact : ResultsExact f d s → allExact (resultsFrom d x (replicate k v)) ≡ true
+      written-exact h = next-exact f d s (w .0) x v k left left′ (room .0) h (room .1) (w .1) (w .3) q
 
       -- one value more
       pub written-one : k ≡ 1 → (y : ℤ) (b e : B) → y ≡ advance d x v → b ≡ g y → WrittenTo left′ (o + 1) (set new o b) y
@@ -235,12 +210,12 @@ module _ {B : Type 0} (g : ℤ → B) (f : Form) (d : Bool) (s : List ℕ) (old 
           subst (λ (i : ℕ). WrittenTo left′ (o + i) (set new o b) y) one (written-run (set new o b) y u)
 
     -- where the reading ends all is written
-    pub written-end : left ≡ some [] → (l : List ℤ) → readIn f s ≡ some l → new ≡ map g (sumsIf d l) ++ drop (length l) old
+    pub written-end : left ≡ some [] → Wrote g f d s old new
     written-end q l e =
         let a : some (w .0) ≡ some l = sym (w .1 ∙ ap (Option·map (λ (l : List ℤ). w .0 ++ l)) q ∙ ap some (append-nil (w .0))) ∙ e in
         let p : w .0 ≡ l = cc in
-        w .4 ∙ ap (λ (t : List ℤ). map g (resultsFrom d (pos 0) t) ++ drop (length t) old) p ∙ ap (λ (t : List ℤ). map g t ++ drop (length l) old) (sym (results-if d l))
+        w .4 ∙ ap (λ (t : List ℤ). map g (resultsFrom d (pos 0) t) ++ drop (length t) old) p
 
-    -- and it ends nowhere else
+    -- the reading does not end at a number that is not allowed
     pub written-wrong : {A : Type 0} → left ≡ none → A
     written-wrong q = let z : none ≡ some (rest .0) = sym q ∙ rest .1 in let y : _≡_ {A = ℕ} 0 1 = cc in absurd (omega arith)

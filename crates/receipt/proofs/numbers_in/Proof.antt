@@ -6,15 +6,15 @@ use Prim.Native.Nat.{ℕ, _≤_, _<_, _-_}
 use native.Mathlib.Omega.{arith}
 use lib.ListN.{length, drop, length-set}
 use lib.Seq.{sets}
+use Rattle.receipt.specs.Reading.{lineNumbers}
 use borrow.Author.Needs.{needs}
-use Rattle.receipt.specs.Reading.{numbersIn}
 use Rattle.receipt.specs.Laws.Numbers.{store-end, store-byte, numbers-none}
 use Rattle.receipt.proofs.numbers_in.Statement.{statement}
 use Rattle.receipt.proofs.numbers_in.Tie as tie
 
 abbrev Inv-loop : tie.InvT-loop
 Inv-loop bytes numbers₀ line₀ number₀ i₀ numbers line number i =
-    (i ≤ length bytes) × (line ≤ i) × (length numbers ≡ 10) × (sets numbers line (numbersIn (drop i bytes) number) ≡ sets numbers₀ 0 (numbersIn bytes 0))
+    (i ≤ length bytes) × (line ≤ i) × (length numbers ≡ 10) × (sets numbers line (lineNumbers (drop i bytes) number) ≡ sets numbers₀ 0 (lineNumbers bytes 0))
 
 abbrev μ-loop : tie.MeasureT-loop
 μ-loop bytes numbers₀ line₀ number₀ i₀ numbers line number i = length bytes - i

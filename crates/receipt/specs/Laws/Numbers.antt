@@ -9,55 +9,48 @@ use native.Mathlib.Numerals.{add-one}
 use lib.Dec.{ltb, lit<}
 use lib.ListN.{length, getD, set, drop, replicate, drop-of-length-le}
 use lib.Seq.{drop-cons, sets}
-use borrow.Author.Tests.{eq-eqb, ne-eqb, le-leb, lt-leb, lt-ltb, le-ltb, ltb-true, ltb-false}
-use Rattle.fields.specs.Laws.Types.{and-left, and-right}
+use Rattle.numbers.specs.Laws.Tests.{and-left, and-right}
+use borrow.Author.Tests.{eq-eqb, ne-eqb, le-leb, lt-leb, lt-ltb, ltb-true, ltb-false}
 use Rattle.text.specs.Decimal.{glyph, decimal}
 use Rattle.text.specs.Laws.Decimal.{decimal-one, decimal-more}
 use Rattle.receipt.specs.Receipt.{line}
-use Rattle.receipt.specs.Reading.{shifted, numbersIn, receiptFrom}
+use Rattle.receipt.specs.Reading.{withByte, receiptFrom, lineNumbers}
 
--- one digit more
+-- one byte more: a digit, where there is room for it, and what is no digit
 
-pub shifted-low : (n b : ℕ) → b < 48 → n ≡ shifted n b
-unfolding shifted
-shifted-low n b h = rw (lt-leb 48 b h)
+byte-digit : (n b : ℕ) → 48 ≤ b → b ≤ 57 → n < 100000000 → withByte n b ≡ n * 10 + (b - 48)
+byte-digit n b l h f = rw (le-leb 48 b l, le-leb b 57 h) (omega arith)
 
-pub shifted-high : (n b : ℕ) → 48 ≤ b → 57 < b → n ≡ shifted n b
-unfolding shifted
-shifted-high n b l h = rw (le-leb 48 b l, lt-leb b 57 h)
+pub byte-low : (n b : ℕ) → b < 48 → n ≡ withByte n b
+byte-low n b h = rw (lt-leb 48 b h)
 
-pub shifted-full : (n b : ℕ) → 48 ≤ b → b ≤ 57 → 100000000 ≤ n → n ≡ shifted n b
-unfolding shifted
-shifted-full n b l h f = rw (le-leb 48 b l, le-leb b 57 h, le-ltb n 100000000 f)
-
-pub shifted-digit : (n b : ℕ) → 48 ≤ b → b ≤ 57 → n < 100000000 → shifted n b ≡ n * 10 + (b - 48)
-unfolding shifted
-shifted-digit n b l h f = rw (le-leb 48 b l, le-leb b 57 h, lt-ltb n 100000000 f)
+pub byte-high : (n b : ℕ) → 57 < b → n ≡ withByte n b
+byte-high n b h = rw (le-leb 48 b (omega arith), lt-leb b 57 h)
 
 -- a line's end, and another byte
 
-pub numbers-end : (s : List ℕ) (i n : ℕ) → i < length s → getD s i 0 ≡ 10 → numbersIn (drop i s) n ≡ n ∷ numbersIn (drop (i + 1) s) 0
-unfolding numbersIn
+pub numbers-end : (s : List ℕ) (i n : ℕ) → i < length s → getD s i 0 ≡ 10 → lineNumbers (drop i s) n ≡ n ∷ lineNumbers (drop (i + 1) s) 0
+unfolding lineNumbers
 numbers-end s i n h e = rw (drop-cons s i 0 h, eq-eqb (getD s i 0) 10 e, add-one i)
 
-pub numbers-byte : (s : List ℕ) (i n : ℕ) → i < length s → (getD s i 0 ≡ 10 → ⊥) → numbersIn (drop i s) n ≡ numbersIn (drop (i + 1) s) (shifted n (getD s i 0))
-unfolding numbersIn
+pub numbers-byte : (s : List ℕ) (i n : ℕ) → i < length s → (getD s i 0 ≡ 10 → ⊥) → lineNumbers (drop i s) n ≡ lineNumbers (drop (i + 1) s) (withByte n (getD s i 0))
+unfolding lineNumbers
 numbers-byte s i n h e = rw (drop-cons s i 0 h, ne-eqb (getD s i 0) 10 e, add-one i)
 
-pub numbers-none : (s : List ℕ) (i n : ℕ) → length s ≤ i → numbersIn (drop i s) n ≡ []
-unfolding numbersIn
+pub numbers-none : (s : List ℕ) (i n : ℕ) → length s ≤ i → lineNumbers (drop i s) n ≡ []
+unfolding lineNumbers
 numbers-none s i n h = rw (drop-of-length-le s h)
 
 -- what is left, stored from a line on, does not change at a line's end, nor at another byte
 
 pub store-end : (s ns ms t : List ℕ) (i at n line m : ℕ) → i < length s → getD s i 0 ≡ 10 → ms ≡ set ns at n → line ≡ at + 1 → m ≡ 0
-    → sets ns at (numbersIn (drop i s) n) ≡ t → sets ms line (numbersIn (drop (i + 1) s) m) ≡ t
+    → sets ns at (lineNumbers (drop i s) n) ≡ t → sets ms line (lineNumbers (drop (i + 1) s) m) ≡ t
 store-end s ns ms t i at n line m h e a b z q =
-    let p : sets ns at (numbersIn (drop i s) n) ≡ sets (set ns at n) (suc at) (numbersIn (drop (i + 1) s) 0) = ap (λ (l : List ℕ). sets ns at l) (numbers-end s i n h e) in
+    let p : sets ns at (lineNumbers (drop i s) n) ≡ sets (set ns at n) (suc at) (lineNumbers (drop (i + 1) s) 0) = ap (λ (l : List ℕ). sets ns at l) (numbers-end s i n h e) in
     rw (a, b, z, add-one at) (sym p ∙ q)
 
-pub store-byte : (s ns ms t : List ℕ) (i at n line m : ℕ) → i < length s → (getD s i 0 ≡ 10 → ⊥) → ms ≡ ns → line ≡ at → m ≡ shifted n (getD s i 0)
-    → sets ns at (numbersIn (drop i s) n) ≡ t → sets ms line (numbersIn (drop (i + 1) s) m) ≡ t
+pub store-byte : (s ns ms t : List ℕ) (i at n line m : ℕ) → i < length s → (getD s i 0 ≡ 10 → ⊥) → ms ≡ ns → line ≡ at → m ≡ withByte n (getD s i 0)
+    → sets ns at (lineNumbers (drop i s) n) ≡ t → sets ms line (lineNumbers (drop (i + 1) s) m) ≡ t
 store-byte s ns ms t i at n line m h e a b z q = rw (a, b, z, ← numbers-byte s i n h e) q
 
 -- ten numbers stored over zeros are the first ten
@@ -99,11 +92,11 @@ abbrev pub plain : List ℕ → Bool
 plain [] = true
 plain (b ∷ bs) = ltb 57 b && plain bs
 
-numbers-other : (b n : ℕ) (rest : List ℕ) → 57 < b → numbersIn (b ∷ rest) n ≡ numbersIn rest n
-unfolding numbersIn
-numbers-other b n rest h = rw (ne-eqb b 10 (λ e. omega arith), ← shifted-high n b (omega arith) h)
+numbers-other : (b n : ℕ) (rest : List ℕ) → 57 < b → lineNumbers (b ∷ rest) n ≡ lineNumbers rest n
+unfolding lineNumbers
+numbers-other b n rest h = rw (ne-eqb b 10 (λ e. omega arith), ← byte-high n b h)
 
-numbers-plain : (bs rest : List ℕ) (n : ℕ) → plain bs ≡ true → numbersIn (bs ++ rest) n ≡ numbersIn rest n
+numbers-plain : (bs rest : List ℕ) (n : ℕ) → plain bs ≡ true → lineNumbers (bs ++ rest) n ≡ lineNumbers rest n
 numbers-plain [] rest n h = refl
 numbers-plain (b ∷ bs) rest n h = numbers-other b n (bs ++ rest) (ltb-true 57 b (and-left (ltb 57 b) (plain bs) h)) ∙ numbers-plain bs rest n (and-right (ltb 57 b) (plain bs) h)
 
@@ -112,47 +105,47 @@ glyph-digit d h =
     let e : d % 16 ≡ d = omega arith in
     rw (e, lt-ltb d 10 h)
 
-numbers-digit : (d n : ℕ) (rest : List ℕ) → d < 10 → n < 100000000 → numbersIn (glyph d ∷ rest) n ≡ numbersIn rest (n * 10 + d)
-unfolding numbersIn
+numbers-digit : (d n : ℕ) (rest : List ℕ) → d < 10 → n < 100000000 → lineNumbers (glyph d ∷ rest) n ≡ lineNumbers rest (n * 10 + d)
+unfolding lineNumbers
 numbers-digit d n rest h f =
     let e : n * 10 + (48 + d - 48) ≡ n * 10 + d = omega arith in
-    rw (glyph-digit d h, ne-eqb (48 + d) 10 (λ z. omega arith), shifted-digit n (48 + d) (omega arith) (omega arith) f, e)
+    rw (glyph-digit d h, ne-eqb (48 + d) 10 (λ z. omega arith), byte-digit n (48 + d) (omega arith) (omega arith) f, e)
 
-numbers-one : (n : ℕ) (rest : List ℕ) → n < 10 → numbersIn (decimal n ++ rest) 0 ≡ numbersIn rest n
+numbers-one : (n : ℕ) (rest : List ℕ) → n < 10 → lineNumbers (decimal n ++ rest) 0 ≡ lineNumbers rest n
 numbers-one n rest h =
     let e : 0 * 10 + n ≡ n = omega arith in
-    ap (λ (ds : List ℕ). numbersIn (ds ++ rest) 0) (decimal-one n h) ∙ numbers-digit n 0 rest h (omega arith) ∙ ap (numbersIn rest) e
+    ap (λ (ds : List ℕ). lineNumbers (ds ++ rest) 0) (decimal-one n h) ∙ numbers-digit n 0 rest h (omega arith) ∙ ap (lineNumbers rest) e
 
 -- by the number of a tenth, which is smaller
-numbers-more : (n : ℕ) (rest : List ℕ) → 10 ≤ n → n < 1000000000 → numbersIn (decimal (n / 10) ++ (glyph (n % 10) ∷ rest)) 0 ≡ numbersIn (glyph (n % 10) ∷ rest) (n / 10)
-    → numbersIn (decimal n ++ rest) 0 ≡ numbersIn rest n
+numbers-more : (n : ℕ) (rest : List ℕ) → 10 ≤ n → n < 1000000000 → lineNumbers (decimal (n / 10) ++ (glyph (n % 10) ∷ rest)) 0 ≡ lineNumbers (glyph (n % 10) ∷ rest) (n / 10)
+    → lineNumbers (decimal n ++ rest) 0 ≡ lineNumbers rest n
 numbers-more n rest h f q =
     let e : n / 10 * 10 + n % 10 ≡ n = omega arith in
-    ap (λ (ds : List ℕ). numbersIn (ds ++ rest) 0) (decimal-more n h (omega arith))
-    ∙ ap (λ (bs : List ℕ). numbersIn bs 0) (append-assoc (decimal (n / 10)) (glyph (n % 10) ∷ []) rest)
+    ap (λ (ds : List ℕ). lineNumbers (ds ++ rest) 0) (decimal-more n h (omega arith))
+    ∙ ap (λ (bs : List ℕ). lineNumbers bs 0) (append-assoc (decimal (n / 10)) (glyph (n % 10) ∷ []) rest)
     ∙ q
     ∙ numbers-digit (n % 10) (n / 10) rest (omega arith) (omega arith)
-    ∙ ap (numbersIn rest) e
+    ∙ ap (lineNumbers rest) e
 
-numbers-digits : (steps n : ℕ) (rest : List ℕ) → n ≤ steps → n < 1000000000 → numbersIn (decimal n ++ rest) 0 ≡ numbersIn rest n
+numbers-digits : (steps n : ℕ) (rest : List ℕ) → n ≤ steps → n < 1000000000 → lineNumbers (decimal n ++ rest) 0 ≡ lineNumbers rest n
 numbers-digits zero n rest h f = numbers-one n rest (omega arith)
 numbers-digits (suc steps) n rest h f =
     go (ltb n 10) refl (λ l. numbers-digits steps (n / 10) (glyph (n % 10) ∷ rest) (omega arith) (omega arith))
   where
-    go : (t : Bool) → ltb n 10 ≡ t → (10 ≤ n → numbersIn (decimal (n / 10) ++ (glyph (n % 10) ∷ rest)) 0 ≡ numbersIn (glyph (n % 10) ∷ rest) (n / 10))
-        → numbersIn (decimal n ++ rest) 0 ≡ numbersIn rest n
+    go : (t : Bool) → ltb n 10 ≡ t → (10 ≤ n → lineNumbers (decimal (n / 10) ++ (glyph (n % 10) ∷ rest)) 0 ≡ lineNumbers (glyph (n % 10) ∷ rest) (n / 10))
+        → lineNumbers (decimal n ++ rest) 0 ≡ lineNumbers rest n
     go true e q = numbers-one n rest (ltb-true n 10 e)
     go false e q = let l : 10 ≤ n = ltb-false n 10 e in numbers-more n rest l f (q l)
 
-numbers-feed : (n : ℕ) (rest : List ℕ) → numbersIn (0x0a ∷ rest) n ≡ n ∷ numbersIn rest 0
-unfolding numbersIn
+numbers-feed : (n : ℕ) (rest : List ℕ) → lineNumbers (0x0a ∷ rest) n ≡ n ∷ lineNumbers rest 0
+unfolding lineNumbers
 numbers-feed n rest = refl
 
-pub numbers-line : (name rest : List ℕ) (n : ℕ) → plain name ≡ true → n < 1000000000 → numbersIn (line name n ++ rest) 0 ≡ n ∷ numbersIn rest 0
+pub numbers-line : (name rest : List ℕ) (n : ℕ) → plain name ≡ true → n < 1000000000 → lineNumbers (line name n ++ rest) 0 ≡ n ∷ lineNumbers rest 0
 unfolding line
 numbers-line name rest n h f =
     let e : line name n ++ rest ≡ name ++ (0x3d ∷ (decimal n ++ (0x0a ∷ rest))) = simp append-assoc in
-    ap (λ (bs : List ℕ). numbersIn bs 0) e
+    ap (λ (bs : List ℕ). lineNumbers bs 0) e
     ∙ numbers-plain name (0x3d ∷ (decimal n ++ (0x0a ∷ rest))) 0 h
     ∙ numbers-other 0x3d 0 (decimal n ++ (0x0a ∷ rest)) (omega arith)
     ∙ numbers-digits n n (0x0a ∷ rest) (omega arith) f

@@ -10,24 +10,24 @@ use native.Mathlib.Omega.{arith}
 use lib.ListN.{length, replicate}
 use lib.Seq.{sets}
 use Rattle.refusal.specs.Table.{receiptMalformed}
-use Rattle.messagepack.specs.Equal.{equal}
-use Rattle.messagepack.specs.Laws.Keys.{equal-true, false-equal}
-use Rattle.utf8.specs.Ascii.{ascii}
-use Rattle.fields.specs.Laws.Types.{clash}
+use Rattle.numbers.specs.Laws.Tests.{clash}
+use Rattle.text.specs.Equal.{equal}
+use Rattle.text.specs.Ascii.{ascii}
+use Rattle.text.specs.Laws.Equal.{equal-true, false-equal}
 use Rattle.receipt.specs.declared.Receipt.{Receipt}
 use Rattle.receipt.specs.declared.Reading.{Reading}
 use Rattle.receipt.specs.declared.Reading.the-variants.{Numbers, Refused}
-use Rattle.receipt.specs.Receipt.{allowed, numbersOf, namedLine, written, IsReceipt, Reads, is, none}
-use Rattle.receipt.specs.Reading.{numbersIn, receiptFrom, readFrom, readingOf}
+use Rattle.receipt.specs.Receipt.{pageRoom, numbersOf, namedLine, written, IsReceipt, Reads, is, none, rulesKept}
+use Rattle.receipt.specs.Reading.{receiptFrom, readFrom, readingOf, lineNumbers}
 use Rattle.receipt.specs.Laws.Rules.{Small, AllSmall, allowed-small, written-most}
 use Rattle.receipt.specs.Laws.Numbers.{plain, numbers-line, first-ten}
 
 -- a line before others that are read already
-before : (name : Text.String) (n : ℕ) (rest ns : List ℕ) → plain (ascii name) ≡ true → Small n → numbersIn rest 0 ≡ ns → numbersIn (namedLine name n ++ rest) 0 ≡ n ∷ ns
+before : (name : Text.String) (n : ℕ) (rest ns : List ℕ) → plain (ascii name) ≡ true → Small n → lineNumbers rest 0 ≡ ns → lineNumbers (namedLine name n ++ rest) 0 ≡ n ∷ ns
 before name n rest ns h f q = numbers-line (ascii name) rest n h f ∙ ap (λ (l : List ℕ). n ∷ l) q
 
-nothing-read : numbersIn [] 0 ≡ []
-unfolding numbersIn
+nothing-read : lineNumbers [] 0 ≡ []
+unfolding lineNumbers
 nothing-read = refl
 
 -- the lines, each before the rest
@@ -37,9 +37,9 @@ nested : (r : Receipt) → written r ≡ namedLine "station" (r .station) ++ (na
 unfolding written
 nested r = simp (append-assoc, append-nil)
 
-numbers-written : (r : Receipt) → AllSmall r → numbersIn (written r) 0 ≡ numbersOf r
+numbers-written : (r : Receipt) → AllSmall r → lineNumbers (written r) 0 ≡ numbersOf r
 numbers-written r s =
-    ap (λ (bs : List ℕ). numbersIn bs 0) (nested r)
+    ap (λ (bs : List ℕ). lineNumbers bs 0) (nested r)
     ∙ before "station" (r .station) _ _ refl (s .station)
     (before "job" (r .job) _ _ refl (s .job)
     (before "verdict" (r .verdict) _ _ refl (s .verdict)
@@ -52,7 +52,7 @@ numbers-written r s =
     (before "units" (r .units) _ _ refl (s .units) nothing-read)))))))))
 
 -- what is written is read back
-pub read-written : (r : Receipt) → allowed r ≡ true → readFrom (written r) ≡ r
+pub read-written : (r : Receipt) → rulesKept r ≡ true → readFrom (written r) ≡ r
 unfolding readFrom
 read-written r h = ap receiptFrom (numbers-written r (allowed-small r h))
 
@@ -73,12 +73,12 @@ one-reading (none m) (none n) = refl
 -- the definition gives the answer: the numbers of the receipt that the bytes are, or 29 where they are none
 pub readingOf-is : (bytes : List ℕ) → Reads bytes (readingOf bytes)
 unfolding readingOf
-readingOf-is bytes = go (allowed (readFrom bytes)) refl (equal (written (readFrom bytes)) bytes) refl
+readingOf-is bytes = go (rulesKept (readFrom bytes)) refl (equal (written (readFrom bytes)) bytes) refl
   where
-    go : (a : Bool) → allowed (readFrom bytes) ≡ a → (b : Bool) → equal (written (readFrom bytes)) bytes ≡ b → Reads bytes (cond (a && b) (Numbers (readFrom bytes)) (Refused receiptMalformed))
+    go : (a : Bool) → rulesKept (readFrom bytes) ≡ a → (b : Bool) → equal (written (readFrom bytes)) bytes ≡ b → Reads bytes (cond (a && b) (Numbers (readFrom bytes)) (Refused receiptMalformed))
     go true e true f = is record { rules = e; text = sym (equal-true (written (readFrom bytes)) bytes f) }
     go true e false f = none (λ r i. false-equal (written (readFrom bytes)) bytes f (ap written (read-receipt i) ∙ sym (i .text)))
-    go false e b f = none (λ r i. clash (sym e ∙ ap allowed (read-receipt i) ∙ i .rules))
+    go false e b f = none (λ r i. clash (sym e ∙ ap rulesKept (read-receipt i) ∙ i .rules))
 
 -- so the numbers are read exactly when the bytes are their receipt
 pub reading-exactly : (bytes : List ℕ) (r : Receipt) → (readingOf bytes ≡ Numbers r) ↔ IsReceipt bytes r
@@ -89,19 +89,19 @@ reading-exactly bytes r = ((λ e. read-is (subst (Reads bytes) e (readingOf-is b
 
 -- the cases of reading
 
-pub reading-long : (bytes : List ℕ) → 176 < length bytes → Refused receiptMalformed ≡ readingOf bytes
+pub reading-long : (bytes : List ℕ) → pageRoom < length bytes → Refused receiptMalformed ≡ readingOf bytes
 reading-long bytes h = one-reading (none (λ r i. let l = written-most r in let e = ap length (i .text) in omega arith)) (readingOf-is bytes)
 
-module _ (bytes ns : List ℕ) (r : Receipt) (stored : ns ≡ sets (replicate 10 0) 0 (numbersIn bytes 0)) (from : r ≡ receiptFrom ns) where
+module _ (bytes ns : List ℕ) (r : Receipt) (stored : ns ≡ sets (replicate 10 0) 0 (lineNumbers bytes 0)) (from : r ≡ receiptFrom ns) where
   read-here : readFrom bytes ≡ r
   unfolding readFrom
-  read-here = sym (from ∙ ap receiptFrom stored ∙ first-ten (numbersIn bytes 0))
+  read-here = sym (from ∙ ap receiptFrom stored ∙ first-ten (lineNumbers bytes 0))
 
-  pub reading-broken : allowed r ≡ false → Refused receiptMalformed ≡ readingOf bytes
+  pub reading-broken : rulesKept r ≡ false → Refused receiptMalformed ≡ readingOf bytes
   unfolding readingOf
   reading-broken h = rw (read-here, h)
 
-  module _ (page : List ℕ) (a : allowed r ≡ true) (p : page ≡ written r) where
+  module _ (page : List ℕ) (a : rulesKept r ≡ true) (p : page ≡ written r) where
     pub reading-other : equal page bytes ≡ false → Refused receiptMalformed ≡ readingOf bytes
     unfolding readingOf
     reading-other h = rw (read-here, a, ← p, h)

@@ -12,14 +12,15 @@ use lib.ListN.{length, length-append, take, drop}
 use lib.Seq.{take-at, sets-eq}
 use borrow.Author.Tests.{eqb-true, ltb-true, ltb-false, leb-true}
 use Rattle.refusal.specs.Table.{accepted}
-use Rattle.utf8.specs.Ascii.{ascii}
-use Rattle.fields.specs.Laws.Types.{and-left, and-right}
+use Rattle.numbers.specs.Laws.Tests.{and-left, and-right}
+use Rattle.numbers.specs.Ranges.{within}
 use Rattle.counts.specs.Counts.{countLimit}
 use Rattle.text.specs.Decimal.{glyph, decimal}
 use Rattle.text.specs.Put.{Put}
 use Rattle.text.specs.Laws.Decimal.{decimal-one, decimal-more, decimal-few}
+use Rattle.text.specs.Ascii.{ascii}
 use Rattle.receipt.specs.declared.Receipt.{Receipt}
-use Rattle.receipt.specs.Receipt.{stationLimit, jobLimit, verdictLimit, fieldsLeast, fieldsMost, within, numbered, acceptedRight, refusedRight, allowed, line, namedLine, written}
+use Rattle.receipt.specs.Receipt.{stationLimit, jobLimit, verdictLimit, fieldsLeast, fieldsMost, receiptLimit, pageRoom, numbered, acceptedRight, refusedRight, line, namedLine, written, rulesKept}
 use Rattle.receipt.specs.Steps.{firstLines, countsLines, lastLines}
 
 -- below 1,000,000,000
@@ -105,8 +106,8 @@ rest-small r true h = accepted-small r h
 rest-small r false h = refused-small r h
 
 -- the numbers of a receipt that keeps the rules are small
-pub allowed-small : (r : Receipt) → allowed r ≡ true → AllSmall r
-unfolding allowed
+pub allowed-small : (r : Receipt) → rulesKept r ≡ true → AllSmall r
+unfolding rulesKept
 allowed-small r h =
     let rest : Bool = cond (eqb (r .verdict) accepted) (acceptedRight r) (refusedRight r) in
     let numbers = and-left (numbered (r .station) (r .job)) (leb (r .verdict) verdictLimit && rest) h in
@@ -139,8 +140,8 @@ line-most name n =
     let d : length (decimal n) ≤ 10 = decimal-few n in
     simp length-append (omega arith)
 
--- ten lines have at most 176 bytes
-pub written-most : (r : Receipt) → length (written r) ≤ 176
+-- ten lines have room on a page
+pub written-most : (r : Receipt) → length (written r) ≤ pageRoom
 unfolding written
 written-most r =
     let a = line-most "station" (r .station) in
@@ -162,13 +163,13 @@ put-all {old} {xs} {new} {next} p h =
     (omega (arith, p .place), p .bytes ∙ sets-eq xs old 0 (omega arith) ∙ ap (λ (k : ℕ). xs ++ drop k old) z)
 
 -- a page has room for them
-pub page-holds : (r : Receipt) {old new : List ℕ} {next : ℕ} → length old ≡ 176 → Put old 0 (written r) new next → (next ≡ length (written r)) × (take next new ≡ written r)
+pub page-holds : (r : Receipt) {old new : List ℕ} {next : ℕ} → length old ≡ pageRoom → Put old 0 (written r) new next → (next ≡ length (written r)) × (take next new ≡ written r)
 page-holds r {old} {new} {next} l p =
     let m = written-most r in
     let a = put-all p (omega arith) in
     (a .0, ap (take next) (a .1) ∙ take-at (written r) (drop (length (written r)) old) next (sym (a .0)))
 
--- A receipt that keeps the rules has at most 128 bytes
+-- How long a receipt is that keeps the rules
 
 -- a number below ten to the power of k + 1 has at most k + 1 digits
 decimal-short : (k n : ℕ) → n < 10 ^ suc k → n < 1000000000 → length (decimal n) ≤ suc k
@@ -249,8 +250,8 @@ written-length r =
     let j = line-length "units" (r .units) in
     simp length-append (omega arith)
 
-pub receipt-most : (r : Receipt) → allowed r ≡ true → length (written r) ≤ 128
-unfolding allowed
+pub receipt-most : (r : Receipt) → rulesKept r ≡ true → length (written r) ≤ receiptLimit
+unfolding rulesKept
 receipt-most r h =
     let rest : Bool = cond (eqb (r .verdict) accepted) (acceptedRight r) (refusedRight r) in
     let numbers = and-left (numbered (r .station) (r .job)) (leb (r .verdict) verdictLimit && rest) h in

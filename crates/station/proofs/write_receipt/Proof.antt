@@ -3,16 +3,16 @@ use mathlib.Core.Path.{sym, _∙_}
 use native.Mathlib.Omega.{arith}
 use lib.Seq.{length-take-le}
 use borrow.Author.Needs.{needs}
-use Rattle.receipt.specs.Laws.File.{told-fits}
+use Rattle.receipt.specs.Laws.File.{answered-fits}
 use Rattle.station.proofs.write_receipt.Statement.{statement}
 use Rattle.station.proofs.write_receipt.Tie as tie
 
 array-share-prefix-buffer : tie.Need-array-share-prefix-buffer
-array-share-prefix-buffer c = let h = told-fits _ _ _ _ _ (sym (c .before .before .before .before .write .ensures .0) ∙ c .before .n .given .1) in omega (arith, h, c .before .before .before .before .write .kept .1 .1 .1 .0)
+array-share-prefix-buffer c = let h = answered-fits _ _ _ _ _ (sym (c .before .before .before .before .write .ensures .0) ∙ c .before .n .given .1) in omega (arith, h, c .before .before .before .before .write .kept .1 .1 .1 .0)
 
 slice-aggregate-write-2 : tie.Need-slice-aggregate-write-2
 slice-aggregate-write-2 c =
-    let h = told-fits _ _ _ _ _ (sym (c .before .before .before .before .before .write .ensures .0) ∙ c .before .before .n .given .1) in
+    let h = answered-fits _ _ _ _ _ (sym (c .before .before .before .before .before .write .ensures .0) ∙ c .before .before .n .given .1) in
     sym (length-take-le _ (c .before .before .before .before .before .write .last .1 .1 .1 .0) (omega (arith, h, c .before .before .before .before .before .write .kept .1 .1 .1 .0)))
 
 pub write-receipt-spec : {M : Type 1} → statement M

@@ -30,7 +30,7 @@ module _ {A : Type 0} {text : A → List ℕ} {room : ℕ} (xs : List A) (from :
       let s = lines-some h n (omega arith) in
       omega arith
 
--- the same of names of a size
+-- names of a size that are lines stay inside what is there
 module _ {text : List ℕ → List ℕ} {room : ℕ} (size : ℕ) (s : List ℕ) (from : ℕ) {old new : List ℕ} {r : Gathered} (h : Lines text room (namesIn size (rest s from)) old new r) where
   pub step-inside : from ≤ length s → from + r .values * size ≤ length s
   step-inside k = let l = rest-length s from in let m = names-most size (rest s from) h in omega arith

@@ -7,15 +7,13 @@ use lib.Dec.{leb}
 use lib.ListN.{length}
 use borrow.Author.Tests.{leb-true}
 use Rattle.columns.specs.Decode.{Decoding, refused, column}
-use Rattle.decoding.specs.Calls.{told, toldFixed}
-use Rattle.decoding.specs.declared.Decoded.{Decoded}
-use Rattle.decoding.specs.declared.Decoded.the-variants as decoded
+use Rattle.refusal.specs.declared.Answer.{Answer}
+use Rattle.refusal.specs.declared.Answer.the-variants as answer
+use Rattle.columns.specs.Buffer.{decodedAnswer}
+use Rattle.decoding.specs.Calls.{fixedAnswer}
 use Rattle.decoding.specs.declared.Fixed.{Fixed}
 use Rattle.decoding.specs.declared.Fixed.the-variants as fixed
-use Rattle.floats.specs.Calls as floats
-use Rattle.floats.specs.declared.Floats.{Floats}
-use Rattle.floats.specs.declared.Floats.the-variants as floats-are
-use Rattle.station.specs.Reading.{Within, DecodedWithin, FixedWithin, wholeOf}
+use Rattle.station.specs.Reading.{Within, AnswerWithin, FixedWithin, wholeOf}
 use Rattle.station.specs.declared.files.Contents.{Contents}
 use Rattle.station.specs.declared.files.Contents.the-variants.{Bytes, TooLong, Failed}
 
@@ -26,15 +24,15 @@ within-more TooLong n m h w = tt
 within-more Failed n m h w = tt
 
 -- a decoder's answer
-pub told-within : (d : Decoding) (r : Decoded) (room n : ℕ) → r ≡ told d room → n ≡ room → DecodedWithin r n
-told-within (refused k) r room n e q = subst (λ (x : Decoded). DecodedWithin x n) (sym e) tt
-told-within (column k m l) r room n e q = go (leb (length l) room) refl
+pub answer-within : (d : Decoding) (r : Answer) (room n : ℕ) → r ≡ decodedAnswer d room → n ≡ room → AnswerWithin r n
+answer-within (refused k) r room n e q = subst (λ (x : Answer). AnswerWithin x n) (sym e) tt
+answer-within (column k m l) r room n e q = go (leb (length l) room) refl
   where
-    go : (t : Bool) → leb (length l) room ≡ t → DecodedWithin r n
-    go true f = subst (λ (x : Decoded). DecodedWithin x n) (sym (rw f at e)) (omega (arith, leb-true (length l) room f))
-    go false f = subst (λ (x : Decoded). DecodedWithin x n) (sym (rw f at e)) tt
+    go : (t : Bool) → leb (length l) room ≡ t → AnswerWithin r n
+    go true f = subst (λ (x : Answer). AnswerWithin x n) (sym (rw f at e)) (omega (arith, leb-true (length l) room f))
+    go false f = subst (λ (x : Answer). AnswerWithin x n) (sym (rw f at e)) tt
 
-pub fixed-within : (d : Decoding) (r : Fixed) (room n : ℕ) → r ≡ toldFixed d room → n ≡ room → FixedWithin r n
+pub fixed-within : (d : Decoding) (r : Fixed) (room n : ℕ) → r ≡ fixedAnswer d room → n ≡ room → FixedWithin r n
 fixed-within (refused k) r room n e q = subst (λ (x : Fixed). FixedWithin x n) (sym e) tt
 fixed-within (column k m l) r room n e q = go (leb (length l) room) refl
   where
@@ -42,18 +40,10 @@ fixed-within (column k m l) r room n e q = go (leb (length l) room) refl
     go true f = subst (λ (x : Fixed). FixedWithin x n) (sym (rw f at e)) (omega (arith, leb-true (length l) room f))
     go false f = subst (λ (x : Fixed). FixedWithin x n) (sym (rw f at e)) tt
 
-pub whole-within : (a : Decoded) (r : Fixed) (n : ℕ) → r ≡ wholeOf a → DecodedWithin a n → FixedWithin r n
-whole-within (decoded.Count k) r n e h = subst (λ (x : Fixed). FixedWithin x n) (sym e) h
-whole-within (decoded.Refused k) r n e h = subst (λ (x : Fixed). FixedWithin x n) (sym e) tt
+pub whole-within : (a : Answer) (r : Fixed) (n : ℕ) → r ≡ wholeOf a → AnswerWithin a n → FixedWithin r n
+whole-within (answer.Count k) r n e h = subst (λ (x : Fixed). FixedWithin x n) (sym e) h
+whole-within (answer.Refused k) r n e h = subst (λ (x : Fixed). FixedWithin x n) (sym e) tt
 
--- an answer about floats
-floats-told : (d : Decoding) (room k : ℕ) → floats.told d room ≡ floats-are.Count k → k ≤ room
-floats-told (refused r) room k e = let z : _≡_ {A = ℕ} 0 1 = cc in absurd (omega arith)
-floats-told (column a m l) room k e = go (leb (length l) room) refl
-  where
-    go : (t : Bool) → leb (length l) room ≡ t → k ≤ room
-    go true f = let q = rw f at e in let s : length l ≡ k = cc in omega (arith, leb-true (length l) room f)
-    go false f = let q = rw f at e in let z : _≡_ {A = ℕ} 0 1 = cc in absurd (omega arith)
-
-pub floats-within : (d : Decoding) (r : Floats) (room n k : ℕ) → r ≡ floats.told d room → n ≡ room → r ≡ floats-are.Count k → k ≤ n
-floats-within d r room n k e q c = let f : floats.told d room ≡ floats-are.Count k = cc in let h = floats-told d room k f in omega arith
+-- the count of an answer
+pub count-within : (d : Decoding) (r : Answer) (room n k : ℕ) → r ≡ decodedAnswer d room → n ≡ room → r ≡ answer.Count k → k ≤ n
+count-within d r room n k e q c = subst (λ (x : Answer). AnswerWithin x n) c (answer-within d r room n e q)

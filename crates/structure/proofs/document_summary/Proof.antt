@@ -18,8 +18,8 @@ returns-2 c =
     λ l t es n.
     let z = sym (c .before .before .before .before .before .document-refusal .ensures l t es n) ∙ c .before .before .before .before .if1 .left in
     let r = entries-exactly es .0 z in
-    let k = c .before .counts-at .ensures .1 t es (record { places-of = record { long = n .long; says = n .places }; has = r .0 .has; right = r .1; short = l }) in
-    c .accepted-with .ensures ∙ summary-counted k (r .2) (n .presence) ∙ sym (said-accepted _ es z)
+    let k = c .before .counts-at .ensures .1 t es (record { places-of = n .places; has = r .0 .has; right = r .1; short = l }) in
+    c .accepted-with .ensures ∙ summary-counted es k (r .2) (n .presence) ∙ sym (said-accepted _ es z)
 
 pub document-summary-spec : {M : Type 1} → statement M
 document-summary-spec =

@@ -3,53 +3,55 @@
 -- Assumes nothing.
 use mathlib.Core.Path.{_≡_, refl, sym, ap, ap₂, _∙_}
 use mathlib.Core.Bool.{Bool, true, cond, _&&_}
-use mathlib.Core.List.{List, [], _∷_}
+use mathlib.Core.List.{List}
 use Prim.Native.Nat.{ℕ, zero, suc, _≤_}
 use native.Mathlib.Omega.{arith}
 use lib.Count.{ones}
 use lib.IntN.{pos}
 use borrow.Author.Tests.{ne-eqb}
-use Rattle.refusal.specs.Table.{accepted}
+use Rattle.refusal.specs.Table.{accepted, versionNot1}
+use Rattle.refusal.specs.First.{orElse}
+use Rattle.refusal.specs.Laws.First.{orElse-most}
 use Rattle.numbers.specs.BigEndian.{Bytes}
-use Rattle.messagepack.specs.Document.{Document, Entries, map}
+use Rattle.numbers.specs.Ranges.{between}
+use Rattle.numbers.specs.Laws.Tests.{and-left}
+use Rattle.messagepack.specs.Document.{Document, Entries}
 use Rattle.messagepack.specs.Rules.{Container}
 use Rattle.messagepack.specs.Walk.{containerNumber}
 use Rattle.messagepack.specs.Read.{documentOf}
 use Rattle.messagepack.specs.Laws.Container.{container-most}
-use Rattle.messagepack.specs.Laws.Unique.{documentOf-is}
 use Rattle.values.specs.Parts.{entriesOf}
-use Rattle.fields.specs.Table.{named}
+use Rattle.fields.specs.Table.{named, fieldCount}
 use Rattle.fields.specs.Fields.{presenceOf, fieldsNumber}
-use Rattle.fields.specs.Laws.Types.{and-left, have-exactly}
+use Rattle.fields.specs.Laws.Types.{have-exactly}
 use Rattle.fields.specs.Laws.Fields.{fields-most}
 use Rattle.fields.specs.Laws.Sets.{ones-presence, present-least, present-most}
-use Rattle.codecs.specs.Fits.{Every}
-use Rattle.survey.specs.Cells.{between, allBetween}
-use Rattle.survey.specs.Laws.Cells.{allPass-every}
-use Rattle.groups.specs.Group.{orElse}
-use Rattle.counts.specs.Columns.{columnsNumber}
-use Rattle.counts.specs.Counts.{countLimit, integer, integers, numbersRight, CountsAgree, countsNumber}
-use Rattle.lists.specs.Integers.{noneNegative}
+use Rattle.steps.specs.Fits.{Every}
+use Rattle.file_columns.specs.Laws.Cells.{allPass-every}
+use Rattle.file_columns.specs.Columns.{columnsNumber}
+use Rattle.counts.specs.Counts.{countLimit, Counted, countedOf, countsRight, numbersRight, CountsAgree, countsNumber}
+use Rattle.values.specs.Integers.{noneNegative}
 use Rattle.structure.specs.Accepted.{Accepted, entriesNumber, verdictOf}
 use Rattle.structure.specs.Summary.{acceptedSummary, refused, said, summaryOf}
-use Rattle.structure.specs.Steps.{CountsIn, counted}
-use Rattle.structure.specs.Laws.Columns.{orElse-most, columns-most}
-use Rattle.structure.specs.Laws.Counts.{counts-most}
-use Rattle.structure.specs.Laws.Accepted.{accepted-exactly, one-document}
-use Rattle.structure.specs.Laws.Steps.{natural-few, fit-is, counts-are, verdict-container, verdict-document}
-use Rattle.structure.specs.declared.Counts.{Counts}
+use Rattle.counts.specs.Steps.{CountsIn}
+use Rattle.structure.specs.Steps.{acceptedWith}
+use Rattle.file_columns.specs.Laws.Columns.{columns-most}
+use Rattle.counts.specs.Laws.Counts.{counts-most}
+use Rattle.structure.specs.Laws.Accepted.{accepted-exactly, container-document, one-document, verdict-container, verdict-document}
+use Rattle.counts.specs.Laws.Steps.{natural-few, fit-is, counts-are}
+use Rattle.counts.specs.declared.Counts.{Counts}
 use Rattle.structure.specs.declared.Summary.{Summary}
 
 -- The number
 
--- a verdict is at most 24
-pub verdict-most : (s : List ℕ) → verdictOf s ≤ 24
+-- a verdict is at most that of the major version, 24
+pub verdict-most : (s : List ℕ) → verdictOf s ≤ versionNot1
 unfolding verdictOf
 verdict-most s =
     let es : Entries = entriesOf (documentOf s) in
     orElse-most (containerNumber s) (entriesNumber es) (omega (arith, container-most s))
-    (orElse-most (fieldsNumber es) (orElse (columnsNumber es) (countsNumber es)) (fields-most es)
-    (orElse-most (columnsNumber es) (countsNumber es) (omega (arith, columns-most es)) (omega (arith, counts-most es))))
+    (orElse-most (fieldsNumber es) (orElse (columnsNumber es) (countsNumber (countedOf es))) (fields-most es)
+    (orElse-most (columnsNumber es) (countsNumber (countedOf es)) (omega (arith, columns-most es)) (omega (arith, counts-most (countedOf es)))))
 
 -- a file that is not accepted has a number
 pub verdict-refused : (s : List ℕ) → Bytes s → (Accepted s → ⊥) → verdictOf s ≡ 0 → ⊥
@@ -96,23 +98,24 @@ pub record Few (r : Summary) : Type 0 where
   pub bonds : r .bonds ≤ countLimit
 
 -- the num fields are in range where the rules of counts hold
-in-range : (es : Entries) → numbersRight es ≡ true → allBetween (pos 0) (pos countLimit) (integer "numBonds" es ∷ integer "numAtoms" es ∷ integer "numGroups" es ∷ integer "numChains" es ∷ integer "numModels" es ∷ []) ≡ true
-in-range es e = and-left _ (noneNegative (integers "groupsPerChain" es) && noneNegative (integers "chainsPerModel" es)) e
+in-range : (f : Counted) → numbersRight f ≡ true → countsRight f ≡ true
+in-range f e = and-left (countsRight f) (noneNegative (f .groupsPerChain) && noneNegative (f .chainsPerModel)) e
 
 pub accepted-few : {s : List ℕ} (a : Accepted s) → Few (acceptedSummary (a .entries))
 unfolding Every
 accepted-few a =
-    let e = allPass-every (between (pos 0) (pos countLimit)) _ (in-range (a .entries) (a .counts .numbers)) in
+    let f : Counted = countedOf (a .entries) in
+    let e = allPass-every (between (pos 0) (pos countLimit)) _ (in-range f (a .counts .numbers)) in
     record {
-      models = natural-few (integer "numModels" (a .entries)) (e .1 .1 .1 .1 .0);
-      chains = natural-few (integer "numChains" (a .entries)) (e .1 .1 .1 .0);
-      groups = natural-few (integer "numGroups" (a .entries)) (e .1 .1 .0);
-      atoms = natural-few (integer "numAtoms" (a .entries)) (e .1 .0);
-      bonds = natural-few (integer "numBonds" (a .entries)) (e .0);
+      models = natural-few (f .numModels) (e .1 .1 .1 .1 .0);
+      chains = natural-few (f .numChains) (e .1 .1 .1 .0);
+      groups = natural-few (f .numGroups) (e .1 .1 .0);
+      atoms = natural-few (f .numAtoms) (e .1 .0);
+      bonds = natural-few (f .numBonds) (e .0);
     }
 
--- the named fields are 16 to 39
-pub accepted-fields : {s : List ℕ} (a : Accepted s) → (16 ≤ ones (presenceOf (a .entries))) × (ones (presenceOf (a .entries)) ≤ 39)
+-- the fields that are there are all required ones at least, and all named ones at most
+pub accepted-fields : {s : List ℕ} (a : Accepted s) → (16 ≤ ones (presenceOf (a .entries))) × (ones (presenceOf (a .entries)) ≤ fieldCount)
 accepted-fields a =
     let es = a .entries in
     (rw (ones-presence es) (present-least es (have-exactly named es .1 (a .required))), rw (ones-presence es) (present-most es))
@@ -130,11 +133,10 @@ summary-container s n h q =
 pub summary-document : (s : List ℕ) (c : Container s) → containerNumber s ≡ accepted → said (entriesNumber (c .entries)) (c .entries) ≡ summaryOf s
 unfolding summaryOf
 summary-document s c z =
-    let d : documentOf s ≡ map (c .entries) = documentOf-is (map (c .entries)) s (c .writes) (c .nested) in
-    ap₂ said (verdict-document s (entriesNumber (c .entries)) c z refl) (ap entriesOf (sym d))
+    ap₂ said (verdict-document s (entriesNumber (c .entries)) c z refl) (ap entriesOf (sym (container-document c)))
 
 -- by the counts and the set of fields of a document whose counts agree
-pub summary-counted : {es : Entries} {c : Counts} {presence : ℕ} → CountsIn es c → CountsAgree es → presence ≡ presenceOf es → counted c presence ≡ acceptedSummary es
-summary-counted {es} {c} {presence} k a p =
-    let r = counts-are k (fit-is k ∙ in-range es (a .numbers)) in
+pub summary-counted : (es : Entries) {c : Counts} {presence : ℕ} → CountsIn (countedOf es) c → CountsAgree (countedOf es) → presence ≡ presenceOf es → acceptedWith c presence ≡ acceptedSummary es
+summary-counted es k a p =
+    let r = counts-are k (fit-is k ∙ in-range (countedOf es) (a .numbers)) in
     rw (r .models, r .chains, r .groups, r .atoms, r .bonds, p)

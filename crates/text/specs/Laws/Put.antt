@@ -53,11 +53,7 @@ module _ {s t new : List ℕ} {at next : ℕ} (h : Put s at t new next) where
   pub put-fits : at + length t ≤ length s → next ≡ at + length t
   put-fits r = omega (arith, h .place)
 
-  -- the place after a piece is inside
-  pub put-inside : at ≤ length s → next ≤ length new
-  put-inside r = omega (arith, h .place, put-length)
-
-  -- the same bytes by another name
+  -- bytes that are equal are put alike
   pub put-as : {u : List ℕ} → u ≡ t → Put s at u new next
   put-as {u} e = record { bytes = h .bytes ∙ ap (sets s at) (sym e); place = omega (arith, h .place, ap length e) }
 

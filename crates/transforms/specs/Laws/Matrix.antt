@@ -13,27 +13,30 @@ use lib.Ieee.{Float, nan}
 use lib.ListN.{length, getD, set, take, drop, length-set}
 use lib.Seq.{take-suc, take-all, getD-set-same}
 use Rattle.refusal.specs.Table.{accepted, fieldType, noSuchField, noSuchEntry}
+use Rattle.numbers.specs.Laws.Tests.{clash}
+use Rattle.text.specs.Ascii.{ascii}
+use Rattle.text.specs.Equal.{equal}
 use Rattle.heads.specs.Lead.{moreOf, heldBy}
 use Rattle.heads.specs.Head.{Holds, kindAt, headAt}
 use Rattle.heads.specs.declared.Kind.{Kind}
 use Rattle.heads.specs.declared.Head.{Head}
 use Rattle.heads.specs.Laws.Table.{moreOf-bound}
 use Rattle.messagepack.specs.Document.{Document, Documents, integer, float, string, binary, array, map, none, item, count, Writes}
-use Rattle.values.specs.Parts.{bitsOf, itemsOf, entriesOf}
+use Rattle.values.specs.Parts.{bitsOf, itemsOf, entriesOf, look}
 use Rattle.values.specs.Places.{At, AtAll, PlaceSays, there as stands}
 use Rattle.values.specs.Heads.{isFloat}
 use Rattle.values.specs.Laws.Places.{heads, read-heads, open-float, open-item, Stands}
 use Rattle.messagepack.specs.Rules.{Container}
 use Rattle.messagepack.specs.Walk.{containerNumber}
 use Rattle.messagepack.specs.Laws.Unique.{documentOf-is}
-use Rattle.fields.specs.Types.{FieldType, Rows, arrayOf, exactly, mapWith, aFloat, look, Each, Has, HasType, Fits}
-use Rattle.utf8.specs.Ascii.{ascii}
+use Rattle.fields.specs.Types.{FieldType, Rows, arrayOf, exactly, mapWith, aFloat, Each, Has, HasType, Fits}
 use Rattle.fields.specs.Table.{transformRows, assemblyRows, named}
 use Rattle.fields.specs.Tests.{isThere, typed}
-use Rattle.fields.specs.Fields.{typeIn, fieldTypeOf}
-use Rattle.fields.specs.Laws.Types.{clash, typed-exactly}
+use Rattle.fields.specs.Fields.{findRow, isRequired, typeUnder, fieldNumber, typeIn, fieldTypeOf}
+use Rattle.fields.specs.Laws.Fields.{has-name, fits-name}
+use Rattle.fields.specs.Laws.Types.{typed-exactly}
 use Rattle.transforms.specs.Matrix.{nth, assembliesType, assembliesOf, transformIn, assembliesNumber, matrixNumber, floatOf, floatsOf, matrixIn, handed, matrixFloats}
-use Rattle.transforms.specs.Steps.{FoundSays, absent, there, refusedBy, answer}
+use Rattle.transforms.specs.Steps.{FoundSays, absent, there, refusedBy, answer, answerOf}
 use Rattle.transforms.specs.declared.Found.{Found}
 use Rattle.transforms.specs.declared.Transform.{Transform}
 
@@ -239,19 +242,20 @@ map-rows rows x {y} i h q =
     let e : entriesOf y ≡ m .entries = ap entriesOf (m .is) in
     (subst (Has rows) (sym e) (m .has), subst (Fits rows) (sym e) (m .fits))
 
+-- a required key of such a map, with its type
+held : (k : List ℕ) (rows : Rows) (x : Document) {y : Document} (i : ℕ) {t : FieldType} → isRequired k rows ≡ true → typeUnder k rows ≡ some t → HasType (arrayOf (mapWith rows)) x → nth i (itemsOf x) ≡ some y → Held k t y
+held k rows x {y} i r u h q =
+    let m = map-rows rows x i h q in
+    let v = has-name k rows (entriesOf y) (m .0) r in
+    record { x = v .x; is = v .is; typed = fits-name k rows (entriesOf y) (m .1) u (v .is) }
+
 pub transforms-held : (x : Document) {y : Document} (a : ℕ) → typed assembliesType x ≡ true → nth a (itemsOf x) ≡ some y → Held (ascii "transformList") (arrayOf (mapWith transformRows)) y
-unfolding assemblyRows Has Fits
-transforms-held x a h q =
-    let m = map-rows assemblyRows x a (typed-exactly assembliesType x .0 h) q in
-    let v = m .0 .1 .0 in
-    record { x = v .x; is = v .is; typed = m .1 .1 .0 (v .x) (v .is) }
+unfolding isRequired typeUnder equal assemblyRows
+transforms-held x a h q = held (ascii "transformList") assemblyRows x a refl refl (typed-exactly assembliesType x .0 h) q
 
 pub matrix-held : (z : Document) {w : Document} (t : ℕ) → HasType (arrayOf (mapWith transformRows)) z → nth t (itemsOf z) ≡ some w → Held (ascii "matrix") (exactly 16 aFloat) w
-unfolding transformRows Has Fits
-matrix-held z t h q =
-    let m = map-rows transformRows z t h q in
-    let v = m .0 .1 .0 in
-    record { x = v .x; is = v .is; typed = m .1 .1 .0 (v .x) (v .is) }
+unfolding isRequired typeUnder equal transformRows
+matrix-held z t h q = held (ascii "matrix") transformRows z t refl refl h q
 
 -- a matrix has sixteen values
 pub matrix-sixteen : (x : Document) → HasType (exactly 16 aFloat) x → count (itemsOf x) ≡ 16
@@ -261,29 +265,29 @@ matrix-sixteen x h = ap (λ (z : Document). count (itemsOf z)) (h .is) ∙ h .ma
 -- the answer by bioAssemblyList
 
 module _ (a t : ℕ) (x : Document) (h : typed assembliesType x ≡ true) where
-  pub no-assembly : nth a (itemsOf x) ≡ nothing → refusedBy noSuchEntry ≡ answer (assembliesNumber a t (some x)) (matrixIn (transformIn a t (some x)))
+  pub no-assembly : nth a (itemsOf x) ≡ nothing → refusedBy noSuchEntry ≡ answerOf a t (some x)
   no-assembly q = rw (h, q)
 
   module _ {y z : Document} (p : nth a (itemsOf x) ≡ some y) (q : look (ascii "transformList") (entriesOf y) ≡ some z) where
-    pub no-transform : nth t (itemsOf z) ≡ nothing → refusedBy noSuchEntry ≡ answer (assembliesNumber a t (some x)) (matrixIn (transformIn a t (some x)))
+    pub no-transform : nth t (itemsOf z) ≡ nothing → refusedBy noSuchEntry ≡ answerOf a t (some x)
     no-transform n = rw (h, p, q, n)
 
-    pub matrix-there : {w m : Document} {floats : List Float} → nth t (itemsOf z) ≡ some w → look (ascii "matrix") (entriesOf w) ≡ some m → floats ≡ floatsOf (itemsOf m) → record { refusal = accepted; floats = floats } ≡ answer (assembliesNumber a t (some x)) (matrixIn (transformIn a t (some x)))
+    pub matrix-there : {w m : Document} {floats : List Float} → nth t (itemsOf z) ≡ some w → look (ascii "matrix") (entriesOf w) ≡ some m → floats ≡ floatsOf (itemsOf m) → record { refusal = accepted; floats = floats } ≡ answerOf a t (some x)
     matrix-there u v f = rw (h, p, q, u, v, f)
 
-pub no-assemblies : (a t : ℕ) {o : Option Document} → o ≡ nothing → refusedBy noSuchField ≡ answer (assembliesNumber a t o) (matrixIn (transformIn a t o))
+pub no-assemblies : (a t : ℕ) {o : Option Document} → o ≡ nothing → refusedBy noSuchField ≡ answerOf a t o
 no-assemblies a t q = rw q
 
-pub mistyped : (a t : ℕ) {o : Option Document} {x : Document} → o ≡ some x → typed assembliesType x ≡ false → refusedBy fieldType ≡ answer (assembliesNumber a t o) (matrixIn (transformIn a t o))
+pub mistyped : (a t : ℕ) {o : Option Document} {x : Document} → o ≡ some x → typed assembliesType x ≡ false → refusedBy fieldType ≡ answerOf a t o
 mistyped a t q f = rw (q, f)
 
-pub answers-as : (a t : ℕ) {o : Option Document} {x : Document} {r : Transform} → o ≡ some x → r ≡ answer (assembliesNumber a t (some x)) (matrixIn (transformIn a t (some x))) → r ≡ answer (assembliesNumber a t o) (matrixIn (transformIn a t o))
+pub answers-as : (a t : ℕ) {o : Option Document} {x : Document} {r : Transform} → o ≡ some x → r ≡ answerOf a t (some x) → r ≡ answerOf a t o
 answers-as a t q e = rw q e
 
--- the type of field 37 is that of bioAssemblyList
-pub assemblies-type : fieldTypeOf 37 ≡ assembliesType
-unfolding fieldTypeOf typeIn named
-assemblies-type = refl
+-- the type of the field bioAssemblyList
+pub assemblies-type : {i : ℕ} → fieldNumber "bioAssemblyList" ≡ i → fieldTypeOf i ≡ assembliesType
+unfolding fieldTypeOf typeIn findRow equal named
+assemblies-type e = sym (ap fieldTypeOf e)
 
 -- the answer for a file
 pub record Answers (s : List ℕ) (a t : ℕ) (r : Transform) : Type 0 where
@@ -304,7 +308,7 @@ no-container {s} a t {r} n e =
     answers-by {n = containerNumber s} (rw (ne-eqb (containerNumber s) accepted n)) refl (e ∙ rw (ne-eqb (containerNumber s) accepted n))
 
 -- in a container bioAssemblyList decides
-pub container-answers : {s : List ℕ} (a t : ℕ) {r : Transform} (c : Container s) → containerNumber s ≡ 0 → r ≡ answer (assembliesNumber a t (look (ascii "bioAssemblyList") (c .entries))) (matrixIn (transformIn a t (look (ascii "bioAssemblyList") (c .entries)))) → Answers s a t r
+pub container-answers : {s : List ℕ} (a t : ℕ) {r : Transform} (c : Container s) → containerNumber s ≡ 0 → r ≡ answerOf a t (look (ascii "bioAssemblyList") (c .entries)) → Answers s a t r
 unfolding matrixNumber
 container-answers {s} a t {r} c z e =
     let d : assembliesOf s ≡ look (ascii "bioAssemblyList") (c .entries) = ap (λ (x : Document). look (ascii "bioAssemblyList") (entriesOf x)) (documentOf-is (map (c .entries)) s (c .writes) (c .nested)) in

@@ -10,7 +10,8 @@ use borrow.Author.Tests.{ltb-true, lt-ltb, le-ltb, lt-leb, le-leb, ne-eqb}
 use lib.ListN.{length, drop, getD, drop-of-length-le}
 use lib.Dec.{ltb, eqb·suc-zero}
 use lib.Seq.{drop-cons}
-use Rattle.utf8.specs.Check.{within, isLead, following, lowest, highest, due, isUtf8, isAscii}
+use Rattle.numbers.specs.Ranges.{within}
+use Rattle.utf8.specs.Check.{isLead, following, lowest, highest, due, isUtf8, isAscii}
 
 -- what a byte is, by its range
 module _ (b : ℕ) where

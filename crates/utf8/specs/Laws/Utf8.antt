@@ -7,9 +7,10 @@ use mathlib.Core.Logic.{_⊎_, inl, inr, ⊎-elim, _≢_, _↔_}
 use Prim.Native.Nat.{ℕ, zero, suc, _+_, _-_, _*_, _/_, _<_, _≤_}
 use native.Mathlib.Omega.{arith}
 use lib.Dec.{ltb, leb}
+use Rattle.numbers.specs.Ranges.{within}
 use borrow.Author.Tests.{lt-ltb, le-ltb, le-leb, eqb-true, ltb-true, ltb-false, leb-true}
 use Rattle.utf8.specs.Utf8.{Scalar, Scalars, continuation, encode, encodeAll, Utf8}
-use Rattle.utf8.specs.Check.{within, isLead, following, lowest, highest, due, isUtf8}
+use Rattle.utf8.specs.Check.{isLead, following, lowest, highest, due, isUtf8}
 use Rattle.utf8.specs.Laws.Check.{isLead-one, isLead-more, following-one, following-two, following-three, following-four, lowest-plain, highest-plain, due-zero}
 
 -- n without its last k digits of six bits

@@ -26,10 +26,10 @@ more f i a b before le last j h = by (ltb j i) refl
     by false e = let k : i ≡ j = omega (arith, ltb-false j i e) in subst (λ (x : ℕ). f x ≤ b) k last
 
 returns : tie.Need-returns Inv-loop μ-loop
-returns c = ((λ q. let z : _≡_ {A = ℕ} 0 1 = cc in absurd (omega arith)), λ l. absurd (omega (arith, l .within)))
+returns c = ((λ q. let z : _≡_ {A = ℕ} 0 1 = cc in absurd (omega arith)), λ l. absurd (omega (arith, l .inside)))
 
 returns-2 : tie.Need-returns-2 Inv-loop μ-loop
-returns-2 c = ((λ q. let z : _≡_ {A = ℕ} 0 1 = cc in absurd (omega arith)), λ l. absurd (omega (arith, l .within)))
+returns-2 c = ((λ q. let z : _≡_ {A = ℕ} 0 1 = cc in absurd (omega arith)), λ l. absurd (omega (arith, l .inside)))
 
 loop-holds : tie.Need-loop-holds Inv-loop μ-loop
 loop-holds c = (omega arith, (λ j h. absurd (omega arith)), λ m h all. h)
@@ -47,7 +47,7 @@ returns-3 : tie.Need-returns-3 Inv-loop μ-loop
 returns-3 c =
     let a = c .before .before .before .before .before .args in
     let p = c .before .loop in (
-      (λ q. record { within = omega arith; low = λ i h. omega (arith, ltb-true (p .most) 0x80 q, p .inv .1 i (omega (arith, p .inv .0))) }),
+      (λ q. record { inside = omega arith; low = λ i h. omega (arith, ltb-true (p .most) 0x80 q, p .inv .1 i (omega (arith, p .inv .0))) }),
       λ l. lt-ltb (p .most) 0x80 (p .inv .2 0x80 (omega arith) (λ j h. l .low j (omega (arith, p .inv .0)))),
     )
 

@@ -5,8 +5,10 @@ use mir.Facts.{toZ-ofZ}
 use Rattle.values.specs.Places.{signedBy}
 use lib.IntN.{pos}
 use Rattle.values.specs.Heads.{headInteger}
-use Rattle.values.specs.Laws.Heads.{by-cut, by-head}
+use Rattle.values.specs.Laws.Heads.{by-cut, by-head, by-other, kind-other}
 use Rattle.values.specs.Laws.Places.{at-head, no-integer, read-unsigned, read-signed}
+use mathlib.Core.List.{[], _∷_}
+use Rattle.heads.specs.declared.Kind.{Kind}
 use borrow.Author.Needs.{needs}
 use Rattle.values.proofs.integer_at.Statement.{statement}
 use Rattle.values.proofs.integer_at.Tie as tie
@@ -21,25 +23,10 @@ returns-3 : tie.Need-returns-3
 returns-3 c = (toZ-ofZ {w = w32} (record { sfits = c .signed .ok }) ∙ c .signed .ensures ∙ ap (signedBy _) (c .before .less .ensures) ∙ by-head _ _ _ (pos 0) (headInteger _) (c .before .before .before .before .before .before .before .before .head-at .ensures .0) (c .before .before .before .before .before .before .n .given .1) (c .before .before .before .before .kind-at .ensures .0) (c .before .before .enum-told3 .given .1), λ t x e a. toZ-ofZ {w = w32} (record { sfits = c .signed .ok }) ∙ c .signed .ensures ∙ ap (signedBy _) (c .before .less .ensures) ∙ read-signed x a (sym (c .before .before .before .before .before .before .before .before .head-at .ensures .1 t) ∙ c .before .before .before .before .before .before .n .given .1) (sym (c .before .before .before .before .kind-at .ensures .1 t) ∙ c .before .before .enum-told3 .given .1))
 
 returns-4 : tie.Need-returns-4
-returns-4 c = (by-head _ _ _ (pos 0) (headInteger _) (c .before .before .before .before .before .before .head-at .ensures .0) (c .before .before .before .before .n .given .1) (c .before .before .kind-at .ensures .0) (c .enum-told4 .given .1), λ t x e a. no-integer x a (sym (c .before .before .kind-at .ensures .1 t) ∙ c .enum-told4 .given .1) refl)
-
-returns-5 : tie.Need-returns-5
-returns-5 c = (by-head _ _ _ (pos 0) (headInteger _) (c .before .before .before .before .before .before .head-at .ensures .0) (c .before .before .before .before .n .given .1) (c .before .before .kind-at .ensures .0) (c .enum-told5 .given .1), λ t x e a. no-integer x a (sym (c .before .before .kind-at .ensures .1 t) ∙ c .enum-told5 .given .1) refl)
-
-returns-6 : tie.Need-returns-6
-returns-6 c = (by-head _ _ _ (pos 0) (headInteger _) (c .before .before .before .before .before .before .head-at .ensures .0) (c .before .before .before .before .n .given .1) (c .before .before .kind-at .ensures .0) (c .enum-told6 .given .1), λ t x e a. no-integer x a (sym (c .before .before .kind-at .ensures .1 t) ∙ c .enum-told6 .given .1) refl)
-
-returns-7 : tie.Need-returns-7
-returns-7 c = (by-head _ _ _ (pos 0) (headInteger _) (c .before .before .before .before .before .before .head-at .ensures .0) (c .before .before .before .before .n .given .1) (c .before .before .kind-at .ensures .0) (c .enum-told7 .given .1), λ t x e a. no-integer x a (sym (c .before .before .kind-at .ensures .1 t) ∙ c .enum-told7 .given .1) refl)
-
-returns-8 : tie.Need-returns-8
-returns-8 c = (by-head _ _ _ (pos 0) (headInteger _) (c .before .before .before .before .before .before .head-at .ensures .0) (c .before .before .before .before .n .given .1) (c .before .before .kind-at .ensures .0) (c .enum-told8 .given .1), λ t x e a. no-integer x a (sym (c .before .before .kind-at .ensures .1 t) ∙ c .enum-told8 .given .1) refl)
-
-returns-9 : tie.Need-returns-9
-returns-9 c = (by-head _ _ _ (pos 0) (headInteger _) (c .before .before .before .before .before .before .head-at .ensures .0) (c .before .before .before .before .n .given .1) (c .before .before .kind-at .ensures .0) (c .enum-told9 .given .1), λ t x e a. no-integer x a (sym (c .before .before .kind-at .ensures .1 t) ∙ c .enum-told9 .given .1) refl)
-
-returns-10 : tie.Need-returns-10
-returns-10 c = (by-head _ _ _ (pos 0) (headInteger _) (c .before .before .before .before .before .before .head-at .ensures .0) (c .before .before .before .before .n .given .1) (c .before .before .kind-at .ensures .0) (c .enum-told10 .given .1), λ t x e a. no-integer x a (sym (c .before .before .kind-at .ensures .1 t) ∙ c .enum-told10 .given .1) refl)
+returns-4 c =
+    let f = kind-other Kind.Unsigned (Kind.Unsigned ∷ Kind.Signed ∷ []) (c .before .kind-at .result) tt (c .match2 .keys3) in
+    let g = kind-other Kind.Signed (Kind.Unsigned ∷ Kind.Signed ∷ []) (c .before .kind-at .result) tt (c .match2 .keys3) in
+    (by-other _ _ _ (pos 0) (headInteger _) (c .before .before .before .before .before .head-at .ensures .0) (c .before .before .before .n .given .1) (c .before .kind-at .ensures .0) (rw (f, g)), λ t x e a. no-integer x a (sym (c .before .kind-at .ensures .1 t)) (rw (f, g)))
 
 pub integer-at-spec : {M : Type 1} → statement M
 integer-at-spec =
@@ -55,19 +42,6 @@ integer-at-spec =
     (λ c. search needs)
     (λ c κs. search needs)
     (λ c κs. search needs)
-    (λ c. search needs)
-    (λ c. search needs)
-    (λ c. search needs)
-    (λ c. search needs)
-    (λ c. search needs)
-    (λ c. search needs)
-    (λ c. search needs)
     returns-2
     returns-3
-    returns-4
-    returns-5
-    returns-6
-    returns-7
-    returns-8
-    returns-9
-    returns-10)
+    returns-4)

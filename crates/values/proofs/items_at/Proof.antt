@@ -4,9 +4,11 @@ use native.Mathlib.Omega.{arith}
 use Rattle.heads.specs.Laws.Head.{head-inside}
 use Rattle.values.specs.Parts.{itemsOf}
 use Rattle.values.specs.Heads.{noPart, headItems}
-use Rattle.values.specs.Laws.Heads.{by-cut, by-head, items-part, items-inside}
+use Rattle.values.specs.Laws.Heads.{by-cut, by-head, by-other, kind-other, items-part, items-inside}
 use Rattle.values.specs.Places.{ItemsAt}
 use Rattle.values.specs.Laws.Places.{at-head, no-items, read-items, all-inside}
+use mathlib.Core.List.{[], _∷_}
+use Rattle.heads.specs.declared.Kind.{Kind}
 use borrow.Author.Needs.{needs}
 use Rattle.values.proofs.items_at.Statement.{statement}
 use Rattle.values.proofs.items_at.Tie as tie
@@ -29,28 +31,9 @@ returns-2 c =
     )
 
 returns-3 : tie.Need-returns-3
-returns-3 c = (omega arith, (by-head _ _ _ noPart (headItems _) (c .before .before .before .before .before .before .head-at .ensures .0) (c .before .before .before .before .n .given .1) (c .before .before .kind-at .ensures .0) (c .enum-told3 .given .1), λ t x e a. no-items x a (sym (c .before .before .kind-at .ensures .1 t) ∙ c .enum-told3 .given .1) refl))
-
-returns-4 : tie.Need-returns-4
-returns-4 c = (omega arith, (by-head _ _ _ noPart (headItems _) (c .before .before .before .before .before .before .head-at .ensures .0) (c .before .before .before .before .n .given .1) (c .before .before .kind-at .ensures .0) (c .enum-told4 .given .1), λ t x e a. no-items x a (sym (c .before .before .kind-at .ensures .1 t) ∙ c .enum-told4 .given .1) refl))
-
-returns-5 : tie.Need-returns-5
-returns-5 c = (omega arith, (by-head _ _ _ noPart (headItems _) (c .before .before .before .before .before .before .head-at .ensures .0) (c .before .before .before .before .n .given .1) (c .before .before .kind-at .ensures .0) (c .enum-told5 .given .1), λ t x e a. no-items x a (sym (c .before .before .kind-at .ensures .1 t) ∙ c .enum-told5 .given .1) refl))
-
-returns-6 : tie.Need-returns-6
-returns-6 c = (omega arith, (by-head _ _ _ noPart (headItems _) (c .before .before .before .before .before .before .head-at .ensures .0) (c .before .before .before .before .n .given .1) (c .before .before .kind-at .ensures .0) (c .enum-told6 .given .1), λ t x e a. no-items x a (sym (c .before .before .kind-at .ensures .1 t) ∙ c .enum-told6 .given .1) refl))
-
-returns-7 : tie.Need-returns-7
-returns-7 c = (omega arith, (by-head _ _ _ noPart (headItems _) (c .before .before .before .before .before .before .head-at .ensures .0) (c .before .before .before .before .n .given .1) (c .before .before .kind-at .ensures .0) (c .enum-told7 .given .1), λ t x e a. no-items x a (sym (c .before .before .kind-at .ensures .1 t) ∙ c .enum-told7 .given .1) refl))
-
-returns-8 : tie.Need-returns-8
-returns-8 c = (omega arith, (by-head _ _ _ noPart (headItems _) (c .before .before .before .before .before .before .head-at .ensures .0) (c .before .before .before .before .n .given .1) (c .before .before .kind-at .ensures .0) (c .enum-told8 .given .1), λ t x e a. no-items x a (sym (c .before .before .kind-at .ensures .1 t) ∙ c .enum-told8 .given .1) refl))
-
-returns-9 : tie.Need-returns-9
-returns-9 c = (omega arith, (by-head _ _ _ noPart (headItems _) (c .before .before .before .before .before .before .head-at .ensures .0) (c .before .before .before .before .n .given .1) (c .before .before .kind-at .ensures .0) (c .enum-told9 .given .1), λ t x e a. no-items x a (sym (c .before .before .kind-at .ensures .1 t) ∙ c .enum-told9 .given .1) refl))
-
-returns-10 : tie.Need-returns-10
-returns-10 c = (omega arith, (by-head _ _ _ noPart (headItems _) (c .before .before .before .before .before .before .head-at .ensures .0) (c .before .before .before .before .n .given .1) (c .before .before .kind-at .ensures .0) (c .enum-told10 .given .1), λ t x e a. no-items x a (sym (c .before .before .kind-at .ensures .1 t) ∙ c .enum-told10 .given .1) refl))
+returns-3 c =
+    let o = kind-other Kind.Array (Kind.Array ∷ []) (c .before .kind-at .result) tt (c .match2 .keys2) in
+    (omega arith, (by-other _ _ _ noPart (headItems _) (c .before .before .before .before .before .head-at .ensures .0) (c .before .before .before .n .given .1) (c .before .kind-at .ensures .0) (rw o), λ t x e a. no-items x a (sym (c .before .kind-at .ensures .1 t)) o))
 
 pub items-at-spec : {M : Type 1} → statement M
 items-at-spec =
@@ -63,20 +46,5 @@ items-at-spec =
     (λ c κs. search needs)
     (λ c. search needs)
     (λ c κs. search needs)
-    (λ c. search needs)
-    (λ c. search needs)
-    (λ c. search needs)
-    (λ c. search needs)
-    (λ c. search needs)
-    (λ c. search needs)
-    (λ c. search needs)
-    (λ c. search needs)
     returns-2
-    returns-3
-    returns-4
-    returns-5
-    returns-6
-    returns-7
-    returns-8
-    returns-9
-    returns-10)
+    returns-3)

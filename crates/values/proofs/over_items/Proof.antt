@@ -6,7 +6,7 @@ use Rattle.values.proofs.over_items.Statement.{statement}
 use Rattle.values.proofs.over_items.Tie as tie
 
 add-t5 : tie.Need-add-t5
-add-t5 c = let l = c .before .all-low .ensures .0 (c .if1 .taken) in omega (arith, l .within)
+add-t5 c = let l = c .before .all-low .ensures .0 (c .if1 .taken) in omega (arith, l .inside)
 
 returns : tie.Need-returns
 returns c = over (c .before .all-low .ensures .0 (c .if1 .taken))

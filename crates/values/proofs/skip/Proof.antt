@@ -34,21 +34,21 @@ returns-3 c =
     λ t e st.
     let w = stepped-on _ _ (c .before .before .before .before .before .step-over .ensures t) (c .before .before .before .q .given .1) in
     let s = w .goes (c .before .before .before .before .before .before .before .loop .left - 1) e (standing-suc _ _ _ e (c .before .before .before .before .before .before .loop-test .taken) (c .before .before .before .before .before .before .before .loop .inv t e st)) in
-    absurd (omega (arith, w .within))
+    absurd (omega (arith, w .inside))
 
 returns-4 : tie.Need-returns-4 Inv-loop μ-loop
 returns-4 c =
     λ t e st.
     let w = stepped-on _ _ (c .before .before .before .before .before .before .step-over .ensures t) (c .before .before .before .before .q .given .1) in
     let s = w .goes (c .before .before .before .before .before .before .before .before .loop .left - 1) e (standing-suc _ _ _ e (c .before .before .before .before .before .before .before .loop-test .taken) (c .before .before .before .before .before .before .before .before .loop .inv t e st)) in
-    absurd (omega (arith, w .within, standing-counts _ _ _ e s, standing-inside _ _ _ e s (w .within)))
+    absurd (omega (arith, w .inside, standing-counts _ _ _ e s, standing-inside _ _ _ e s (w .inside)))
 
 returns-5 : tie.Need-returns-5 Inv-loop μ-loop
 returns-5 c =
     λ t e st.
     let w = stepped-on _ _ (c .before .before .before .before .before .before .before .step-over .ensures t) (c .before .before .before .before .before .q .given .1) in
     let s = w .goes (c .before .before .before .before .before .before .before .before .before .loop .left - 1) e (standing-suc _ _ _ e (c .before .before .before .before .before .before .before .before .loop-test .taken) (c .before .before .before .before .before .before .before .before .before .loop .inv t e st)) in
-    absurd (omega (arith, w .within, standing-counts _ _ _ e s, standing-inside _ _ _ e s (w .within)))
+    absurd (omega (arith, w .inside, standing-counts _ _ _ e s, standing-inside _ _ _ e s (w .inside)))
 
 loop-again : tie.Need-loop-again Inv-loop μ-loop
 loop-again c =

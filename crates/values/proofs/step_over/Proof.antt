@@ -8,7 +8,7 @@ returns : tie.Need-returns
 returns c = λ t. steps-low _ _ (c .before .before .if1 .taken) (c .if2 .taken)
 
 returns-3 : tie.Need-returns-3
-returns-3 c = λ t. steps-short _ _ (c .before .before .before .before .before .before .if1 .taken) (c .before .before .before .if3 .left) (c .before .before .if4 .taken) (c .before .wide .ensures) (c .past .ensures)
+returns-3 c = λ t. steps-short _ _ (c .before .before .before .before .before .before .if1 .taken) (c .before .before .before .if3 .left) (c .before .before .if4 .taken) (c .before .u8-to-usize .ensures .0) (c .past .ensures)
 
 returns-4 : tie.Need-returns-4
 returns-4 c = λ t. steps-float _ _ (c .before .before .before .before .before .before .if1 .taken) (c .before .if5 .taken) (c .past2 .ensures)

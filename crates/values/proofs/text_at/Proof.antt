@@ -16,7 +16,7 @@ returns-2 c =
     let l = c .before .before .before .before .before .if1 .taken in
     let low = c .before .before .before .if2 .left in
     let high = c .before .before .if3 .taken in
-    let n = c .before .wide .ensures in
+    let n = c .before .u8-to-usize .ensures .0 in
     (body-inside _ _ _ y, (text-short (a .leads .now) (a .file .now) (a .at) l low high n y, λ t x e d. read-short x d l low high n (c .body .result) (body-part _ _ _ y)))
 
 returns-3 : tie.Need-returns-3

@@ -1,13 +1,17 @@
 -- Values at places by a table of lead bytes: what is made of a head that is known. Assumes nothing.
-use mathlib.Core.Path.{_≡_, refl, sym, ap, _∙_}
-use mathlib.Core.Bool.{Bool, true, false, cond, _&&_}
-use mathlib.Core.List.{List}
-use Prim.Native.Nat.{ℕ, _+_, _-_, _≤_, _<_}
+use mathlib.Core.Path.{_≡_, refl, sym, ap, subst, _∙_}
+use mathlib.Core.Bool.{Bool, true, false, cond, not, _&&_}
+use mathlib.Core.List.{List, [], _∷_, map}
+use Prim.Native.Nat.{ℕ, zero, suc, _+_, _-_, _≤_, _<_}
 use native.Mathlib.Omega.{arith}
-use borrow.Author.Tests.{le-leb, lt-leb, lt-ltb, le-ltb, leb-true}
-use lib.Dec.{leb, ltb}
+use borrow.Author.Tests.{le-leb, lt-leb, lt-ltb, le-ltb, leb-true, ne-eqb}
+use lib.Dec.{T, eqb, leb, ltb}
 use lib.ListN.{length, getD}
-use Rattle.heads.specs.Table.{kindBy, headBy}
+use denote.Enum.Declared.{tagOf}
+use types.Run.{OneOf, miss}
+use mir.Val.{hasKey}
+use Rattle.heads.specs.Table.{kindCell, kindBy, headBy}
+use Rattle.heads.proofs.Kind.{the-type}
 use Rattle.heads.specs.declared.Kind.{Kind}
 use Rattle.heads.specs.declared.Head.{Head}
 use Rattle.values.specs.Heads.{noPart, bodyPart, itemsPart, byHead, isShort, textBy, textByTable}
@@ -20,6 +24,36 @@ module _ (leads s : List ℕ) (at : ℕ) {A : Type 0} (cut : A) (f : Kind → �
 
   pub by-head : {n p : ℕ} → h ≡ Head.At n p → {k d : Kind} → k ≡ kindBy leads s at → k ≡ d → f d n p ≡ byHead leads s at cut f
   by-head t i j = rw (← q, t, ← i, j)
+
+  pub by-other : {n p : ℕ} → h ≡ Head.At n p → {k : Kind} → k ≡ kindBy leads s at → f k n p ≡ cut → cut ≡ byHead leads s at cut f
+  by-other t i o = sym o ∙ by-head t i refl
+
+-- a kind that is none of those that a match names
+
+-- a kind's place in its enum, and the places of all kinds but some
+abbrev place : Kind → ℕ
+place k = tagOf the-type k
+
+abbrev without : List ℕ → ℕ → ℕ → List ℕ
+without ks i zero = []
+without ks i (suc n) = cond (hasKey ks i) (without ks (suc i) n) (i ∷ without ks (suc i) n)
+
+abbrev pub allBut : List Kind → List ℕ
+allBut ks = without (map place ks) 0 9
+
+cell-other : (i j : ℕ) (ks : List ℕ) → T (not (hasKey ks j)) → OneOf ks i → eqb (suc i) (suc j) ≡ false
+cell-other i j ks h o = ne-eqb (suc i) (suc j) (λ e. let q : i ≡ j = omega arith in miss ks j h (subst (OneOf ks) q o))
+
+pub kind-other : (w : Kind) (ws : List Kind) (k : Kind) → T (not (hasKey (allBut ws) (place w))) → OneOf (allBut ws) (place k) → eqb (kindCell k) (suc (place w)) ≡ false
+kind-other w ws Kind.Unsigned h o = cell-other 0 (place w) (allBut ws) h o
+kind-other w ws Kind.Signed h o = cell-other 1 (place w) (allBut ws) h o
+kind-other w ws Kind.Float h o = cell-other 2 (place w) (allBut ws) h o
+kind-other w ws Kind.Str h o = cell-other 3 (place w) (allBut ws) h o
+kind-other w ws Kind.Bin h o = cell-other 4 (place w) (allBut ws) h o
+kind-other w ws Kind.Array h o = cell-other 5 (place w) (allBut ws) h o
+kind-other w ws Kind.Map h o = cell-other 6 (place w) (allBut ws) h o
+kind-other w ws Kind.Outside h o = ne-eqb 0 (suc (place w)) (λ e. omega arith)
+kind-other w ws Kind.Missing h o = ne-eqb 0 (suc (place w)) (λ e. omega arith)
 
 -- bytes that are inside, and none
 module _ {y : Part} (size n p : ℕ) (q : y ≡ bodyPart size n p) where

@@ -22,6 +22,7 @@ use Rattle.heads.specs.Laws.Span.{span-none, holds, fits}
 use Rattle.heads.specs.Laws.Head.{Told, head-told, kind-in, head-held}
 use Rattle.heads.specs.Laws.Table.{moreOf-bound, moreOf-four, low-lead, string-lead}
 use Rattle.numbers.specs.Laws.BigEndian.{length-bytesOf}
+use Rattle.numbers.specs.Laws.Tests.{clash}
 use Rattle.messagepack.specs.Document.{Document, Documents, Entries, integer, float, string, binary, array, map, none, item, empty, entry, count, size, signedValue, UnsignedOf, SignedOf, TextOf, Writes, WritesAll, WritesEntries}
 use Rattle.messagepack.specs.Rules.{Keeps, KeepsAll, KeepsEntries, Distinct, NoKey, InRange, Container}
 use Rattle.values.specs.Parts.{integerOf}
@@ -222,9 +223,6 @@ at-heads (map es) a = ap isMap (open-map a .told .kind)
 -- and there is a head
 pub at-head : {s : List ℕ} {p e : ℕ} {x : Document} → At s p x e → headAt s p ≡ Head.Cut → ⊥
 at-head {s} {p} {e} a = stands-head s p 0 e (at-standing a)
-
-clash : {A : Type 0} → false ≡ true → A
-clash q = let z : _≡_ {A = ℕ} 0 1 = cc in absurd (omega arith)
 
 -- a document with heads of another kind has none of a kind's parts
 module _ {s : List ℕ} {p e : ℕ} (x : Document) (a : At s p x e) {k : Kind} (q : kindAt s p ≡ k) where

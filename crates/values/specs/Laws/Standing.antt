@@ -284,14 +284,14 @@ module _ (s : List ℕ) (p : ℕ) where
 
   pub record Went (q k : ℕ) : Type 0 where
     pub after : p < q
-    pub within : q ≤ length s
+    pub inside : q ≤ length s
     pub goes : (n e : ℕ) → Standing s (suc n) p e → Standing s (k + n) q e
 
   pub stepped-on : {o : Over} {q k : ℕ} → Stepped s p o → o ≡ Over.On q k → Went q k
   stepped-on {q = q} {k = k} x i = go (subst (Stepped s p) i x)
     where
       go : Stepped s p (Over.On q k) → Went q k
-      go (on a b f) = record { after = a; within = b; goes = f }
+      go (on a b f) = record { after = a; inside = b; goes = f }
 
 -- a writing at a place is one value that stands there
 stands : (s : List ℕ) (at : ℕ) (x : Document) (w v : List ℕ) → Writes x w → drop at s ≡ w ++ v → Span s at (at + length w) w
@@ -341,10 +341,10 @@ steps-float s p lt b q = subst (Stepped s p) (sym q) (go (leb (p + 1 + 4) (lengt
 -- an array, by its values or at once
 
 pub low-first : {s : List ℕ} {r m : ℕ} → LowRun s r (suc m) → (r < length s) × (getD s r 0 < 0x80)
-low-first {s} {r} l = (omega (arith, l .within), subst (λ (q : ℕ). getD s q 0 < 0x80) (add-zero r) (l .low 0 (omega arith)))
+low-first {s} {r} l = (omega (arith, l .inside), subst (λ (q : ℕ). getD s q 0 < 0x80) (add-zero r) (l .low 0 (omega arith)))
 
 pub low-rest : {s : List ℕ} {r m : ℕ} → LowRun s r (suc m) → LowRun s (r + 1) m
-low-rest {s} l = record { within = omega (arith, l .within); low = λ i h. subst (λ (q : ℕ). getD s q 0 < 0x80) (omega arith) (l .low (suc i) (omega arith)) }
+low-rest {s} l = record { inside = omega (arith, l .inside); low = λ i h. subst (λ (q : ℕ). getD s q 0 < 0x80) (omega arith) (l .low (suc i) (omega arith)) }
 
 low-standing : (s : List ℕ) (m n r e : ℕ) → LowRun s r m → Standing s (m + n) r e → Standing s (0 + n) (r + m) e
 low-standing s zero n r e l st = subst (λ (q : ℕ). Standing s (0 + n) q e) (sym (add-zero r)) st
@@ -357,4 +357,4 @@ low-standing s (suc m) n r e l st =
 
 pub steps-items : (s : List ℕ) (p : ℕ) {m r : ℕ} → headAt s p ≡ Head.At m r → kindAt s p ≡ Kind.Array → {o : Over} → ItemsOver s m r o → Stepped s p o
 steps-items s p g h each = steps-on s p g h (head-inside s p g .1)
-steps-items s p {m} {r} g h (over l) = let after : p < r + m = omega (arith, head-inside s p g) in on after (l .within) (λ n e st. low-standing s m n r e l (stands-step s p n e st g h))
+steps-items s p {m} {r} g h (over l) = let after : p < r + m = omega (arith, head-inside s p g) in on after (l .inside) (λ n e st. low-standing s m n r e l (stands-step s p n e st g h))

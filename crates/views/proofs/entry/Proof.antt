@@ -4,8 +4,8 @@ use mathlib.Core.Bool.{true, false}
 use Prim.Native.Nat.{ℕ, _+_, _-_}
 use native.Mathlib.Omega.{arith}
 use lib.ListN.{length, drop}
+use Rattle.text.specs.Equal.{equal}
 use borrow.Author.Needs.{needs}
-use Rattle.messagepack.specs.Equal.{equal}
 use Rattle.values.specs.Laws.Standing.{stands-one}
 use Rattle.views.specs.Place.{entryPlace}
 use Rattle.views.specs.Shown.{shownPlace, Ahead}

@@ -9,6 +9,7 @@ use native.Mathlib.Nat.{zero-add}
 use lib.ListN.{length, take, drop, length-append}
 use borrow.Author.Tests.{eq-eqb, ne-eqb}
 use Rattle.refusal.specs.Table.{accepted, noSuchField}
+use Rattle.text.specs.Equal.{equal}
 use Rattle.heads.specs.Head.{HeadOf, headAt}
 use Rattle.heads.specs.declared.Kind.{Kind}
 use Rattle.heads.specs.declared.Head.{Head}
@@ -17,7 +18,6 @@ use Rattle.heads.specs.Laws.Head.{head-told}
 use Rattle.messagepack.specs.Limits.{nestingLimit}
 use Rattle.messagepack.specs.Document.{Document, Entries, empty, entry, size, TextOf, Writes, WritesEntries}
 use Rattle.messagepack.specs.Rules.{depth, depthEntries, Keeps, KeepsEntries, Container}
-use Rattle.messagepack.specs.Equal.{equal}
 use Rattle.messagepack.specs.Walk.{valueAt, containerNumber}
 use Rattle.messagepack.specs.Laws.Complete.{value-of}
 use Rattle.views.specs.Place.{afterHead, afterValue, valuePlace, entryPlace, placeOf}

@@ -102,12 +102,12 @@ pub one-view : {file name : List ℕ} (v w : Viewable file name) → (startOf v 
 one-view {file} {name} v w =
     let i = v .entry-is in
     let j = w .entry-is in
-    let p : List ℕ = i .u ++ (i .a ++ (v .w ++ i .v)) in
-    let q : List ℕ = j .u ++ (j .a ++ (w .w ++ j .v)) in
-    let e : i .h ++ p ≡ j .h ++ q = sym (i .is) ∙ j .is in
+    let p : List ℕ = i .earlier-bytes ++ (i .key-bytes ++ (v .w ++ i .later-bytes)) in
+    let q : List ℕ = j .earlier-bytes ++ (j .key-bytes ++ (w .w ++ j .later-bytes)) in
+    let e : i .head-bytes ++ p ≡ j .head-bytes ++ q = sym (i .is) ∙ j .is in
     let r : p ≡ q = same-head p q (i .head) (j .head) e .rests in
-    let h : length (i .h) ≡ length (j .h) = ap length (first-parts (i .h) (j .h) p q e r) in
-    let s = same name (i .a) (j .a) (v .w) (w .w) (i .v) (j .v) (v .x) (w .x) (i .key) (j .key) (i .value) (j .value) (i .before) (j .before) (i .u) (j .u) (before-other (v .container) i) (before-other (w .container) j) (i .earlier) (j .earlier) r in
+    let h : length (i .head-bytes) ≡ length (j .head-bytes) = ap length (first-parts (i .head-bytes) (j .head-bytes) p q e r) in
+    let s = same name (i .key-bytes) (j .key-bytes) (v .w) (w .w) (i .later-bytes) (j .later-bytes) (v .x) (w .x) (i .key) (j .key) (i .value) (j .value) (i .before) (j .before) (i .earlier-bytes) (j .earlier-bytes) (before-other (v .container) i) (before-other (w .container) j) (i .earlier) (j .earlier) r in
     let t : shown (v .x) (v .w) ≡ shown (w .x) (w .w) = ap₂ shown (s .values) (s .writings) in
     (omega (arith, h, s .earlier, s .keys, ap length (s .writings), ap length t), t)
 

@@ -13,15 +13,15 @@ use lib.Seq.{drop-at, take-at, drop-drop, drop-append-le}
 use borrow.Author.Tests.{eq-eqb, ne-eqb, eqb-true, eqb-false}
 use Rattle.refusal.specs.Table.{accepted, noSuchField}
 use Rattle.numbers.specs.BigEndian.{Bytes}
+use Rattle.text.specs.Equal.{equal}
+use Rattle.text.specs.Laws.Equal.{equal-true, equal-refl}
 use Rattle.heads.specs.Head.{HeadOf}
 use Rattle.heads.specs.declared.Kind.{Kind}
 use Rattle.heads.specs.Laws.Span.{follows}
 use Rattle.messagepack.specs.Document.{Document, Entries, integer, float, string, binary, array, map, empty, entry, size, TextOf, Writes, WritesEntries}
 use Rattle.messagepack.specs.Rules.{Container}
-use Rattle.messagepack.specs.Equal.{equal}
 use Rattle.messagepack.specs.Walk.{containerNumber}
 use Rattle.messagepack.specs.Read.{documentOf}
-use Rattle.messagepack.specs.Laws.Keys.{equal-true, equal-refl}
 use Rattle.messagepack.specs.Laws.Unique.{no-two-documents, documentOf-is}
 use Rattle.messagepack.specs.Laws.Container.{container-exactly}
 use Rattle.views.specs.View.{EntryIn, shown, Viewable, startOf, hasKey, viewNumber, Placed, placed, refused, Viewed, viewed, nothing}
@@ -75,9 +75,9 @@ writes-map es h v s hd wr e = record { h = h; v = v; head = hd; body = wr; is = 
 pub entry-map : {s name w : List ℕ} {x : Document} (i : EntryIn s name x w) → Writes (map (join (i .before) (entry name x (i .after)))) s
 unfolding size WritesEntries
 entry-map {s} {name} {w} {x} i =
-    writes-map (join (i .before) (entry name x (i .after))) (i .h) (i .u ++ (i .a ++ (w ++ i .v))) s
+    writes-map (join (i .before) (entry name x (i .after))) (i .head-bytes) (i .earlier-bytes ++ (i .key-bytes ++ (w ++ i .later-bytes))) s
     (rw (size-join (i .before) (entry name x (i .after))) (i .head))
-    (writes-join (i .before) (entry name x (i .after)) (i .u) (i .a ++ (w ++ i .v)) (i .earlier) (record { a = i .a; u = w; v = i .v; key = i .key; first = i .value; rest = i .later; is = refl }))
+    (writes-join (i .before) (entry name x (i .after)) (i .earlier-bytes) (i .key-bytes ++ (w ++ i .later-bytes)) (i .earlier) (record { a = i .key-bytes; u = w; v = i .later-bytes; key = i .key; first = i .value; rest = i .later; is = refl }))
     (i .is)
 
 map-inj : {es fs : Entries} → map es ≡ map fs → es ≡ fs
@@ -164,10 +164,10 @@ module _ {s name : List ℕ} {left p : ℕ} (l : Looking s name left p) (n : Nex
         entry-is = record {
           before = l .before;
           after = n .others .entries;
-          h = l .h;
-          u = l .u;
-          a = n .a;
-          v = n .v;
+          head-bytes = l .h;
+          earlier-bytes = l .u;
+          key-bytes = n .a;
+          later-bytes = n .v;
           head = subst (λ (m : ℕ). HeadOf Kind.Map m (l .h)) count (l .head);
           earlier = l .earlier;
           key = subst (λ (y : List ℕ). TextOf Kind.Str y (n .a)) (equal-true (n .k) name b) (n .text);
@@ -248,21 +248,21 @@ shown-tail (array ds) w wr = whole-tail w
 shown-tail (map es) w wr = whole-tail w
 
 module _ {s name : List ℕ} (v : Viewable s name) where
-  part-rest : drop (startOf v) s ≡ shown (v .x) (v .w) ++ v .entry-is .v
+  part-rest : drop (startOf v) s ≡ shown (v .x) (v .w) ++ v .entry-is .later-bytes
   part-rest =
       let i = v .entry-is in
       let tail = shown-tail (v .x) (v .w) (i .value) in
-      let before : drop (length (i .h) + length (i .u) + length (i .a)) s ≡ v .w ++ i .v =
-      follows s (length (i .h) + length (i .u)) (i .a) (v .w ++ i .v) (follows s (length (i .h)) (i .u) (i .a ++ (v .w ++ i .v)) (ap (drop (length (i .h))) (i .is) ∙ drop-at (i .h) (i .u ++ (i .a ++ (v .w ++ i .v))) (length (i .h)) refl)) in
-      sym (drop-drop (length (v .w) - length (shown (v .x) (v .w))) (length (i .h) + length (i .u) + length (i .a)) s)
+      let before : drop (length (i .head-bytes) + length (i .earlier-bytes) + length (i .key-bytes)) s ≡ v .w ++ i .later-bytes =
+      follows s (length (i .head-bytes) + length (i .earlier-bytes)) (i .key-bytes) (v .w ++ i .later-bytes) (follows s (length (i .head-bytes)) (i .earlier-bytes) (i .key-bytes ++ (v .w ++ i .later-bytes)) (ap (drop (length (i .head-bytes))) (i .is) ∙ drop-at (i .head-bytes) (i .earlier-bytes ++ (i .key-bytes ++ (v .w ++ i .later-bytes))) (length (i .head-bytes)) refl)) in
+      sym (drop-drop (length (v .w) - length (shown (v .x) (v .w))) (length (i .head-bytes) + length (i .earlier-bytes) + length (i .key-bytes)) s)
       ∙ ap (drop (length (v .w) - length (shown (v .x) (v .w)))) before
-      ∙ drop-append-le (length (v .w) - length (shown (v .x) (v .w))) (v .w) (i .v) (omega arith)
-      ∙ ap (λ (y : List ℕ). y ++ i .v) (tail .1)
+      ∙ drop-append-le (length (v .w) - length (shown (v .x) (v .w))) (v .w) (i .later-bytes) (omega arith)
+      ∙ ap (λ (y : List ℕ). y ++ i .later-bytes) (tail .1)
 
   part-fits : startOf v + length (shown (v .x) (v .w)) ≤ length s
   part-fits =
       let i = v .entry-is in
-      let l : length s ≡ length (i .h) + (length (i .u) + (length (i .a) + (length (v .w) + length (i .v)))) = ap length (i .is) ∙ simp length-append in
+      let l : length s ≡ length (i .head-bytes) + (length (i .earlier-bytes) + (length (i .key-bytes) + (length (v .w) + length (i .later-bytes)))) = ap length (i .is) ∙ simp length-append in
       omega (arith, shown-tail (v .x) (v .w) (i .value) .0)
 
 -- a part is inside the file, and is what is shown
@@ -272,7 +272,7 @@ placed-fits (placed v) = part-fits v
 
 placed-part : {s name : List ℕ} {p : Place} → Placed s name p → Viewed s name (partAt s p)
 placed-part {s} {name} (placed v) =
-    subst (Viewed s name) (sym (ap (take (length (shown (v .x) (v .w)))) (part-rest v) ∙ take-at (shown (v .x) (v .w)) (v .entry-is .v) (length (shown (v .x) (v .w))) refl)) (viewed v)
+    subst (Viewed s name) (sym (ap (take (length (shown (v .x) (v .w)))) (part-rest v) ∙ take-at (shown (v .x) (v .w)) (v .entry-is .later-bytes) (length (shown (v .x) (v .w))) refl)) (viewed v)
 placed-part (refused pos q none) = nothing none
 
 placed-number : {s name : List ℕ} {p : Place} → Bytes s → Placed s name p → (placeNumber p ≡ viewNumber s name) × ((placeNumber p ≡ 0) ↔ Viewable s name)

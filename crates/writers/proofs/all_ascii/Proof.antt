@@ -1,6 +1,6 @@
 -- The loop's invariant: what was tested and what is left decide.
 use mathlib.Core.Path.{_≡_, refl, sym, ap, _∙_}
-use mathlib.Core.Bool.{Bool, _&&_}
+use mathlib.Core.Bool.{Bool, _&&_, and-true}
 use mathlib.Core.List.{map}
 use Prim.Native.Nat.{_+_, _-_, _≤_}
 use native.Mathlib.Omega.{arith}
@@ -8,10 +8,10 @@ use lib.ListN.{length, drop, getD}
 use lib.IntN.{pos}
 use lib.Dec.{leb}
 use borrow.Author.Needs.{needs}
-use Rattle.codecs.specs.declared.Range.the-variants.{Ascii}
-use Rattle.codecs.specs.Payload.{allIn}
-use Rattle.codecs.specs.Laws.Lists.{map-at, map-end}
-use Rattle.codecs.specs.Laws.Allowed.{all-at, all-none, and-true, and-more, ascii}
+use Rattle.steps.specs.declared.Range.the-variants.{Ascii}
+use Rattle.steps.specs.Payload.{allIn}
+use Rattle.steps.specs.Laws.Lists.{map-at, map-end}
+use Rattle.steps.specs.Laws.Allowed.{all-at, all-none, and-more, ascii}
 use Rattle.writers.proofs.all_ascii.Statement.{statement}
 use Rattle.writers.proofs.all_ascii.Tie as tie
 

@@ -1,8 +1,8 @@
 -- Each arm is the pass with its own range.
 use mathlib.Core.Path.{sym, ap, _∙_}
 use borrow.Author.Needs.{needs}
-use Rattle.codecs.specs.declared.Range.{Range}
-use Rattle.codecs.specs.Payload.{allIn}
+use Rattle.steps.specs.declared.Range.{Range}
+use Rattle.steps.specs.Payload.{allIn}
 use Rattle.writers.proofs.all_in.Statement.{statement}
 use Rattle.writers.proofs.all_in.Tie as tie
 

@@ -1,6 +1,6 @@
 -- The loop's invariant: what was tested and what is left decide.
 use mathlib.Core.Path.{_≡_, refl, sym, ap, _∙_}
-use mathlib.Core.Bool.{Bool, _&&_}
+use mathlib.Core.Bool.{Bool, _&&_, and-true}
 use Prim.Native.Nat.{_+_, _-_, _<_, _≤_}
 use native.Mathlib.Omega.{arith}
 use lib.ListN.{length, drop}
@@ -8,9 +8,9 @@ use lib.IntN.{pos}
 use mir.Syntax.{w32}
 use mir.Facts.{toZ-ofZ}
 use borrow.Author.Needs.{needs}
-use Rattle.codecs.specs.Payload.{inRange, allIn}
-use Rattle.codecs.specs.Laws.Lists.{drop-at, drop-end}
-use Rattle.codecs.specs.Laws.Allowed.{all-at, all-none, and-true, and-more}
+use Rattle.steps.specs.Payload.{inRange, allIn}
+use Rattle.steps.specs.Laws.Lists.{drop-at, drop-end}
+use Rattle.steps.specs.Laws.Allowed.{all-at, all-none, and-more}
 use Rattle.writers.proofs.each_in.Statement.{statement}
 use Rattle.writers.proofs.each_in.Tie as tie
 

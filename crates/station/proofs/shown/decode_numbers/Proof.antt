@@ -3,7 +3,7 @@ use lib.ListN.{length}
 use Rattle.columns.specs.Decode.{decode}
 use Rattle.columns.specs.declared.Kind.{Kind}
 use Rattle.columns.specs.declared.Wanted.{Wanted}
-use Rattle.station.specs.Laws.Reading.{told-within, fixed-within, whole-within}
+use Rattle.station.specs.Laws.Reading.{answer-within, fixed-within, whole-within}
 use borrow.Author.Needs.{needs}
 use Rattle.station.proofs.shown.decode_numbers.Statement.{statement}
 use Rattle.station.proofs.shown.decode_numbers.Tie as tie
@@ -14,17 +14,17 @@ returns c = fixed-within (decode (Wanted.Only Kind.FixedPoint) (c .before .befor
 returns-2 : tie.Need-returns-2
 returns-2 c =
     whole-within (c .before .before .decode-int8 .result) (c .whole .result) _ (c .whole .ensures)
-    (told-within (decode (Wanted.Only Kind.Int8) (c .before .before .before .before .before .before .before .args .column .now)) (c .before .before .decode-int8 .result) (length (c .before .before .before .before .before .before .before .args .buffer .now)) _ (c .before .before .decode-int8 .ensures .0) (c .before .before .decode-int8 .kept .1 .0))
+    (answer-within (decode (Wanted.Only Kind.Int8) (c .before .before .before .before .before .before .before .args .column .now)) (c .before .before .decode-int8 .result) (length (c .before .before .before .before .before .before .before .args .buffer .now)) _ (c .before .before .decode-int8 .ensures .0) (c .before .before .decode-int8 .kept .1 .0))
 
 returns-3 : tie.Need-returns-3
 returns-3 c =
     whole-within (c .before .before .decode-int16 .result) (c .whole2 .result) _ (c .whole2 .ensures)
-    (told-within (decode (Wanted.Only Kind.Int16) (c .before .before .before .before .before .before .before .args .column .now)) (c .before .before .decode-int16 .result) (length (c .before .before .before .before .before .before .before .args .buffer .now)) _ (c .before .before .decode-int16 .ensures .0) (c .before .before .decode-int16 .kept .1 .0))
+    (answer-within (decode (Wanted.Only Kind.Int16) (c .before .before .before .before .before .before .before .args .column .now)) (c .before .before .decode-int16 .result) (length (c .before .before .before .before .before .before .before .args .buffer .now)) _ (c .before .before .decode-int16 .ensures .0) (c .before .before .decode-int16 .kept .1 .0))
 
 returns-4 : tie.Need-returns-4
 returns-4 c =
     whole-within (c .before .before .decode-int32 .result) (c .whole3 .result) _ (c .whole3 .ensures)
-    (told-within (decode (Wanted.Only Kind.Int32) (c .before .before .before .before .before .before .args .column .now)) (c .before .before .decode-int32 .result) (length (c .before .before .before .before .before .before .args .buffer .now)) _ (c .before .before .decode-int32 .ensures .0) (c .before .before .decode-int32 .kept .1 .0))
+    (answer-within (decode (Wanted.Only Kind.Int32) (c .before .before .before .before .before .before .args .column .now)) (c .before .before .decode-int32 .result) (length (c .before .before .before .before .before .before .args .buffer .now)) _ (c .before .before .decode-int32 .ensures .0) (c .before .before .decode-int32 .kept .1 .0))
 
 pub decode-numbers-spec : {M : Type 1} → statement M
 decode-numbers-spec =

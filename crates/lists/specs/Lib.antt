@@ -1,3 +1,0 @@
--- Arrays of integers.
-pub mod Integers
-pub mod Laws

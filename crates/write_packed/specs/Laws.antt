@@ -1,2 +1,0 @@
--- What is proved of the definitions of `write_packed`.
-pub mod Packed

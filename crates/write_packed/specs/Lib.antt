@@ -1,3 +1,0 @@
--- `Bits` is for the code inside.
-pub mod Bits
-pub mod Laws

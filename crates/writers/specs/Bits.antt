@@ -1,0 +1,33 @@
+-- Numbers by their bits, a count up to the room, and what is to be written at a spot. No lemma stands here. Assumes nothing.
+use mathlib.Core.Path.{_≡_}
+use mathlib.Core.Bool.{Bool, cond}
+use mathlib.Core.List.{List, [], _∷_, _++_}
+use Prim.Native.Nat.{ℕ, _+_}
+use lib.ListN.{drop}
+use lib.IntN.{ℤ}
+use lib.Dec.{leb}
+use Rattle.numbers.specs.BigEndian.{bytesOf}
+use Rattle.steps.specs.declared.Size.{Size}
+use Rattle.steps.specs.Width.{sizeOf}
+use Rattle.steps.specs.Numbers.{bytesFor}
+use Rattle.steps.specs.Packing.{pack}
+use Rattle.steps.specs.Delta.{deltasFrom}
+use Rattle.writers.specs.Placed.{over}
+use Rattle.writers.specs.declared.packed.Spot.{Spot}
+
+-- the low bytes of numbers, one after the other
+unfoldable pub bitsFor : Size → List ℕ → List ℕ
+bitsFor z [] = []
+bitsFor z (u ∷ us) = bytesOf (sizeOf z) u ++ bitsFor z us
+
+-- n where there is room for it, and one more than the room where there is not
+unfoldable pub upTo : ℕ → ℕ → ℕ
+upTo room n = cond (leb n room) n (room + 1)
+
+-- the bytes that are still to be written at a spot
+abbrev pub toWrite : Size → Bool → List ℤ → Spot → List ℕ
+toWrite z d xs p = bytesFor z (pack z (deltasFrom d (p .before) (drop (p .next) xs)))
+
+-- the spot q in the buffer t goes on from the spot p in the buffer s: what is still to be written comes to one buffer from both
+abbrev pub GoesOn : Size → Bool → List ℤ → List ℕ → Spot → List ℕ → Spot → Type 0
+GoesOn z d xs s p t q = over t (q .at) (toWrite z d xs q) ≡ over s (p .at) (toWrite z d xs p)
