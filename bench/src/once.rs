@@ -65,19 +65,32 @@ const WORKS: &[(&str, Build)] = &[
 /// The works on columns that the table has. Every other work on the column of a
 /// shape is known by such a name too.
 const ON_COLUMNS: &[&str] = &[
+    "decode: 1, coordinates",
     "decode: 2, bond orders",
+    "decode: 3, group ids",
     "decode: 4, group types",
     "decode: 5, names of 4, 1 or 2 letters",
+    "decode: 6, alternate locations",
+    "decode: 8, runs of 1, sums wrap",
     "decode: 9, short runs",
     "decode: 10, coordinates",
     "decode: 11, b-factors",
     "decode: 13, occupancies",
+    "decode: 15, one of 100 packed",
+    "decode: 15, 0 to 7 limits",
+    "floats: 11, b-factors",
+    "floats: 13, occupancies",
+    "encode: 3, group ids",
+    "encode: 4, group types",
+    "encode: 5, names of 4, 1 or 2 letters",
     "encode: 9, long runs",
+    "encode: 9, runs of 1",
     "encode: 10, coordinates",
     "encode: 14, one of 100 packed",
     "cell: 8, ids with gaps",
     "cell: 9, short runs",
     "cell: 10, coordinates",
+    "cell: 13, occupancies",
 ];
 
 /// The cells of each column.
