@@ -22,6 +22,15 @@ unfoldable pub rowCount : Rows → ℕ
 rowCount last = 0
 rowCount (row k q t rows) = suc (rowCount rows)
 
+-- the names of rows, in their order
+unfoldable pub namesOf : Rows → List (List ℕ)
+namesOf last = []
+namesOf (row k q t rows) = k ∷ namesOf rows
+
+-- the names of the named fields, in their order
+unfoldable pub fieldNames : List (List ℕ)
+fieldNames = namesOf named
+
 -- the first row with a name, by its place; the number of rows if there is none
 unfoldable pub findRow : List ℕ → Rows → ℕ
 findRow k last = 0

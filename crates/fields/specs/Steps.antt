@@ -1,20 +1,19 @@
 -- What the functions inside say of whatever stands at a place. For the code inside. No lemma stands here. Assumes nothing.
 use mathlib.Core.Path.{_≡_}
 use mathlib.Core.Bool.{Bool, true, false, cond, _&&_, _||_}
-use mathlib.Core.List.{List}
-use mathlib.Core.Option.{Option, some, none as nothing}
+use mathlib.Core.List.{List, []}
 use Prim.Native.Nat.{ℕ, _+_, _<_}
 use lib.Bits.{bitOr}
 use lib.Dec.{eqb, leb}
 use lib.ListN.{length, getD, replicate}
 use Rattle.heads.specs.declared.Kind.{Kind}
 use Rattle.messagepack.specs.Document.{Document, Entries}
-use Rattle.values.specs.Places.{At}
 use Rattle.values.specs.Walked.{Walked, WalkedAll, WalkedEntries}
 use Rattle.fields.specs.Types.{Rows}
 use Rattle.fields.specs.Table.{named, fieldCount}
 use Rattle.fields.specs.Tests.{all, fitting}
-use Rattle.fields.specs.Fields.{setOf, present, fieldAt}
+use Rattle.fields.specs.Fields.{fieldNames, setOf, present}
+use Rattle.fields.specs.Noted.{SpanFrom}
 use Rattle.fields.specs.Numbers.{covered, rowTest}
 use Rattle.fields.specs.declared.Typed.{Typed}
 use Rattle.fields.specs.declared.Fields.{Fields}
@@ -62,21 +61,16 @@ pub record EntriesSay (leads s : List ℕ) (rows : Rows) (seen n at : ℕ) (r : 
 pub record RowSays (leads s : List ℕ) (i at : ℕ) (e : ℕ) (b : Bool) : Type 0 where
   pub says : Walked leads s at (λ x f. (e ≡ f) × (b ≡ rowTest i named x))
 
--- a place after the rest of the entries: that of the value they have, or the one from before
-pub data PlaceFrom (s : List ℕ) (p : ℕ) : Option Document → ℕ → Type 0 where
-  same : PlaceFrom s p nothing p
-  found : {q e : ℕ} {x : Document} → 0 < q → At s q x e → PlaceFrom s p (some x) q
-
--- what is noted in the end, when some has been noted before
-pub record NotedFrom (s : List ℕ) (places : List ℕ) (presence : ℕ) (typed : Bool) (es : Entries) (r : Fields) : Type 0 where
+-- what is noted in the end of the entries from p on, when some has been noted before
+pub record NotedFrom (s : List ℕ) (p : ℕ) (places ends : List ℕ) (presence : ℕ) (typed : Bool) (es : Entries) (r : Fields) : Type 0 where
   pub long : length (r .places) ≡ fieldCount
-  pub place : (i : ℕ) → i < fieldCount → PlaceFrom s (getD places i 0) (fieldAt i es) (getD (r .places) i 0)
+  pub span : (i : ℕ) → i < fieldCount → SpanFrom s (getD fieldNames i []) p es (getD places i 0) (getD ends i 0) (getD (r .places) i 0) (getD (r .ends) i 0)
   pub present : r .presence ≡ bitOr presence (setOf (present named es))
   pub fit : r .typed ≡ (typed && fitting named es)
 
 -- what is noted in the end of the n entries from a place on, when some has been noted before
-pub record NoteSays (leads s : List ℕ) (places : List ℕ) (presence : ℕ) (typed : Bool) (n at : ℕ) (r : Fields) : Type 0 where
-  pub says : WalkedEntries leads s n at (λ es e. NotedFrom s places presence typed es r)
+pub record NoteSays (leads s : List ℕ) (places ends : List ℕ) (presence : ℕ) (typed : Bool) (n at : ℕ) (r : Fields) : Type 0 where
+  pub says : WalkedEntries leads s n at (λ es e. NotedFrom s at places ends presence typed es r)
 
 -- no places
 abbrev pub noPlaces : List ℕ

@@ -13,7 +13,7 @@ ghost use Rattle.fields.specs.Types.{FieldType, plain};
 ghost use Rattle.fields.specs.Table.{fieldCount};
 ghost use Rattle.fields.specs.Tests.{typed};
 ghost use Rattle.fields.specs.Fields.{fieldTypeOf, isVersionOne, fieldsNumber, findRow};
-ghost use Rattle.fields.specs.Noted.{Noted};
+ghost use Rattle.fields.specs.Noted.{Noted, Spanned};
 ghost use Rattle.fields.specs.Numbers.{typeTable, nameOf, rowsFrom, typeOf, rowTest, build, covered, marked, lacking, distinctNames, tableByte};
 ghost use Rattle.fields.specs.Steps.{headKind, hasBody, plainEnd, ValueSays, ItemsSay, EntriesSay, RowSays, noPlaces};
 use heads::Head;
@@ -104,10 +104,11 @@ pub const BIO_ASSEMBLY_LIST: usize = NCS_OPERATOR_LIST + 1;
 
 pub const ENTITY_LIST: usize = BIO_ASSEMBLY_LIST + 1;
 
-// What a pass over a file's entries notes of the named fields: where each one's value stands, 0 where it is absent; the set of those present,
-// a bit for each; whether each of them has its type.
+// What a pass over a file's entries notes of the named fields: where each one's value stands and where it ends, 0 and 0 where it is absent; the
+// set of those present, a bit for each; whether each of them has its type.
 pub struct Fields {
     pub places: [usize; FIELD_COUNT],
+    pub ends: [usize; FIELD_COUNT],
     pub presence: u64,
     pub typed: bool,
 }
@@ -126,10 +127,12 @@ pub struct Judged {
 
 // What is noted of the count entries of a file from a place on. A value of the wrong type is stepped over, since 12 comes before 13.
 pub fn note(leads: &[u8; 256], file: &[u8], count: usize, at: usize) -> Fields
-    ensures { λ r. ⌜ WalkedEntries (now (leads .entry)) (now (file .entry)) count at (λ es e. Noted (now (file .entry)) es r) ⌝ }
+    ensures noted { λ r. ⌜ WalkedEntries (now (leads .entry)) (now (file .entry)) count at (λ es e. Noted (now (file .entry)) es r) ⌝ }
+    ensures spans { λ r. ⌜ WalkedEntries (now (leads .entry)) (now (file .entry)) count at (λ es e. Spanned (now (file .entry)) at es r) ⌝ }
 {
     let types = types();
     let mut places = no_places();
+    let mut ends = no_places();
     let mut presence: u64 = 0;
     let mut typed = true;
     let mut left = count;
@@ -142,6 +145,7 @@ pub fn note(leads: &[u8; 256], file: &[u8], count: usize, at: usize) -> Fields
         let row = row_of(&types, file, a, m, FIRST_FIELD, FIELD_COUNT);
         let judged = judge(leads, file, &types, value, row);
         put_place(&mut places, row, value);
+        put_place(&mut ends, row, judged.end);
         presence = mark(FIELD_COUNT, presence, row);
         typed = numbers::both(typed, judged.typed);
         p = judged.end;
@@ -149,6 +153,7 @@ pub fn note(leads: &[u8; 256], file: &[u8], count: usize, at: usize) -> Fields
     }
     Fields {
         places: places,
+        ends: ends,
         presence: presence,
         typed: typed,
     }

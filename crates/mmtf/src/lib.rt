@@ -27,6 +27,7 @@ use cells::Cell;
 use columns::Kind;
 use columns::Wanted;
 use decoding::Fixed;
+use opening::Opening;
 use receipt::Reading;
 use receipt::Receipt;
 use refusal::Answer;
@@ -48,6 +49,23 @@ pub extern "C" fn mmtf_verdict(file: &[u8]) -> u8
     ensures exactly { λ r. ⌜ (r ≡ 0) ↔ Accepted (now (file .entry)) ⌝ }
 {
     structure::verdict(file)
+}
+
+// Opens a file: the set of its named fields and the start and the length of each one's part; or the refusal, 1 to 24, or 25.
+#[no_mangle]
+pub extern "C" fn mmtf_fields(
+    file: &[u8],
+    presence: &mut u64,
+    starts: &mut [u64; fields::FIELD_COUNT],
+    lengths: &mut [u64],
+) -> u8 {
+    match opening::fields_of(file, starts, lengths) {
+        Opening::Refused(n) => n,
+        Opening::Presence(set) => {
+            *presence = set;
+            refusal::ACCEPTED
+        }
+    }
 }
 
 // The place of the part of a file that shows an outer key's value; or the refusal, 1 to 11 or 26.

@@ -89,7 +89,7 @@ fn accepted_with(counts: Counts, presence: u64) -> Summary
 }
 
 // The refusal of a container's document by what is noted of its fields: 12 to 24, or 0.
-fn document_refusal(leads: &[u8; 256], file: &[u8], noted: Fields) -> u8
+pub fn document_refusal(leads: &[u8; 256], file: &[u8], noted: Fields) -> u8
     ensures { λ r. ⌜ WalkedNotes (now (leads .entry)) (now (file .entry)) noted (λ es. r ≡ entriesNumber es) ⌝ }
 {
     let number = fields::refusal_of(leads, file, noted);

@@ -2,7 +2,7 @@
 -- Assumes nothing.
 use mathlib.Core.Path.{_≡_, refl, sym, ap, subst, _∙_}
 use mathlib.Core.Bool.{Bool, true, false, cond, _&&_, and-true, and-assoc}
-use mathlib.Core.List.{List}
+use mathlib.Core.List.{List, []}
 use mathlib.Core.Option.{Option, some, none as nothing}
 use Prim.Native.Nat.{ℕ, zero, suc, _+_, _-_, _<_, _≤_}
 use native.Mathlib.Omega.{arith}
@@ -14,26 +14,29 @@ use borrow.Author.Tests.{eqb-true, eqb-false}
 use Rattle.refusal.specs.Table.{accepted, fieldMissing, fieldType, versionNot1}
 use Rattle.text.specs.Ascii.{ascii}
 use Rattle.text.specs.Equal.{equal}
+use Rattle.text.specs.Laws.Equal.{equal-true}
 use Rattle.heads.specs.Table.{leadTable}
-use Rattle.messagepack.specs.Document.{Document, Entries, empty, entry, size}
+use Rattle.messagepack.specs.Document.{Document, Entries, float, string, empty, entry, size}
 use Rattle.messagepack.specs.Rules.{NoKey}
+use Rattle.values.specs.Parts.{look}
 use Rattle.values.specs.Places.{At, AtEntries, TextAt, PlaceSays, gone, there}
 use Rattle.values.specs.Standing.{Standing}
-use Rattle.values.specs.Laws.Places.{at-standing}
+use Rattle.values.specs.Laws.Parts.{look-none}
+use Rattle.values.specs.Laws.Places.{at-standing, open-entry}
 use Rattle.values.specs.declared.Part.{Part}
 use Rattle.fields.specs.Laws.Fields.{named-count, place-name, has-name}
-use Rattle.fields.specs.Types.{FieldType, Rows}
+use Rattle.fields.specs.Types.{FieldType, Rows, last, row}
 use Rattle.fields.specs.Table.{named, fieldCount}
 use Rattle.fields.specs.Tests.{have, typed, fitting}
-use Rattle.fields.specs.Fields.{fieldAt, fieldTypeOf, present, setOf, presenceOf, textIn, versionOf, isVersionOne, fieldsNumber, findRow, fieldNumber, isRequired}
-use Rattle.fields.specs.Noted.{Noted}
+use Rattle.fields.specs.Fields.{rowCount, rowValue, namesOf, fieldNames, fieldAt, fieldTypeOf, present, setOf, presenceOf, textIn, versionOf, isVersionOne, fieldsNumber, findRow, fieldNumber, isRequired}
+use Rattle.fields.specs.Noted.{Noted, Among, first, later, SpanFrom, absent, stands, Spanned}
 use Rattle.fields.specs.Numbers.{rowsFrom, typeOf, typeDepth, firstField, rowTest, covered, marked}
-use Rattle.fields.specs.Steps.{ValueSays, RowSays, PlaceFrom, same, found, NotedFrom, NoteSays, noPlaces}
+use Rattle.fields.specs.Steps.{ValueSays, RowSays, NotedFrom, NoteSays, noPlaces}
 use Rattle.fields.specs.declared.Typed.{Typed}
 use Rattle.fields.specs.declared.Fields.{Fields}
 use Rattle.fields.specs.Laws.Types.{have-exactly}
 use Rattle.fields.specs.Laws.Sets.{present-none, covered-have}
-use Rattle.fields.specs.Laws.Rows.{fitting-none, valueOf-none, fitting-entry, present-marked, valueOf-entry, valueOf-fresh}
+use Rattle.fields.specs.Laws.Rows.{fitting-none, fitting-entry, present-marked, valueOf-entry}
 use Rattle.fields.specs.Laws.Numbers.{named-is, named-distinct, row-type, no-type}
 use Rattle.fields.specs.Laws.Steps.{no-kind, passed, failed, or-marked, KeyRead, first-entry}
 
@@ -66,86 +69,139 @@ pub is-untyped : (i : ℕ) → fieldCount ≤ i → (x : Document) → false ≡
 unfolding fieldTypeOf
 is-untyped i le x = sym (ap (λ (t : FieldType). typed t x) (no-type named i (omega (arith, named-count))) ∙ no-kind x)
 
--- places
+-- places and ends
 
-same-place : {s : List ℕ} {p q : ℕ} {o : Option Document} → PlaceFrom s p o q → o ≡ nothing → q ≡ p
-same-place same e = refl
-same-place (found h a) e = let z : _≡_ {A = ℕ} 0 1 = cc in absurd (omega arith)
+-- a value among the entries is the one under its key
+record Found (s : List ℕ) (o : Option Document) (q e : ℕ) : Type 0 where
+  x : Document
+  is : o ≡ some x
+  at : At s q x e
 
-as-place : {s : List ℕ} {p q : ℕ} {o : Option Document} → PlaceFrom s p o q → p ≡ 0 → PlaceSays s q o
-as-place {s} same e = subst (λ (z : ℕ). PlaceSays s z nothing) (sym e) gone
-as-place (found h a) e = there h a
+among-found : {s k : List ℕ} {p q e : ℕ} {es : Entries} → Among s k p es q e → Found s (look k es) q e
+unfolding look
+among-found (first {x = x} h key value) = record { x = x; is = rw h; at = value }
+among-found (later h key value rest) = let f = among-found rest in record { x = f .x; is = rw h (f .is); at = f .at }
+
+-- without such a value the place and the end are those from before
+span-same : {s k : List ℕ} {p q e a b : ℕ} {es : Entries} → SpanFrom s k p es q e a b → look k es ≡ nothing → (a ≡ q) × (b ≡ e)
+span-same (absent h) n = (refl, refl)
+span-same (stands pos a) n = let f = among-found a in let i = f .is in let z : _≡_ {A = ℕ} 0 1 = cc in absurd (omega arith)
+
+as-place : {s k : List ℕ} {p q e a b : ℕ} {es : Entries} → SpanFrom s k p es q e a b → q ≡ 0 → PlaceSays s a (look k es)
+as-place {s} (absent h) z = rw (h, z) gone
+as-place {s} {a = a} (stands pos m) z = let f = among-found m in subst (PlaceSays s a) (sym (f .is)) (there pos (f .at))
 
 zeros-at : (n i : ℕ) → getD {A = ℕ} (replicate n 0) i 0 ≡ 0
 zeros-at zero i = refl
 zeros-at (suc n) zero = refl
 zeros-at (suc n) (suc i) = zeros-at n i
 
+-- the value of a field stands under its name
+row-name : (i : ℕ) (rows : Rows) (es : Entries) → i < rowCount rows → rowValue i rows es ≡ look (getD (namesOf rows) i []) es
+unfolding rowValue rowCount namesOf
+row-name i last es lt = absurd (omega arith)
+row-name zero (row k q t rows) es lt = refl
+row-name (suc i) (row k q t rows) es lt = row-name i rows es (omega arith)
+
+pub field-name : (i : ℕ) (es : Entries) → i < fieldCount → fieldAt i es ≡ look (getD fieldNames i []) es
+unfolding fieldAt fieldNames
+field-name i es lt = row-name i named es (omega (arith, named-count))
+
 -- the value of a field after one more entry
-field-entry : (k : List ℕ) (x : Document) (es : Entries) (j : ℕ) → j < fieldCount → fieldAt j (entry k x es) ≡ cond (eqb j (findRow k named)) (some x) (fieldAt j es)
+field-entry : (k : List ℕ) (x : Document) (es : Entries) (j : ℕ) → j < fieldCount → look (getD fieldNames j []) (entry k x es) ≡ cond (eqb j (findRow k named)) (some x) (look (getD fieldNames j []) es)
 unfolding fieldAt
-field-entry k x es j lt = valueOf-entry k x es j named named-distinct (omega (arith, named-count))
+field-entry k x es j lt =
+    sym (field-name j (entry k x es) lt) ∙ valueOf-entry k x es j named named-distinct (omega (arith, named-count)) ∙ ap (cond (eqb j (findRow k named)) (some x)) (field-name j es lt)
 
-field-fresh : (k : List ℕ) (es : Entries) → NoKey k es → fieldAt (findRow k named) es ≡ nothing
-unfolding fieldAt
-field-fresh k es f = valueOf-fresh k es named f
-
--- its place, when the entry's value stands at q
-place-entry : {s : List ℕ} (k : List ℕ) (x : Document) (es : Entries) (places : List ℕ) (i q e : ℕ) → i ≡ findRow k named → NoKey k es → length places ≡ fieldCount → 0 < q → At s q x e → (j final : ℕ) → j < fieldCount → PlaceFrom s (getD (set places i q) j 0) (fieldAt j es) final → PlaceFrom s (getD places j 0) (fieldAt j (entry k x es)) final
-place-entry {s} k x es places i q e is f long pos a j final lt rest = rw (field-entry k x es j lt) (go (eqb j (findRow k named)) refl)
+-- a key is a field's name exactly if the field's number is that of its row
+name-is : (k : List ℕ) (j : ℕ) → j < fieldCount → equal k (getD fieldNames j []) ≡ eqb j (findRow k named)
+unfolding look
+name-is k j lt = go (equal k (getD fieldNames j [])) (eqb j (findRow k named)) (field-entry k (float 0) empty j lt)
   where
-    go : (t : Bool) → eqb j (findRow k named) ≡ t → PlaceFrom s (getD places j 0) (cond t (some x) (fieldAt j es)) final
+    go : (a b : Bool) → cond a (some (float 0)) nothing ≡ cond b (some (float 0)) nothing → a ≡ b
+    go true true e = refl
+    go true false e = let z : _≡_ {A = ℕ} 0 1 = cc in absurd (omega arith)
+    go false true e = let z : _≡_ {A = ℕ} 0 1 = cc in absurd (omega arith)
+    go false false e = refl
+
+-- the span of a field, when the first entry's value stands from q up to e
+span-entry : {s : List ℕ} (k : List ℕ) (x : Document) (es : Entries) (places ends : List ℕ) (p i q e : ℕ) → i ≡ findRow k named → NoKey k es → length places ≡ fieldCount → length ends ≡ fieldCount → 0 < q → At s p (string k) q → At s q x e → (j a b : ℕ) → j < fieldCount → SpanFrom s (getD fieldNames j []) e es (getD (set places i q) j 0) (getD (set ends i e) j 0) a b → SpanFrom s (getD fieldNames j []) p (entry k x es) (getD places j 0) (getD ends j 0) a b
+unfolding look
+span-entry {s} k x es places ends p i q e is f long long2 pos key value j a b lt rest = go (eqb j (findRow k named)) refl
+  where
+    go : (t : Bool) → eqb j (findRow k named) ≡ t → SpanFrom s (getD fieldNames j []) p (entry k x es) (getD places j 0) (getD ends j 0) a b
     go true h =
-        let r : j ≡ findRow k named = eqb-true j (findRow k named) h in
-        let g : j ≡ i = r ∙ sym is in
-        let n : fieldAt j es ≡ nothing = ap (λ (z : ℕ). fieldAt z es) r ∙ field-fresh k es f in
-        let p : final ≡ q = same-place rest n ∙ ap (λ (z : ℕ). getD (set places i q) z 0) g ∙ getD-set-same places i q 0 (omega arith) in
-        subst (λ (z : ℕ). PlaceFrom s (getD places j 0) (some x) z) (sym p) (found pos a)
-    go false h = subst (λ (z : ℕ). PlaceFrom s z (fieldAt j es) final) (getD-set-other places i j q 0 (λ g. eqb-false j (findRow k named) h (g ∙ is))) rest
+        let t : equal k (getD fieldNames j []) ≡ true = name-is k j lt ∙ h in
+        let g : j ≡ i = eqb-true j (findRow k named) h ∙ sym is in
+        let n : look (getD fieldNames j []) es ≡ nothing = look-none (getD fieldNames j []) es (subst (λ (z : List ℕ). NoKey z es) (equal-true k (getD fieldNames j []) t) f) in
+        let m = span-same rest n in
+        let c : a ≡ q = m .0 ∙ ap (λ (z : ℕ). getD (set places i q) z 0) g ∙ getD-set-same places i q 0 (omega arith) in
+        let d : b ≡ e = m .1 ∙ ap (λ (z : ℕ). getD (set ends i e) z 0) g ∙ getD-set-same ends i e 0 (omega arith) in
+        rw (c, d) (stands pos (first t key value))
+    go false h =
+        let t : equal k (getD fieldNames j []) ≡ false = name-is k j lt ∙ h in
+        let o : j ≡ i → ⊥ = (λ g. eqb-false j (findRow k named) h (g ∙ is)) in
+        later-span t (subst (λ (z : ℕ). SpanFrom s (getD fieldNames j []) e es (getD places j 0) z a b) (getD-set-other ends i j e 0 o) (subst (λ (z : ℕ). SpanFrom s (getD fieldNames j []) e es z (getD (set ends i e) j 0) a b) (getD-set-other places i j q 0 o) rest))
+      where
+        later-span : {y z : ℕ} → equal k (getD fieldNames j []) ≡ false → SpanFrom s (getD fieldNames j []) e es y z a b → SpanFrom s (getD fieldNames j []) p (entry k x es) y z a b
+        later-span t (absent n) = absent (rw t n)
+        later-span t (stands pos2 m) = stands pos2 (later t key value m)
 
 -- what is noted, one entry after another
 
-pub note-none : (leads s places : List ℕ) (presence : ℕ) (typed : Bool) (n p : ℕ) → n ≤ 0 → length places ≡ fieldCount → NoteSays leads s places presence typed n p (record { places = places; presence = presence; typed = typed })
-unfolding size fieldAt
-note-none leads s places presence typed n p le long = record { says = λ l es e a c. go es (omega (arith, c)) }
+pub note-none : (leads s places ends : List ℕ) (presence : ℕ) (typed : Bool) (n p : ℕ) → n ≤ 0 → length places ≡ fieldCount → NoteSays leads s places ends presence typed n p (record { places = places; ends = ends; presence = presence; typed = typed })
+unfolding size look
+note-none leads s places ends presence typed n p le long = record { says = λ l es e a c. go es (omega (arith, c)) }
   where
-    go : (es : Entries) → size es ≡ 0 → NotedFrom s places presence typed es (record { places = places; presence = presence; typed = typed })
+    go : (es : Entries) → size es ≡ 0 → NotedFrom s p places ends presence typed es (record { places = places; ends = ends; presence = presence; typed = typed })
     go empty c = record {
       long = long;
-      place = λ j lt. rw (valueOf-none j named) same;
+      span = λ j lt. absent refl;
       present = rw (present-none named) (sym (or-zero-r presence));
       fit = rw (fitting-none named) (sym (and-true typed));
     }
     go (entry k x es) c = absurd (omega (arith, c))
 
-pub note-next : (leads s places : List ℕ) (presence : ℕ) (typed : Bool) (n p i q : ℕ) (b : Bool) {key : Part} {after : List ℕ} {next : ℕ} {right : Bool} {r : Fields} → 0 < n → length places ≡ fieldCount → KeyRead leads s p key → ((f : ℕ → FieldType) → i ≡ findRow (take (key .count) (drop (key .at) s)) (rowsFrom f fieldCount firstField)) → RowSays leads s i (key .at + key .count) q b → after ≡ set places i (key .at + key .count) → next ≡ marked fieldCount presence i → right ≡ (typed && b) → NoteSays leads s after next right (n - 1) q r → NoteSays leads s places presence typed n p r
-note-next leads s places presence typed n p i q b {key} {after} {next} {right} {r} pos long read row here put set fit rest = record { says = λ l es e a c. go l es e a c }
+-- the first key, by where it was read to end
+first-key : {leads s : List ℕ} {p e : ℕ} {key : Part} {es others : Entries} {k : List ℕ} {x : Document} → KeyRead leads s p key → leads ≡ leadTable → AtEntries s p es e → es ≡ entry k x others → At s p (string k) (key .at + key .count)
+first-key {s = s} {p = p} {e = e} {k = k} read l a is =
+    let o = open-entry (subst (λ (z : Entries). AtEntries s p z e) is a) in
+    subst (At s p (string k)) (read .says l (string k) (o .q) (o .key) .ends) (o .key)
+
+pub note-next : (leads s places ends : List ℕ) (presence : ℕ) (typed : Bool) (n p i q : ℕ) (b : Bool) {key : Part} {after past : List ℕ} {next : ℕ} {right : Bool} {r : Fields} → 0 < n → length places ≡ fieldCount → length ends ≡ fieldCount → KeyRead leads s p key → ((f : ℕ → FieldType) → i ≡ findRow (take (key .count) (drop (key .at) s)) (rowsFrom f fieldCount firstField)) → RowSays leads s i (key .at + key .count) q b → after ≡ set places i (key .at + key .count) → past ≡ set ends i q → next ≡ marked fieldCount presence i → right ≡ (typed && b) → NoteSays leads s after past next right (n - 1) q r → NoteSays leads s places ends presence typed n p r
+note-next leads s places ends presence typed n p i q b {key} {after} {past} {next} {right} {r} pos long long2 read number here put put2 marks fit rest = record { says = λ l es e a c. go l es e a c }
   where
-    noted : (k : List ℕ) (x : Document) (es : Entries) (e : ℕ) → i ≡ findRow k named → NoKey k es → 0 < key .at + key .count → At s (key .at + key .count) x e → b ≡ rowTest i named x → NotedFrom s after next right es r → NotedFrom s places presence typed (entry k x es) r
-    noted k x es e j f large v t m = record {
+    noted : (k : List ℕ) (x : Document) (es : Entries) (e : ℕ) → q ≡ e → i ≡ findRow k named → NoKey k es → 0 < key .at + key .count → At s p (string k) (key .at + key .count) → At s (key .at + key .count) x e → b ≡ rowTest i named x → NotedFrom s e after past next right es r → NotedFrom s p places ends presence typed (entry k x es) r
+    noted k x es e end j f large w v t m = record {
       long = m .long;
-      place = λ z lt. place-entry k x es places i (key .at + key .count) e j f long large v z (getD (r .places) z 0) lt (subst (λ (w : List ℕ). PlaceFrom s (getD w z 0) (fieldAt z es) (getD (r .places) z 0)) put (m .place z lt));
+      span = λ z lt. span-entry k x es places ends p i (key .at + key .count) e j f long long2 large w v z (getD (r .places) z 0) (getD (r .ends) z 0) lt (subst (λ (y : List ℕ). SpanFrom s (getD fieldNames z []) e es (getD (set places i (key .at + key .count)) z 0) (getD y z 0) (getD (r .places) z 0) (getD (r .ends) z 0)) (put2 ∙ ap (λ (y : ℕ). set ends i y) end) (subst (λ (y : List ℕ). SpanFrom s (getD fieldNames z []) e es (getD y z 0) (getD past z 0) (getD (r .places) z 0) (getD (r .ends) z 0)) put (m .span z lt)));
       present =
           let u : bitOr presence (setOf (present named (entry k x es))) ≡ bitOr (marked fieldCount presence i) (setOf (present named es)) = ap (λ (z : ℕ). bitOr presence z) (present-marked k x es named named-distinct ∙ ap (λ (z : ℕ). marked z (setOf (present named es)) (findRow k named)) named-count ∙ ap (λ (z : ℕ). marked fieldCount (setOf (present named es)) z) (sym j)) ∙ or-marked fieldCount presence (setOf (present named es)) i in
-          m .present ∙ ap (λ (z : ℕ). bitOr z (setOf (present named es))) set ∙ sym u;
+          m .present ∙ ap (λ (z : ℕ). bitOr z (setOf (present named es))) marks ∙ sym u;
       fit =
           let u : fitting named (entry k x es) ≡ (b && fitting named es) = fitting-entry k x es named named-distinct f ∙ ap (λ (z : ℕ). rowTest z named x && fitting named es) (sym j) ∙ ap (λ (z : Bool). z && fitting named es) (sym t) in
           m .fit ∙ ap (λ (z : Bool). z && fitting named es) fit ∙ and-assoc typed b (fitting named es) ∙ ap (λ (z : Bool). typed && z) (sym u);
     }
 
-    go : leads ≡ leadTable → (es : Entries) (e : ℕ) → AtEntries s p es e → size es ≡ n → NotedFrom s places presence typed es r
+    go : leads ≡ leadTable → (es : Entries) (e : ℕ) → AtEntries s p es e → size es ≡ n → NotedFrom s p places ends presence typed es r
     go l es e a c =
         let o = first-entry read l es e n a c pos in
-        let j : i ≡ findRow (o .k) named = row (typeOf typeDepth) ∙ ap (findRow (take (key .count) (drop (key .at) s))) named-is ∙ ap (λ (z : List ℕ). findRow z named) (o .name) in
+        let j : i ≡ findRow (o .k) named = number (typeOf typeDepth) ∙ ap (findRow (take (key .count) (drop (key .at) s))) named-is ∙ ap (λ (z : List ℕ). findRow z named) (o .name) in
         let w = here .says l (o .x) (o .end) (o .value) in
         let m = rest .says l (o .others) e (subst (λ (z : ℕ). AtEntries s z (o .others) e) (sym (w .0)) (o .rest)) (o .counts) in
-        subst (λ (z : Entries). NotedFrom s places presence typed z r) (sym (o .is)) (noted (o .k) (o .x) (o .others) (o .end) j (o .fresh) (o .positive) (o .value) (w .1) m)
+        subst (λ (z : Entries). NotedFrom s p places ends presence typed z r) (sym (o .is)) (noted (o .k) (o .x) (o .others) (o .end) (w .0) j (o .fresh) (o .positive) (first-key read l a (o .is)) (o .value) (w .1) (subst (λ (z : ℕ). NotedFrom s z after past next right (o .others) r) (w .0) m))
 
-pub note-done : {leads s : List ℕ} {n p : ℕ} {r : Fields} → NoteSays leads s noPlaces 0 true n p r → leads ≡ leadTable → (es : Entries) (e : ℕ) → AtEntries s p es e → size es ≡ n → Noted s es r
-unfolding presenceOf
-note-done h l es e a c =
-    let m = h .says l es e a c in
-    record { places = record { long = m .long; says = λ i lt. as-place (m .place i lt) (zeros-at fieldCount i) }; presence = m .present; typed = m .fit }
+module _ {leads s : List ℕ} {n p : ℕ} {r : Fields} (h : NoteSays leads s noPlaces noPlaces 0 true n p r) (l : leads ≡ leadTable) (es : Entries) (e : ℕ) (a : AtEntries s p es e) (c : size es ≡ n) where
+  -- in the end each field's span is noted
+  pub note-spans : Spanned s p es r
+  note-spans = record { spans = λ i lt. subst (λ (z : ℕ). SpanFrom s (getD fieldNames i []) p es z z (getD (r .places) i 0) (getD (r .ends) i 0)) (zeros-at fieldCount i) (h .says l es e a c .span i lt) }
+
+  -- and with it where its value stands
+  pub note-done : Noted s es r
+  unfolding presenceOf
+  note-done =
+      let m = h .says l es e a c in
+      record { places = record { long = m .long; says = λ i lt. rw (field-name i es lt) (as-place (note-spans .spans i lt) refl) }; presence = m .present; typed = m .fit }
 
 -- the number by what is noted
 

@@ -17,7 +17,7 @@ returns-2 c =
     let box = k .1 .0 z in
     let t = c .before .before .before .before .before .before .leads .ensures in
     let e = c .before .before .before .before .entries-at .ensures .1 t (map (box .entries)) _ (outer-at box) in
-    let n = c .before .before .note .ensures t (box .entries) (e .end) (e .all) (e .counts) in
+    let n = c .before .before .note .ensures .0 t (box .entries) (e .end) (e .all) (e .counts) in
     c .document-summary .ensures (box .fits) t (box .entries) n ∙ summary-document _ box (sym (k .0) ∙ z)
 
 pub summary-of-spec : {M : Type 1} → statement M

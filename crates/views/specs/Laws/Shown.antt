@@ -59,6 +59,11 @@ module _ (s : List ℕ) (at : ℕ) where
   shows (array ds) w v wr d = other-shows (wr .v ++ v) w refl (wr .head) (past w (wr .h) (wr .v) v (wr .is) d)
   shows (map es) w v wr d = other-shows (wr .v ++ v) w refl (wr .head) (past w (wr .h) (wr .v) v (wr .is) d)
 
+  -- by the value's kind: the body after its head, else all of its bytes
+  pub part-shows : (x : Document) (w v : List ℕ) → Writes x w → drop at s ≡ w ++ v → cond (isText (kindAt s at)) (bodyPlace (headAt s at)) (Place.At at (at + length w - at)) ≡ shownPlace at x w
+  unfolding byKind
+  part-shows x w v wr d = shows x w v wr d
+
   -- the definition gives the part of a value that keeps the rules
   pub value-shows : (x : Document) (w v : List ℕ) → Writes x w → depth x ≤ nestingLimit → Keeps x → drop at s ≡ w ++ v → valuePlace s at ≡ shownPlace at x w
   unfolding byKind

@@ -1,0 +1,3 @@
+-- What is proved of the definitions of `opening`.
+pub mod Places
+pub mod Opening
