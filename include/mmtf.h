@@ -1,8 +1,9 @@
 /*
  * libmmtf.a: an MMTF reader whose calls are proved to meet their contracts.
  *
- * Today: the check of a whole file and of its container alone, views by name, columns: decoded, encoded, and one cell alone,
- * the matrices of transforms, and receipts: written for a file, and read. For x86-64 Linux.
+ * Today: the check of a whole file and of its container alone, a file opened with the places of all its fields, views by
+ * name, columns: decoded, encoded, and one cell alone, the matrices of transforms, and receipts: written for a file, and
+ * read. For x86-64 Linux.
  *
  * Every call takes whatever bytes and numbers it is given, and always ends with an answer. It keeps nothing between calls,
  * allocates nothing and writes to nothing but its buffer and its out parameters, so threads may call at the same time. The
@@ -15,8 +16,8 @@
  * - An out parameter points to an object of its type, which is no other out parameter and no part of what is read or of the
  *   buffer.
  * - Floats are rounded to nearest, as C starts: mmtf_decode_float32 and mmtf_cell divide.
- * - There is room on the stack: 96 KiB are enough for a call. Of mmtf_verdict and mmtf_write_receipt 60 KiB were measured, of
- *   every other call at most 29 KiB, at twelve levels, the most.
+ * - There is room on the stack: 96 KiB are enough for a call. Of mmtf_verdict, mmtf_fields and mmtf_write_receipt 60 KiB were
+ *   measured, of every other call at most 29 KiB, at twelve levels, the most.
  */
 #ifndef MMTF_H
 #define MMTF_H
@@ -116,6 +117,70 @@ uint8_t mmtf_container(const uint8_t *file, size_t n);
 uint8_t mmtf_verdict(const uint8_t *file, size_t n);
 
 /*
+ * The named fields by their numbers: the order of the fields, from 0 on. Bit i of a set of fields, 1 << i, is that of field i,
+ * and so is element i of what mmtf_fields hands over.
+ */
+enum mmtf_field {
+    MMTF_MMTF_VERSION = 0,          /* mmtfVersion */
+    MMTF_MMTF_PRODUCER = 1,         /* mmtfProducer */
+    MMTF_NUM_BONDS = 2,             /* numBonds */
+    MMTF_NUM_ATOMS = 3,             /* numAtoms */
+    MMTF_NUM_GROUPS = 4,            /* numGroups */
+    MMTF_NUM_CHAINS = 5,            /* numChains */
+    MMTF_NUM_MODELS = 6,            /* numModels */
+    MMTF_GROUP_LIST = 7,            /* groupList */
+    MMTF_X_COORD_LIST = 8,          /* xCoordList */
+    MMTF_Y_COORD_LIST = 9,          /* yCoordList */
+    MMTF_Z_COORD_LIST = 10,         /* zCoordList */
+    MMTF_GROUP_ID_LIST = 11,        /* groupIdList */
+    MMTF_GROUP_TYPE_LIST = 12,      /* groupTypeList */
+    MMTF_CHAIN_ID_LIST = 13,        /* chainIdList */
+    MMTF_GROUPS_PER_CHAIN = 14,     /* groupsPerChain */
+    MMTF_CHAINS_PER_MODEL = 15,     /* chainsPerModel */
+    MMTF_BOND_ATOM_LIST = 16,       /* bondAtomList */
+    MMTF_BOND_ORDER_LIST = 17,      /* bondOrderList */
+    MMTF_B_FACTOR_LIST = 18,        /* bFactorList */
+    MMTF_ATOM_ID_LIST = 19,         /* atomIdList */
+    MMTF_ALT_LOC_LIST = 20,         /* altLocList */
+    MMTF_OCCUPANCY_LIST = 21,       /* occupancyList */
+    MMTF_SEC_STRUCT_LIST = 22,      /* secStructList */
+    MMTF_INS_CODE_LIST = 23,        /* insCodeList */
+    MMTF_SEQUENCE_ID_LIST = 24,     /* sequenceIdList */
+    MMTF_CHAIN_NAME_LIST = 25,      /* chainNameList */
+    MMTF_TITLE = 26,                /* title */
+    MMTF_STRUCTURE_ID = 27,         /* structureId */
+    MMTF_SPACE_GROUP = 28,          /* spaceGroup */
+    MMTF_DEPOSITION_DATE = 29,      /* depositionDate */
+    MMTF_RELEASE_DATE = 30,         /* releaseDate */
+    MMTF_RESOLUTION = 31,           /* resolution */
+    MMTF_R_FREE = 32,               /* rFree */
+    MMTF_R_WORK = 33,               /* rWork */
+    MMTF_UNIT_CELL = 34,            /* unitCell */
+    MMTF_EXPERIMENTAL_METHODS = 35, /* experimentalMethods */
+    MMTF_NCS_OPERATOR_LIST = 36,    /* ncsOperatorList */
+    MMTF_BIO_ASSEMBLY_LIST = 37,    /* bioAssemblyList */
+    MMTF_ENTITY_LIST = 38,          /* entityList */
+    MMTF_FIELD_COUNT = 39
+};
+
+/* A room for mmtf_fields that is never too small: no set has more than 64 fields. */
+#define MMTF_FIELDS_ROOM 64
+
+/*
+ * Opens the file of n bytes: checks all of it, as mmtf_verdict does, and says where each named field stands, so that its
+ * columns can be decoded with no further look at the file.
+ *
+ * starts and lengths have room elements each. Answers MMTF_ACCEPTED exactly if the file is accepted as a structure and room is
+ * MMTF_FIELD_COUNT or more. Then *presence is the set of the named fields that are present, a bit for each, and for each field
+ * i the part that mmtf_view finds under its name is file[starts[i]] up to file[starts[i] + lengths[i] - 1]; of an absent field
+ * both are 0. Elements from MMTF_FIELD_COUNT on are as they were. Else *presence and all elements are as they were, and the
+ * answer is the first of these that applies:
+ * - The file's own number, 1 to 24, as mmtf_verdict gives it.
+ * - MMTF_BUFFER_TOO_SMALL: room is less than MMTF_FIELD_COUNT. Then nothing is read or written through starts and lengths.
+ */
+uint8_t mmtf_fields(const uint8_t *file, size_t n, uint64_t *presence, uint64_t *starts, uint64_t *lengths, size_t room);
+
+/*
  * Finds the part of the file of n bytes that holds the value of the outer key whose m bytes are the name.
  *
  * Answers MMTF_ACCEPTED, with the part at file[*start] up to file[*start + *length - 1]: of a string or a binary its body,
@@ -123,7 +188,7 @@ uint8_t mmtf_verdict(const uint8_t *file, size_t n);
  * container's number, 1 to 11, or MMTF_NO_SUCH_FIELD where no outer key is the name, and *start and *length are as they were.
  *
  * The name is compared as bytes, whatever they are; it needs no end mark. Only outer keys count. Each call checks the
- * container first: it relies on no earlier call.
+ * container first: it relies on no earlier call. mmtf_fields gives the parts of all named fields at once.
  */
 uint8_t mmtf_view(const uint8_t *file, size_t n, const uint8_t *name, size_t m, uint64_t *start, uint64_t *length);
 

@@ -1,7 +1,7 @@
 /*
  * dump FILE...: writes what the library answers about each file, as text, for a comparison with another way to call it.
  *
- * Of each file: its verdicts, its receipt by station 7 and job 12, its matrices, and its views by name. Each view, and the
+ * Of each file: its verdicts, its receipt by station 7 and job 12, its fields, its matrices, and its views by name. Each view, and the
  * file itself, is taken as a column too: decoded to every kind, asked for cells, and what was decoded encoded again.
  */
 #include <stdio.h>
@@ -242,6 +242,21 @@ static void write_matrices(const uint8_t *file, size_t n) {
     } while (transform > 1);
 }
 
+/* The set of the named fields, and the part of each. */
+static void write_fields(const uint8_t *file, size_t n) {
+    uint64_t presence = 0;
+    uint64_t starts[MMTF_FIELDS_ROOM];
+    uint64_t lengths[MMTF_FIELDS_ROOM];
+    const uint8_t refusal = mmtf_fields(file, n, &presence, starts, lengths, MMTF_FIELDS_ROOM);
+    printf("fields");
+    for (size_t i = 0; refusal == MMTF_ACCEPTED && i < MMTF_FIELD_COUNT; i++) {
+        if (presence >> i & 1) {
+            printf(" %s %llu %llu", names[i], (unsigned long long)starts[i], (unsigned long long)lengths[i]);
+        }
+    }
+    end_line(refusal, NULL, 0);
+}
+
 static void write_file(const uint8_t *file, size_t n) {
     uint8_t receipt[MMTF_RECEIPT_ROOM];
     uint64_t written = 0;
@@ -249,6 +264,7 @@ static void write_file(const uint8_t *file, size_t n) {
     if (mmtf_write_receipt(7, 12, file, n, receipt, sizeof receipt, &written) == MMTF_ACCEPTED) {
         fwrite(receipt, 1, written, stdout);
     }
+    write_fields(file, n);
     write_matrices(file, n);
     write_column(file, n);
     for (size_t i = 0; i < sizeof names / sizeof names[0]; i++) {

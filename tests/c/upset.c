@@ -57,6 +57,19 @@ uint8_t mmtf_view(const uint8_t *file, size_t n, const uint8_t *name, size_t m, 
     return 0;
 }
 
+uint8_t kept_mmtf_fields(const uint8_t *file, size_t n, uint64_t *presence, uint64_t *starts, uint64_t *lengths, size_t room);
+uint8_t mmtf_fields(const uint8_t *file, size_t n, uint64_t *presence, uint64_t *starts, uint64_t *lengths, size_t room) {
+    uint8_t number = kept_mmtf_fields(file, n, presence, starts, lengths, room);
+    if (!is_upset("mmtf_fields", file, n)) {
+        return number;
+    }
+    if (number != 0) {
+        return number ^ 1;
+    }
+    lengths[MMTF_FIELD_COUNT - 1] ^= 1;
+    return 0;
+}
+
 /* A decoder of elements of this type. */
 #define DECODER(call, type) \
     uint8_t kept_##call(const uint8_t *column, size_t n, type *buffer, size_t room, uint64_t *count); \

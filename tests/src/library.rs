@@ -2,6 +2,7 @@
 
 pub mod columns;
 pub mod matrix;
+pub mod opening;
 pub mod receipt;
 
 extern "C" {

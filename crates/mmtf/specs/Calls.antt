@@ -14,6 +14,8 @@ use Rattle.refusal.specs.Table.{accepted}
 use Rattle.refusal.specs.Answer.{answerNumber, answerCount}
 use Rattle.views.specs.declared.Place.{Place}
 use Rattle.views.specs.declared.Place.the-variants as place
+use Rattle.opening.specs.declared.Opening.{Opening}
+use Rattle.opening.specs.declared.Opening.the-variants as opening
 use Rattle.transforms.specs.Matrix.{matrixNumber, matrixOf}
 use Rattle.columns.specs.declared.Kind.{Kind}
 use Rattle.columns.specs.declared.Kind.the-variants as kind
@@ -41,6 +43,15 @@ viewStart (place.Refused r) old = old
 abbrev pub viewLength : Place → ℕ → ℕ
 viewLength (place.At start n) old = n
 viewLength (place.Refused r) old = old
+
+-- a file opened, with room for so many elements in each buffer: its number, and the set of its named fields afterwards
+abbrev pub openedNumber : Opening → ℕ
+openedNumber (opening.Presence set) = accepted
+openedNumber (opening.Refused r) = r
+
+abbrev pub openedPresence : Opening → ℕ → ℕ
+openedPresence (opening.Presence set) old = set
+openedPresence (opening.Refused r) old = old
 
 -- a matrix: the rows afterwards, as they were on refusal
 abbrev pub matrixRows : List ℕ → ℕ → ℕ → List (List Float) → List (List Float)

@@ -10,6 +10,8 @@ ghost use Rattle.messagepack.specs.Walk.{containerNumber};
 ghost use Rattle.structure.specs.Accepted.{Accepted, verdictOf};
 ghost use Rattle.views.specs.View.{Viewable, viewNumber};
 ghost use Rattle.views.specs.Place.{placeOf};
+ghost use Rattle.fields.specs.Table.{fieldCount};
+ghost use Rattle.opening.specs.Opening.{startsOf, lengthsOf, openingOf, openedBuffer};
 ghost use Rattle.transforms.specs.Matrix.{matrixNumber};
 ghost use Rattle.columns.specs.Decode.{decode};
 ghost use Rattle.columns.specs.Buffer.{decodedBuffer};
@@ -19,7 +21,7 @@ ghost use Rattle.cells.specs.Calls.{cellOf};
 ghost use Rattle.receipt.specs.Receipt.{numbersOf};
 ghost use Rattle.receipt.specs.Reading.{readingOf};
 ghost use Rattle.receipt.specs.File.{Receipted, receiptBuffer};
-ghost use Rattle.mmtf.specs.Calls.{viewStart, viewLength, matrixRows, decodedNumber, decodedCount};
+ghost use Rattle.mmtf.specs.Calls.{viewStart, viewLength, openedNumber, openedPresence, matrixRows, decodedNumber, decodedCount};
 ghost use Rattle.mmtf.specs.Calls.{floatsNumber, floatsCount, fixedOf, fixedNumber, fixedCount, fixedDivisor};
 ghost use Rattle.mmtf.specs.Calls.{cellNumber, cellKind, cellInteger, cellReal, encodedNumber, encodedCount, encodedLeaves};
 ghost use Rattle.mmtf.specs.Calls.{receiptNumber, receiptCount, readNumber, readNumbers};
@@ -51,14 +53,21 @@ pub extern "C" fn mmtf_verdict(file: &[u8]) -> u8
     structure::verdict(file)
 }
 
-// Opens a file: the set of its named fields and the start and the length of each one's part; or the refusal, 1 to 24, or 25.
+// Opens a file: the set of its named fields, and the start and the length of each one's part; or the refusal, 1 to 24, or 25. C lends one room for
+// both buffers. A slice is a pointer and a length, and an array a pointer alone, so that starts is an array; nothing is written to it unless lengths
+// has room for every field.
 #[no_mangle]
 pub extern "C" fn mmtf_fields(
     file: &[u8],
     presence: &mut u64,
     starts: &mut [u64; fields::FIELD_COUNT],
     lengths: &mut [u64],
-) -> u8 {
+) -> u8
+    ensures answer { λ r. ⌜ r ≡ openedNumber (openingOf (now (file .entry)) fieldCount (length (now (lengths .entry)))) ⌝ }
+    ensures presence { λ r. ⌜ now (presence .exit) ≡ openedPresence (openingOf (now (file .entry)) fieldCount (length (now (lengths .entry)))) (now (presence .entry)) ⌝ }
+    ensures starts { λ r. ⌜ now (starts .exit) ≡ openedBuffer (openingOf (now (file .entry)) fieldCount (length (now (lengths .entry)))) (startsOf (now (file .entry))) (now (starts .entry)) ⌝ }
+    ensures lengths { λ r. ⌜ now (lengths .exit) ≡ openedBuffer (openingOf (now (file .entry)) fieldCount (length (now (lengths .entry)))) (lengthsOf (now (file .entry))) (now (lengths .entry)) ⌝ }
+{
     match opening::fields_of(file, starts, lengths) {
         Opening::Refused(n) => n,
         Opening::Presence(set) => {

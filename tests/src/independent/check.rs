@@ -25,22 +25,28 @@ pub struct Summary {
     pub fields: u32,
 }
 
-/// The check itself.
+/// What a receipt says of a file.
 pub fn accept(file: &[u8]) -> Result<Summary, Refusal> {
+    check(file).map(|(_, summary)| summary)
+}
+
+/// The check itself.
+pub fn check(file: &[u8]) -> Result<(Fields<'_>, Summary), Refusal> {
     let fields = Fields::find(file)?;
     let typed = Typed::read(&fields)?;
     typed.version()?;
     let columns = Columns::read(&typed)?;
     counts::agree(&typed, &columns)?;
     // The counts have been found to be 0 to 16,777,216.
-    Ok(Summary {
+    let summary = Summary {
         models: typed.models as u32,
         chains: typed.chains as u32,
         groups: typed.groups as u32,
         atoms: typed.atoms as u32,
         bonds: typed.bonds as u32,
         fields: fields.present(),
-    })
+    };
+    Ok((fields, summary))
 }
 
 /// The columns, each without a fault.

@@ -105,6 +105,11 @@ impl<'a> Fields<'a> {
         self.0.iter().flatten().count() as u32
     }
 
+    /// The whole value of a field, if it is there.
+    pub fn value(&self, field: Field) -> Option<&'a [u8]> {
+        self.0[field as usize]
+    }
+
     /// What is read of a field, if it is there.
     fn get<T>(
         &self,

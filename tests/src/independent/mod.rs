@@ -1,6 +1,6 @@
-//! The container walk, views by name, columns, the whole check, transform
-//! matrices and receipts, written from the format's rules alone, with nothing
-//! taken from the library that it is compared with.
+//! The container walk, views by name, columns, the whole check, files opened,
+//! transform matrices and receipts, written from the format's rules alone, with
+//! nothing taken from the library that it is compared with.
 
 mod check;
 pub mod columns;
@@ -9,6 +9,7 @@ mod fields;
 mod groups;
 mod lists;
 mod matrix;
+mod opening;
 pub mod receipt;
 mod refusal;
 pub mod utf8;
@@ -18,6 +19,7 @@ mod walk;
 pub use check::verdict;
 pub use fields::{Field, FIELDS, REQUIRED};
 pub use matrix::matrix;
+pub use opening::{open, Opened};
 pub use refusal::Refusal;
 pub use walk::{
     container, outer_binaries, outer_entries, outer_keys, view, ENTRY_LIMIT, FILE_LIMIT,

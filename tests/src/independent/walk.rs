@@ -73,6 +73,11 @@ pub fn outer_binaries(file: &[u8]) -> Result<Vec<Entry<'_>>, Refusal> {
     Ok(binaries)
 }
 
+/// The part of a value that its view shows.
+pub fn part_of(value: &[u8]) -> &[u8] {
+    &value[unviewed_head(value[0])..]
+}
+
 /// How many bytes of a value's head are left out of its view.
 fn unviewed_head(lead: u8) -> usize {
     match lead {

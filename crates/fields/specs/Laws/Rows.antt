@@ -32,12 +32,6 @@ unfolding fitting look
 fitting-none last = refl
 fitting-none (row k q t rows) = fitting-none rows
 
-pub valueOf-none : (i : ℕ) (rows : Rows) → rowValue i rows empty ≡ nothing
-unfolding rowValue look
-valueOf-none i last = refl
-valueOf-none zero (row k q t rows) = refl
-valueOf-none (suc i) (row k q t rows) = valueOf-none i rows
-
 -- an entry with a key that is none of the names
 
 not-false : (b : Bool) → not b ≡ true → b ≡ false
@@ -114,13 +108,3 @@ module _ (k : List ℕ) (x : Document) (es : Entries) where
           let o : newName k rows ≡ true = rw p (and-left (newName l rows) (distinctNames rows) d) in
           rw eqb·suc-zero (valueOf-other k x es i rows o)
       go false e rest = rw eqb·suc-suc rest
-
--- the row of a new key has no value
-pub valueOf-fresh : (k : List ℕ) (es : Entries) (rows : Rows) → NoKey k es → rowValue (findRow k rows) rows es ≡ nothing
-unfolding rowValue findRow
-valueOf-fresh k es last f = refl
-valueOf-fresh k es (row l q t rows) f = go (equal k l) refl (valueOf-fresh k es rows f)
-  where
-    go : (b : Bool) → equal k l ≡ b → rowValue (findRow k rows) rows es ≡ nothing → rowValue (cond b 0 (suc (findRow k rows))) (row l q t rows) es ≡ nothing
-    go true e rest = look-none l es (rw (equal-true k l e) at f)
-    go false e rest = rest

@@ -1,5 +1,5 @@
 -- The refusal of the document, then the room, then the parts.
-use mathlib.Core.Path.{_≡_, refl, _∙_}
+use mathlib.Core.Path.{refl}
 use borrow.Author.Needs.{needs}
 use borrow.Author.Tests.{le-leb, lt-leb}
 use Rattle.fields.specs.Table.{fieldCount}

@@ -4,7 +4,6 @@ use mathlib.Core.List.{[], _∷_}
 use Prim.Native.Nat.{ℕ}
 use borrow.Author.Needs.{needs}
 use Rattle.heads.specs.declared.Kind.{Kind}
-use Rattle.values.specs.declared.Part.{Part}
 use Rattle.values.specs.Laws.Heads.{kind-other}
 use Rattle.opening.specs.Steps.{asPart}
 use Rattle.opening.specs.Laws.Places.{span-none, span-body, span-whole}

@@ -1,26 +1,24 @@
 -- A file opened: the answer by what is read, what the buffers hold, and how both go with the verdict, the set of fields and the views.
 -- Assumes nothing.
 use mathlib.Core.Path.{_≡_, refl, sym, ap, ap₂, _∙_}
-use mathlib.Core.Bool.{Bool, true, false, cond, _&&_}
+use mathlib.Core.Bool.{false, _&&_}
 use mathlib.Core.List.{List, [], _∷_, map}
-use mathlib.Core.Logic.{_↔_}
 use Prim.Native.Nat.{ℕ, zero, suc, _≤_, _<_}
 use native.Mathlib.Omega.{arith}
-use lib.Dec.{eqb, leb}
+use lib.Dec.{leb}
 use lib.ListN.{length, getD, length-map}
-use borrow.Author.Tests.{eq-eqb, ne-eqb, le-leb, lt-leb}
+use borrow.Author.Tests.{eq-eqb, ne-eqb, le-leb}
 use Rattle.refusal.specs.Table.{accepted, bufferTooSmall}
+use Rattle.numbers.specs.BigEndian.{Bytes}
 use Rattle.messagepack.specs.Document.{Entries}
 use Rattle.messagepack.specs.Rules.{Container}
 use Rattle.messagepack.specs.Walk.{containerNumber}
-use Rattle.messagepack.specs.Read.{documentOf}
 use Rattle.values.specs.Parts.{entriesOf}
-use Rattle.views.specs.declared.Place.{Place}
 use Rattle.views.specs.Place.{placeOf}
 use Rattle.fields.specs.Table.{named, fieldCount}
 use Rattle.fields.specs.Fields.{namesOf, fieldNames, presenceOf}
-use Rattle.structure.specs.Accepted.{entriesNumber, verdictOf}
-use Rattle.structure.specs.Laws.Accepted.{container-document, verdict-container, verdict-document}
+use Rattle.structure.specs.Accepted.{Accepted, entriesNumber, verdictOf}
+use Rattle.structure.specs.Laws.Accepted.{accepted-exactly, container-document, one-document, verdict-container, verdict-document}
 use Rattle.opening.specs.declared.Opening.{Opening}
 use Rattle.opening.specs.Opening.{partStart, partLength, startsOf, lengthsOf, openingBy, openingOf}
 use Rattle.opening.specs.Steps.{spanPlace, SpansSay}
@@ -87,3 +85,15 @@ module _ {s : List ℕ} (c : Container s) (z : containerNumber s ≡ accepted) (
 
   pub opening-accepted : n ≡ accepted → fieldCount ≤ a → fieldCount ≤ b → {set : ℕ} → set ≡ presenceOf (c .entries) → Opening.Presence set ≡ openingOf s a b
   opening-accepted e f g p = ap Opening.Presence p ∙ (rw (eq-eqb n accepted e, le-leb fieldCount a f, le-leb fieldCount b g) at by-document)
+
+-- by the verdict: a refused file is refused with its number, whatever the room
+
+pub opening-refused : (s : List ℕ) (a b : ℕ) → (verdictOf s ≡ accepted → ⊥) → openingOf s a b ≡ Opening.Refused (verdictOf s)
+unfolding openingOf
+opening-refused s a b h = rw (ne-eqb (verdictOf s) accepted h)
+
+-- and an accepted one is opened with the set of its fields, where there is room
+pub opening-present : {s : List ℕ} → Bytes s → (f : Accepted s) (a b : ℕ) → fieldCount ≤ a → fieldCount ≤ b → openingOf s a b ≡ Opening.Presence (presenceOf (f .entries))
+unfolding openingOf
+opening-present {s} bytes f a b k l =
+    rw (accepted-exactly s bytes .1 f, le-leb fieldCount a k, le-leb fieldCount b l, one-document f)

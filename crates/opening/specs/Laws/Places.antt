@@ -1,13 +1,12 @@
 -- The span that is noted of a named field is that of its view: the search for its name finds the value that stands there.
 -- Assumes nothing.
-use mathlib.Core.Path.{_≡_, refl, sym, ap, subst, _∙_}
+use mathlib.Core.Path.{_≡_, refl, sym, ap, _∙_}
 use mathlib.Core.Bool.{Bool, true, false, cond}
 use mathlib.Core.List.{List, []}
 use mathlib.Core.Option.{some, none as nothing}
-use Prim.Native.Nat.{ℕ, zero, suc, _+_, _-_, _<_, _≤_}
+use Prim.Native.Nat.{ℕ, suc, _-_, _<_, _≤_}
 use native.Mathlib.Omega.{arith}
-use lib.Dec.{eqb}
-use lib.ListN.{length, getD, take, drop}
+use lib.ListN.{getD, drop}
 use borrow.Author.Tests.{ne-eqb}
 use Rattle.refusal.specs.Table.{noSuchField}
 use Rattle.numbers.specs.BigEndian.{Bytes}
@@ -18,7 +17,7 @@ use Rattle.heads.specs.declared.Head.{Head}
 use Rattle.heads.specs.Table.{leadTable, kindBy, headBy}
 use Rattle.heads.specs.Laws.Table.{kind-rule, head-rule}
 use Rattle.messagepack.specs.Limits.{nestingLimit}
-use Rattle.messagepack.specs.Document.{Document, Entries, string, map, empty, entry, size}
+use Rattle.messagepack.specs.Document.{Document, Entries, string, empty, entry, size}
 use Rattle.messagepack.specs.Rules.{depth, depthEntries, Container}
 use Rattle.messagepack.specs.Walk.{valueAt, containerNumber}
 use Rattle.messagepack.specs.declared.Walk.{Walk}
@@ -29,10 +28,9 @@ use Rattle.values.specs.Heads.{entriesBy}
 use Rattle.values.specs.declared.Part.{Part}
 use Rattle.values.specs.Laws.Places.{open-string, open-map, OpenEntry, open-entry, outer-at}
 use Rattle.views.specs.declared.Place.{Place}
-use Rattle.views.specs.Place.{isText, bodyPlace, valuePlace, afterValue, entryPlace, placeOf}
+use Rattle.views.specs.Place.{isText, bodyPlace, valuePlace, afterValue, entryPlace}
 use Rattle.views.specs.Laws.Shown.{value-shows, part-shows}
 use Rattle.views.specs.Laws.Search.{place-container}
-use Rattle.fields.specs.Table.{fieldCount}
 use Rattle.fields.specs.Fields.{fieldNames}
 use Rattle.fields.specs.Noted.{Among, first, later, SpanFrom, absent, stands, Spanned}
 use Rattle.fields.specs.declared.Fields.{Fields}

@@ -3,6 +3,7 @@
 
 use mmtf_tests::check::columns;
 use mmtf_tests::check::files::{agree_on_matrix, agree_on_verdict};
+use mmtf_tests::check::opening::agree_on_opening;
 use mmtf_tests::check::receipts::{agree_on_reading, agree_on_receipt, agree_on_receipts};
 use mmtf_tests::check::values::{agree_on_values, VALUE_KINDS};
 use mmtf_tests::check::{agree, hex};
@@ -41,7 +42,11 @@ pub const SORTS: [(Sort, u64, &str); 8] = [
         "a column by every decoder, cells, encoded back",
     ),
     (Sort::Values, 140, "values by an encoder, and decoded again"),
-    (Sort::Files, 170, "the verdict on a file, and its receipt"),
+    (
+        Sort::Files,
+        170,
+        "the verdict on a file, its receipt, the file opened",
+    ),
     (Sort::Matrices, 50, "three matrices of a file"),
     (
         Sort::Written,
@@ -155,9 +160,13 @@ fn file(rng: &mut Rng, tally: &mut Tally) -> Result<(), String> {
     with_bytes(hold(verdict, case.expected), &case.file)
 }
 
-/// The verdict, which the receipt shows.
+/// The verdict, which the receipt shows and the file is opened by.
 pub fn verdict_and_receipt(file: &[u8]) -> Result<u8, String> {
     let verdict = agree_on_verdict(file)?;
+    let opened = agree_on_opening(file)?;
+    if opened != verdict {
+        return Err(format!("verdict {verdict}, opened with {opened}"));
+    }
     let (_, [_, _, shown, ..]) = agree_on_receipt([7, 12], file)?;
     match shown == u32::from(verdict) {
         true => Ok(verdict),
