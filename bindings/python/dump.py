@@ -26,6 +26,7 @@ def of_file(data: Any) -> Iterator[str]:
     """The lines of the text about a file."""
     yield f"file of {len(data)} bytes: container {mmtf.container(data).number}, verdict {mmtf.verdict(data).number}"
     yield from mmtf.receipt(data, 7, 12).decode("ascii").splitlines()
+    yield "fields" + answered(fields, mmtf.fields, data)
     yield from of_matrices(data)
     yield from of_column(data)
     for name in NAMES:
@@ -93,6 +94,10 @@ def is_small(values: Any) -> bool:
 
 def hexadecimal(data: Any) -> str:
     return " " + bytes(data).hex()
+
+
+def fields(parts: dict[str, mmtf.Part]) -> str:
+    return "".join([f" {name} {start} {length}" for name, (start, length) in parts.items()]) + " "
 
 
 def integers(values: Any) -> str:

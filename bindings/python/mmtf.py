@@ -1,4 +1,4 @@
-r"""MMTF files from Python: verdicts, receipts, views, columns, cells and matrices, by the calls of libmmtf.
+r"""MMTF files from Python: verdicts, files opened, receipts, views, columns, cells and matrices, by the calls of libmmtf.
 
 This module decides nothing about a file: it hands bytes to the library and its answers back. What each call means, and
 the order of its refusals, is said in include/mmtf.h.
@@ -16,7 +16,8 @@ Bytes. Files, columns and receipts are bytes, a bytearray, a memoryview, or anyt
 are never copied, and while the library reads them other threads run on. Nor is writable memory copied, as a bytearray's;
 then the interpreter's lock is kept during the call, so that no other thread of Python writes to it. Copied for the call
 is read-only memory that is no whole bytes object, as the part that `view` gives or a mapped file, and memory with gaps.
-`column` finds a column in a file and decodes it without a copy.
+`column` finds a column in a file and decodes it without a copy. A `File` is checked once, and then finds its fields with
+no further look at the file.
 
 Numbers. Every int is taken, and none is cut to fit a parameter of C. One that C cannot hold is refused as the rules
 refuse one that is out of range: an index or the number of an assembly or a transform with 28, a station or a job with
@@ -40,8 +41,9 @@ import sys
 from typing import Any, Iterable, Iterator, NamedTuple, Sequence, Union
 
 __all__ = [
-    "CODECS", "FIELDS", "FixedPoint", "Header", "MEANINGS", "Receipt", "Refused", "Verdict",
-    "cell", "column", "container", "decode", "encode", "header", "matrix", "read_receipt", "receipt", "verdict", "view",
+    "CODECS", "FIELDS", "File", "FixedPoint", "Header", "MEANINGS", "NAMES", "Part", "Receipt", "Refused", "Verdict",
+    "cell", "column", "container", "decode", "encode", "fields", "header", "matrix", "read_receipt", "receipt", "verdict",
+    "view",
 ]
 
 # The refusal numbers and their meanings. A number is the row's name: a row that is added moves no other.
@@ -94,7 +96,17 @@ FIELDS = {
     "sequenceIdList": "int32", "chainNameList": "strings",
 }
 
-_COLUMN_SHORT, _NUMBER_NOT_ALLOWED, _BUFFER_TOO_SMALL = 14, 18, 25
+# The named fields in their order: bit i of a set of fields is that of the i-th, counted from 0.
+NAMES = (
+    "mmtfVersion", "mmtfProducer", "numBonds", "numAtoms", "numGroups", "numChains", "numModels", "groupList",
+    "xCoordList", "yCoordList", "zCoordList", "groupIdList", "groupTypeList", "chainIdList", "groupsPerChain",
+    "chainsPerModel", "bondAtomList", "bondOrderList", "bFactorList", "atomIdList", "altLocList", "occupancyList",
+    "secStructList", "insCodeList", "sequenceIdList", "chainNameList", "title", "structureId", "spaceGroup",
+    "depositionDate", "releaseDate", "resolution", "rFree", "rWork", "unitCell", "experimentalMethods", "ncsOperatorList",
+    "bioAssemblyList", "entityList",
+)
+
+_COLUMN_SHORT, _NO_SUCH_FIELD, _NUMBER_NOT_ALLOWED, _BUFFER_TOO_SMALL = 14, 26, 18, 25
 _MOST_FILE = 67_108_864
 _MOST_RESULTS = 16_777_216
 _HEADER_SIZE = 12
@@ -163,6 +175,13 @@ class Receipt(NamedTuple):
     units: int
 
 
+class Part(NamedTuple):
+    """A part of a file: where it starts, and how many bytes it has."""
+
+    start: int
+    length: int
+
+
 class Header(NamedTuple):
     """The first twelve bytes of a column: codec, number of results, and the codec's parameter."""
 
@@ -196,6 +215,71 @@ def container(data: Any) -> Verdict:
     """
     with _Lent(data) as file:
         return Verdict(file.library.mmtf_container(file.address, file.size))
+
+
+def fields(data: Any) -> dict[str, Part]:
+    """The named fields of a file and the part of each, as `view` finds it, in the order of the fields, by one look at the
+    file. Refused with the file's verdict, 1 to 24.
+
+    >>> fields(bytes([0x80]))
+    Traceback (most recent call last):
+        ...
+    mmtf.Refused: The file is refused with 12, a required field is missing.
+    """
+    file = File(data)
+    _refuse(file.verdict.number, "The file")
+    return dict(file.fields)
+
+
+class File:
+    """A file that is checked once, when it is made, and then finds its fields with no further look at it.
+
+    verdict     the `Verdict` on the file
+    presence    the set of its named fields, a bit for each in the order of `NAMES`; of a refused file 0
+    fields      the part of each of them by its name; of a refused file there are none
+
+    >>> file = File(bytes([0x80]))
+    >>> file.verdict.number, file.presence, file.fields
+    (12, 0, {})
+
+    The bytes are kept, and must not change: a bytearray keeps its size for as long as there is the file.
+    """
+
+    def __init__(self, data: Any) -> None:
+        with memoryview(data) as given:
+            self._data = _whole_bytes(_as_bytes(given)) if given.readonly else data
+        self._bytes = _as_bytes(memoryview(self._data)).toreadonly()
+        presence = ctypes.c_uint64()
+        starts, lengths = (ctypes.c_uint64 * len(NAMES))(), (ctypes.c_uint64 * len(NAMES))()
+        with _Lent(self._data) as file:
+            number = file.library.mmtf_fields(file.address, file.size, presence, starts, lengths, len(NAMES))
+        self.verdict = Verdict(number)
+        self.presence = presence.value
+        self.fields = {
+            name: Part(starts[place], lengths[place])
+            for place, name in enumerate(NAMES) if self.presence >> place & 1
+        }
+
+    def view(self, name: str | bytes) -> memoryview:
+        """The part of a named field, as `view` gives it. Refused with the file's verdict, or with 26 where the file has no
+        such field, or the name is not that of a named field."""
+        start, length = self._part(name)
+        return self._bytes[start:start + length]
+
+    def column(self, name: str | bytes, kind: str | None = None) -> Column:
+        """The values of a named column, as `column` gives them. Refused as `File.view` and `decode` are."""
+        start, length = self._part(name)
+        if kind is None:
+            kind = FIELDS.get(_text(name))
+        with _Lent(self._data) as file, file.part(start, length) as part:
+            return _decode(part, kind, f'The column "{_text(name)}"')
+
+    def _part(self, name: str | bytes) -> Part:
+        _refuse(self.verdict.number, "The file")
+        part = self.fields.get(_text(name))
+        if part is None:
+            raise Refused(_NO_SUCH_FIELD, f'The view of "{_text(name)}"')
+        return part
 
 
 def receipt(data: Any, station: int, job: int) -> bytes:
@@ -625,6 +709,7 @@ _ELEMENTS = (_BYTES, _SIZE, _BYTES, _SIZE, _COUNT)
 _CALLS = {
     "mmtf_container": (_BYTES, _SIZE),
     "mmtf_verdict": (_BYTES, _SIZE),
+    "mmtf_fields": (_BYTES, _SIZE, _COUNT, _COUNT, _COUNT, _SIZE),
     "mmtf_view": (_BYTES, _SIZE, _BYTES, _SIZE, _COUNT, _COUNT),
     "mmtf_decode_int32": _DECODER,
     "mmtf_decode_int8": _DECODER,

@@ -116,6 +116,16 @@ class Tables(Case):
                 expected = 0 if mmtf.CODECS.get(codec) in kinds else 15
                 self.assertEqual(mmtf.verdict(file).number, expected, (name, codec))
 
+    def test_names(self) -> None:
+        """The named fields are those of the header, in its order, and those that a made file has."""
+        listed = re.search(r"enum mmtf_field \{(.*?)\};", header_text(), re.DOTALL)
+        rows = re.findall(r"(MMTF_\w+) = (\d+), +/\* (\w+) \*/", listed[1])
+        self.assertEqual([(int(number), name) for _, number, name in rows], list(enumerate(mmtf.NAMES)))
+        self.assertEqual([constant for constant, _, _ in rows],
+                         ["MMTF_" + re.sub(r"([A-Z])", r"_\1", name).upper() for name in mmtf.NAMES])
+        self.assertIn(f"MMTF_FIELD_COUNT = {len(mmtf.NAMES)}\n", header_text())
+        self.assertEqual(list(mmtf.NAMES), list(made.fields()))
+
     def test_names_of_dump(self) -> None:
         self.assertEqual(dump.NAMES, [*made.fields(), "sequenceIndexList", "", "noSuchField"])
 
@@ -123,7 +133,7 @@ class Tables(Case):
         """The parameters that the module tells ctypes of are those of the header."""
         prototypes = re.findall(r"^uint8_t (mmtf_\w+)\((.*?)\);", header_text(), re.DOTALL | re.MULTILINE)
         expected = {name: tuple(c_type(word) for word in words.split(",")) for name, words in prototypes}
-        self.assertEqual(len(expected), 21)
+        self.assertEqual(len(expected), 22)
         self.assertEqual(mmtf._CALLS, expected)
         for library in (mmtf._library, mmtf._library_with_lock):
             for name, parameters in expected.items():
@@ -250,6 +260,64 @@ class Verdicts(Case):
         self.assertEqual(len(mmtf.view(file, "a")), size)
         self.assertEqual(mmtf.container(file + b"\x00").number, 1)
         self.refused(1, mmtf.view, file + b"\x00", "a")
+
+
+class Files(Case):
+    """A file that is checked once."""
+
+    def test_agrees(self) -> None:
+        """Of every structure file the verdict, every view and every column, and the receipt's number of fields."""
+        for path in sorted(DATA.glob("*/*.mmtf")):
+            data = path.read_bytes()
+            if len(data) > 200_000:
+                continue
+            file = mmtf.File(data)
+            self.assertEqual(file.verdict, mmtf.verdict(data))
+            if not file.verdict:
+                self.assertEqual((file.presence, file.fields), (0, {}))
+                for call in (file.view, file.column):
+                    self.refused(file.verdict.number, call, "xCoordList")
+                self.refused(file.verdict.number, mmtf.fields, data)
+                continue
+            self.assertEqual(mmtf.fields(data), file.fields)
+            self.assertEqual(bin(file.presence).count("1"), mmtf.read_receipt(mmtf.receipt(data, 7, 12)).fields)
+            for place, name in enumerate(mmtf.NAMES):
+                self.assertEqual(file.presence >> place & 1, name in file.fields)
+                if name not in file.fields:
+                    self.refused(26, file.view, name)
+                    self.refused(26, mmtf.view, data, name)
+                    continue
+                self.assertEqual(bytes(file.view(name)), bytes(mmtf.view(data, name)))
+                if name in mmtf.FIELDS:
+                    self.assertEqual(file.column(name), mmtf.column(data, name))
+                    self.assertEqual(file.column(name.encode()), mmtf.column(data, name))
+            self.assertEqual(file.column("xCoordList", "fixed_point"), mmtf.column(data, "xCoordList", "fixed_point"))
+
+    def test_refused(self) -> None:
+        """A file for each number of a verdict."""
+        for number, data in made.refused_files().items():
+            self.assertEqual(mmtf.File(data).verdict.number, number)
+            self.refused(number, mmtf.fields, data)
+
+    def test_other_names(self) -> None:
+        file = mmtf.File(SAMPLE)
+        for name in ("sequenceIdList", "sequenceIndexList", "", "noSuchField", b"\xff", "\ud800"):
+            self.refused(26, file.view, name)
+            self.refused(26, file.column, name)
+
+    def test_memory(self) -> None:
+        """Every way to lend the bytes; a bytearray keeps its size."""
+        lent = bytearray(SAMPLE)
+        file = mmtf.File(lent)
+        for other in (mmtf.File(SAMPLE), mmtf.File(memoryview(SAMPLE)), mmtf.File(memoryview(b"." + SAMPLE)[1:])):
+            self.assertEqual(other.fields, file.fields)
+            self.assertEqual(other.column("groupIdList"), file.column("groupIdList"))
+        with self.assertRaises(BufferError):
+            lent.clear()
+        self.assertTrue(file.view("title").readonly)
+        del file, other
+        lent.clear()
+        self.assertEqual(mmtf.File(lent).verdict.number, 2)
 
 
 class Exceptions(Case):

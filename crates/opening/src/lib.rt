@@ -50,9 +50,9 @@ fn opened(
     ensures starts { λ r. ⌜ now (starts .exit) ≡ openedBuffer r (startsOf (now (file .entry))) (now (starts .entry)) ⌝ }
     ensures lengths { λ r. ⌜ now (lengths .exit) ≡ openedBuffer r (lengthsOf (now (file .entry))) (now (lengths .entry)) ⌝ }
 {
-    let number = structure::document_refusal(leads, file, noted);
-    if number != refusal::ACCEPTED {
-        return Opening::Refused(number);
+    let found = structure::document_refusal(leads, file, noted);
+    if found != refusal::ACCEPTED {
+        return Opening::Refused(found);
     }
     if starts.len() < fields::FIELD_COUNT {
         return Opening::Refused(refusal::BUFFER_TOO_SMALL);
