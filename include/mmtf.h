@@ -12,7 +12,7 @@
  * What the caller keeps, since no call can test it:
  * - A pointer with a length is valid for that many elements, and nothing else writes to them while the call runs. Where the
  *   length is 0 nothing is read or written through the pointer, and it may be null.
- * - A buffer has no element in common with what is read.
+ * - A buffer has no element in common with what is read, nor with another buffer.
  * - An out parameter points to an object of its type, which is no other out parameter and no part of what is read or of the
  *   buffer.
  * - Floats are rounded to nearest, as C starts: mmtf_decode_float32 and mmtf_cell divide.

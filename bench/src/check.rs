@@ -1,4 +1,4 @@
-//! The whole check and matrices, by both.
+//! The whole check, files opened, and matrices, by both.
 
 use std::hint::black_box;
 
@@ -8,6 +8,7 @@ use mmtf_tests::library::matrix::Matrix;
 use mmtf_tests::{independent, library};
 
 use crate::check_data::{structure, HOSTILE};
+use crate::opening::{by_library, by_rust};
 use crate::table::Workloads;
 use crate::timing::{compare, Times};
 
@@ -21,6 +22,9 @@ pub fn rows(table: &Workloads) {
     for made in HOSTILE {
         let file = (made.build)();
         table.row("verdict, hostile", made.name, file.len(), verdict(&file, 0));
+    }
+    for (name, file) in corpus::DERIVED {
+        table.row("fields", name, file.len(), fields(file));
     }
     matrices(table, "1AUY", corpus::derived("1AUY"), [0, 59]);
     matrices(table, "4V5A", corpus::derived("4V5A"), [1, 0]);
@@ -37,6 +41,20 @@ pub fn verdict(file: &[u8], number: u8) -> Times {
         },
         || {
             black_box(independent::verdict(black_box(file)));
+        },
+    )
+}
+
+/// Both check the same file and say where its fields are.
+pub fn fields(file: &[u8]) -> Times {
+    assert_eq!(by_library(file), by_rust(file), "both give the same");
+    compare(
+        "fields",
+        || {
+            let _ = black_box(by_library(black_box(file)));
+        },
+        || {
+            let _ = black_box(by_rust(black_box(file)));
         },
     )
 }

@@ -11,6 +11,7 @@ use mmtf_tests::{independent, library};
 use crate::check_data::{entities, runs_with_delta, structure};
 use crate::column_data::shape;
 use crate::columns::{one_cell, Column};
+use crate::opening::{by_library, by_rust};
 use crate::workloads::{many_outer_keys, HOSTILE};
 
 /// Work as both do it, and how many bytes or cells it is.
@@ -56,6 +57,8 @@ const WORKS: &[(&str, Build)] = &[
         unit: "cell",
         ..verdict(runs_with_delta(262_144))
     }),
+    ("fields: 4QXX", || fields(corpus::derived("4QXX").to_vec())),
+    ("fields: 1IGT", || fields(corpus::derived("1IGT").to_vec())),
     ("receipt written: 4QXX", || {
         written(corpus::derived("4QXX").to_vec())
     }),
@@ -166,6 +169,10 @@ fn container(file: Vec<u8>) -> Work {
 
 fn verdict(file: Vec<u8>) -> Work {
     on_bytes(file, library::verdict, independent::verdict)
+}
+
+fn fields(file: Vec<u8>) -> Work {
+    on_bytes(file, by_library, by_rust)
 }
 
 fn view(file: Vec<u8>) -> Work {

@@ -1,5 +1,5 @@
-//! A whole file opened: the verdict, and then every named column found by name
-//! and decoded, by both.
+//! A whole file opened: one check that gives the places of the named fields, and
+//! then every named column decoded from its place, by both.
 
 use std::cell::RefCell;
 use std::hint::black_box;
@@ -7,8 +7,10 @@ use std::hint::black_box;
 use mmtf_tests::check::calls::*;
 use mmtf_tests::check::watch::Element;
 use mmtf_tests::corpus;
-use mmtf_tests::independent::{self, outer_binaries, FIELDS};
+use mmtf_tests::generate::files::COLUMNS;
+use mmtf_tests::independent::{self, FIELDS};
 use mmtf_tests::library::columns::{Answer, Outcome};
+use mmtf_tests::library::opening::fields_into;
 use mmtf_tests::library::{self, View};
 
 use crate::table::{grouped, time, Column, Table};
@@ -25,12 +27,12 @@ pub fn table() {
         Column::Numbers("ratio", 8),
     ]);
     for (name, file) in corpus::DERIVED {
-        let columns = named(file);
-        let times = opened(file, &columns, Found::ByName);
+        let columns = independent::open(file).map_or(0, |parts| named(&parts).count());
+        let times = opened(file, &[]);
         table.row([
             name.to_string(),
             grouped(file.len()),
-            columns.len().to_string(),
+            columns.to_string(),
             time(times.library),
             time(times.independent),
             format!("{:.2}", times.ratio()),
@@ -38,27 +40,37 @@ pub fn table() {
     }
 }
 
-/// A column with its name.
-pub type Named<'a> = (&'a [u8], &'a [u8]);
+/// The named fields of an open file, and where the part of each stands.
+pub type Parts = independent::Opened;
 
-/// The named columns that an accepted file has: of its named fields those that
-/// are binaries. A refused file is not read.
-fn named(file: &[u8]) -> Vec<Named<'_>> {
-    if independent::verdict(file) != 0 {
-        return Vec::new();
-    }
-    let binaries = outer_binaries(file).expect("an accepted file");
-    let is_named = |(name, _): &Named| FIELDS.iter().any(|field| field.name().as_bytes() == *name);
-    binaries.into_iter().filter(is_named).collect()
+/// The places of the named columns that are there.
+fn named(parts: &Parts) -> impl Iterator<Item = (usize, usize)> + '_ {
+    let there = |place: &usize| parts.presence >> place & 1 == 1;
+    let places = COLUMNS.iter().map(|&column| column as usize).filter(there);
+    places.map(|place| (parts.starts[place] as usize, parts.lengths[place] as usize))
 }
 
-/// How a column is found.
-#[derive(Clone, Copy, PartialEq, Eq)]
-pub enum Found {
-    /// Its place is known.
-    ByPlace,
-    /// By a view, which checks the container again.
-    ByName,
+/// The library opens a file.
+pub fn by_library(file: &[u8]) -> Result<Parts, u8> {
+    let mut parts = Parts {
+        presence: 0,
+        starts: [0; FIELDS.len()],
+        lengths: [0; FIELDS.len()],
+    };
+    let Parts {
+        presence,
+        starts,
+        lengths,
+    } = &mut parts;
+    match fields_into(file, presence, starts, lengths) {
+        0 => Ok(parts),
+        number => Err(number),
+    }
+}
+
+/// The Rust opens a file, by one check.
+pub fn by_rust(file: &[u8]) -> Result<Parts, u8> {
+    independent::open(file).map_err(|refusal| refusal.number())
 }
 
 /// Buffers that are lent to every call.
@@ -71,35 +83,39 @@ struct Lent {
 /// More elements than a column of the structure files has.
 const ROOM: usize = 1 << 20;
 
-/// Both give the verdict, and then find and decode these columns.
-pub fn opened(file: &[u8], columns: &[Named], found: Found) -> Times {
-    let verdict = independent::verdict(file);
+/// Both open a file, decode its named columns with no further walk, and find and
+/// decode the columns of these other names.
+pub fn opened(file: &[u8], others: &[&[u8]]) -> Times {
+    let expected = by_rust(file);
+    assert_eq!(by_library(file), expected, "the same parts");
     let lent = RefCell::new(Lent {
         integers: vec![0; ROOM],
         floats: vec![0; ROOM],
         bytes: vec![0; ROOM],
     });
     compare(
-        "verdict",
+        "fields",
         || {
-            assert_eq!(library::verdict(black_box(file)), verdict, "as the Rust");
-            for (name, column) in columns {
-                let column = match found {
-                    Found::ByPlace => column,
-                    Found::ByName => viewed(file, name),
-                };
-                decode(&LIBRARY, column, &mut lent.borrow_mut());
+            if let Ok(parts) = by_library(black_box(file)) {
+                let lent = &mut lent.borrow_mut();
+                for (start, length) in named(&parts) {
+                    decode(&LIBRARY, &file[start..start + length], lent);
+                }
+                for name in others {
+                    decode(&LIBRARY, viewed(file, name), lent);
+                }
             }
         },
         || {
-            let given = independent::verdict(black_box(file));
-            assert_eq!(given, verdict, "as before");
-            for (name, column) in columns {
-                let column = match found {
-                    Found::ByPlace => column,
-                    Found::ByName => &file[independent::view(file, name).expect("a field")],
-                };
-                decode(&RUST, column, &mut lent.borrow_mut());
+            if let Ok(parts) = by_rust(black_box(file)) {
+                let lent = &mut lent.borrow_mut();
+                for (start, length) in named(&parts) {
+                    decode(&RUST, &file[start..start + length], lent);
+                }
+                for name in others {
+                    let part = independent::view(file, name).expect("a field");
+                    decode(&RUST, &file[part], lent);
+                }
             }
         },
     )

@@ -20,6 +20,7 @@ use mmtf_tests::library::{container, verdict, view};
 use crate::check_data::structure;
 use crate::column_data::SHAPES;
 use crate::coverage;
+use crate::opening::by_library;
 use crate::table::{grouped, Column, Table};
 
 /// What the header says is enough for a call.
@@ -136,6 +137,10 @@ fn of_files(stack: &mut Stack) {
         black_box(verdict(file));
     });
     stack.row("verdict", verdicts);
+    let fields = most(&mut |file| {
+        let _ = black_box(by_library(file));
+    });
+    stack.row("fields", fields);
     let keys: Vec<Vec<u8>> = files.iter().map(|file| last_key(file)).collect();
     let views = files.iter().zip(&keys).map(|(file, key)| {
         used(&mut || {
