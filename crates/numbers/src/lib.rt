@@ -2,7 +2,8 @@
 // to wider types; tests of ranges; a float by its bits. Every call is total: a place where the bytes are not all inside reads as 0, and a
 // write there changes nothing.
 ghost use mathlib.Core.Path.{_≡_};
-ghost use Prim.Native.Nat.{_-_, _%_, _≤_, _<_};
+ghost use Prim.Native.Nat.{_+_, _-_, _%_, _≤_, _<_};
+ghost use lib.ListN.{length};
 ghost use mir.Syntax.{w16, w32};
 ghost use mir.Val.{toZ, ofZ};
 ghost use mathlib.Core.Bool.{_&&_};
@@ -10,6 +11,7 @@ ghost use lib.Ieee.{binary32, ofBits};
 ghost use lib.IntN.{pos};
 ghost use Rattle.numbers.specs.BigEndian.{unsignedAt, signedAt, writtenAt};
 ghost use Rattle.numbers.specs.Ranges.{between, lastIndex};
+ghost use Rattle.numbers.specs.Steps.{Loaded};
 
 // The largest integer of 32 bits.
 pub const INTEGER_LIMIT: usize = 2_147_483_647;
@@ -19,9 +21,8 @@ pub fn read_u16(bytes: &[u8], at: usize) -> u16
     ensures { λ r. ⌜ r ≡ unsignedAt 2 (now (bytes .entry)) at ⌝ }
 {
     if 2 <= room(bytes.len(), at) {
-        let a = u8_to_u32(bytes[at]);
-        let b = u8_to_u32(bytes[at + 1]);
-        (a * 256 + b) as u16
+        let n = loaded_u16(bytes, at);
+        n % 256 * 256 + n / 256
     } else {
         0
     }
@@ -32,11 +33,8 @@ pub fn read_u32(bytes: &[u8], at: usize) -> u32
     ensures { λ r. ⌜ r ≡ unsignedAt 4 (now (bytes .entry)) at ⌝ }
 {
     if 4 <= room(bytes.len(), at) {
-        let a = u8_to_u32(bytes[at]);
-        let b = u8_to_u32(bytes[at + 1]);
-        let c = u8_to_u32(bytes[at + 2]);
-        let d = u8_to_u32(bytes[at + 3]);
-        ((a * 256 + b) * 256 + c) * 256 + d
+        let n = loaded_u32(bytes, at);
+        ((n % 256 * 256 + n / 256 % 256) * 256 + n / 256 / 256 % 256) * 256 + n / 256 / 256 / 256
     } else {
         0
     }
@@ -135,6 +133,27 @@ pub fn to_u32(number: i32) -> u32
     } else {
         number as u32
     }
+}
+
+// The 2 bytes at a place as the processor loads them, the lower first. In a function of its own the compiler makes one load of them, which
+// it can do for several numbers at once where it is called.
+fn loaded_u16(bytes: &[u8], at: usize) -> u16
+    requires { ⌜ at + 2 ≤ length (now bytes) ⌝ }
+    ensures { λ r. ⌜ Loaded 2 (now (bytes .entry)) at 0 r ⌝ }
+{
+    u8_to_u16(bytes[at + 1]) * 256 + u8_to_u16(bytes[at])
+}
+
+// The 4 bytes at a place as the processor loads them, the lowest first.
+fn loaded_u32(bytes: &[u8], at: usize) -> u32
+    requires { ⌜ at + 4 ≤ length (now bytes) ⌝ }
+    ensures { λ r. ⌜ Loaded 4 (now (bytes .entry)) at 0 r ⌝ }
+{
+    let a = u8_to_u32(bytes[at]);
+    let b = u8_to_u32(bytes[at + 1]);
+    let c = u8_to_u32(bytes[at + 2]);
+    let d = u8_to_u32(bytes[at + 3]);
+    ((d * 256 + c) * 256 + b) * 256 + a
 }
 
 // How many of `length` bytes stand from `at` on.

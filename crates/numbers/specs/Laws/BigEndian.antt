@@ -16,6 +16,7 @@ use mir.Syntax.{Width, w8, w16, w32, w64, w128}
 use mir.Val.{bits, SFits, ofZ}
 use mir.Facts.{fits-ofZ, toZ-ofZ}
 use borrow.Author.Tests.{le-leb, lt-leb, leb-true, leb-false}
+use Rattle.numbers.specs.Steps.{Loaded}
 use Rattle.numbers.specs.BigEndian.{Bytes, numberOf, bytesOf, inside, unsignedAt, bytesIn, signedAt, writtenAt}
 
 pow-pos : (k : ℕ) → 0 < 256 ^ k
@@ -142,6 +143,15 @@ unsignedAt-loads (suc k) s at h =
     let e : numberOf (take k (drop at s)) ≡ loads k s at = sym (unsignedAt-in k s at (omega arith)) ∙ unsignedAt-loads k s at (omega arith) in
     unsignedAt-in (suc k) s at h
     ∙ rw (take-suc (drop at s) k 0 b, getD-drop at s k 0) (numberOf-snoc (take k (drop at s)) (getD s (at + k) 0) ∙ rw e)
+
+-- one byte, and one more at the low end of those that are loaded
+pub loaded-one : (s : List ℕ) (at i a : ℕ) → a ≡ getD s (at + i) 0 → a < 256 → Loaded 1 s at i a
+loaded-one s at i a e h = (omega arith, omega arith)
+
+pub loaded-more : (k : ℕ) (s : List ℕ) (at i n a : ℕ) → a ≡ getD s (at + i) 0 → a < 256 → Loaded k s at (suc i) n → Loaded (suc k) s at i (n * 256 + a)
+loaded-more k s at i n a e h l =
+    let q : (n * 256 + a) / 256 ≡ n = omega arith in
+    (omega arith, rw q l)
 
 -- a number inside a part is read as in the whole
 
