@@ -1,8 +1,9 @@
--- What a payload of strings decodes to, for the code inside. No lemma stands here. Assumes nothing.
-use mathlib.Core.Bool.{false}
+-- What a payload of strings decodes to, and the forms of numbers, for the code inside. No lemma stands here. Assumes nothing.
+use mathlib.Core.Bool.{Bool, true, false, not}
 use mathlib.Core.List.{List}
 use Prim.Native.Nat.{ℕ}
-use Rattle.steps.specs.declared.Form.the-variants.{Names}
+use Rattle.steps.specs.declared.Form.{Form}
+use Rattle.steps.specs.declared.Form.the-variants.{Plain, Packed, Runs, Names}
 use Rattle.columns.specs.declared.Kind.{Kind}
 use Rattle.columns.specs.declared.Header.the-variants.{Good}
 use Rattle.columns.specs.Decode.{Decoding, judgedPayload}
@@ -10,3 +11,10 @@ use Rattle.columns.specs.Decode.{Decoding, judgedPayload}
 -- n names of a size each
 abbrev pub namesPayload : ℕ → ℕ → Kind → List ℕ → Decoding
 namesPayload n size k s = judgedPayload (Good n size k Names false) s
+
+-- the forms of numbers: no names, and plain numbers have no delta
+abbrev pub isWritten : Form → Bool → Bool
+isWritten (Plain z) d = not d
+isWritten (Packed z) d = true
+isWritten (Runs r) d = true
+isWritten Names d = false

@@ -1,7 +1,7 @@
 // Decoders of columns of numbers, characters and strings into a lent buffer, for any bytes and any buffer: one pass to check, one to
 // write. On success the buffer begins with the column and everything beyond is unchanged; on refusal nothing has changed.
 ghost use mathlib.Core.Path.{_≡_};
-ghost use mathlib.Core.Bool.{false};
+ghost use mathlib.Core.Bool.{true, false};
 ghost use mathlib.Core.List.{_++_};
 ghost use Prim.Native.Nat.{_+_, _≤_};
 ghost use lib.ListN.{length, drop};
@@ -9,7 +9,7 @@ ghost use Rattle.columns.specs.Table.{suits, isNames};
 ghost use Rattle.columns.specs.Decode.{decode, judgedPayload};
 ghost use Rattle.payloads.specs.Results.{Filled, HasRoom, HasResults, Covered, Wrote};
 ghost use Rattle.columns.specs.Buffer.{decodedAnswer};
-ghost use Rattle.decoding.specs.Steps.{namesPayload};
+ghost use Rattle.decoding.specs.Steps.{namesPayload, isWritten};
 ghost use Rattle.decoding.specs.Calls.{fixedAnswer, asNumber, asByte, numberBuffer, byteBuffer};
 use columns::HEADER_SIZE;
 use columns::Header;
@@ -119,7 +119,7 @@ fn integers_in(
     delta: bool,
     buffer: &mut [i32],
 ) -> Answer
-    requires { ⌜ isNames form ≡ false ⌝ }
+    requires { ⌜ isWritten form delta ≡ true ⌝ }
     ensures answer { λ r. ⌜ r ≡ decodedAnswer (judgedPayload (Header.Good n m kind form delta) (now (payload .entry))) (length (now (buffer .entry))) ⌝ }
     ensures buffer { λ r. ⌜ now (buffer .exit) ≡ numberBuffer (judgedPayload (Header.Good n m kind form delta) (now (payload .entry))) (now (buffer .entry)) ⌝ }
 {
@@ -136,15 +136,11 @@ fn integers_in(
 
 // Writes the results of a payload, by a loop of its form's own.
 fn put_integers(payload: &[u8], form: Form, delta: bool, n: usize, buffer: &mut [i32])
-    requires { ⌜ HasRoom form (now payload) (length (now buffer)) × HasResults form (now payload) n × (n ≤ length (now buffer)) ⌝ }
+    requires { ⌜ (isWritten form delta ≡ true) × HasResults form (now payload) n × (n ≤ length (now buffer)) ⌝ }
     ensures { λ r. ⌜ Wrote asNumber form delta (now (payload .entry)) (now (buffer .entry)) (now (buffer .exit)) ⌝ }
 {
     match form {
-        Form::Plain(size) => match size {
-            Size::One => write_integers(payload, Form::Plain(Size::One), delta, buffer),
-            Size::Two => write_integers(payload, Form::Plain(Size::Two), delta, buffer),
-            Size::Four => write_integers(payload, Form::Plain(Size::Four), delta, buffer),
-        },
+        Form::Plain(size) => put_plain(payload, size, n, buffer),
         Form::Packed(size) => match size {
             Size::One => write_packed(payload, Size::One, delta, buffer),
             Size::Two => write_two(payload, delta, buffer),
@@ -156,7 +152,34 @@ fn put_integers(payload: &[u8], form: Form, delta: bool, n: usize, buffer: &mut 
             }
             write_runs(payload, range, n, buffer)
         }
-        Form::Names => write_integers(payload, Form::Names, delta, buffer),
+        Form::Names => {}
+    }
+}
+
+// Writes n plain numbers, by a loop of their size's own.
+fn put_plain(payload: &[u8], size: Size, n: usize, buffer: &mut [i32])
+    requires { ⌜ HasResults (Form.Plain size) (now payload) n × (n ≤ length (now buffer)) ⌝ }
+    ensures { λ r. ⌜ Wrote asNumber (Form.Plain size) false (now (payload .entry)) (now (buffer .entry)) (now (buffer .exit)) ⌝ }
+{
+    match size {
+        Size::One => write_plain(payload, Size::One, n, buffer),
+        Size::Two => write_plain(payload, Size::Two, n, buffer),
+        Size::Four => write_plain(payload, Size::Four, n, buffer),
+    }
+}
+
+// Writes n plain numbers. Each is read from the part of the payload that it fills, so that no test of room is left, and the processor does
+// several at once.
+fn write_plain(payload: &[u8], size: Size, n: usize, buffer: &mut [i32])
+    requires { ⌜ HasResults (Form.Plain size) (now payload) n × (n ≤ length (now buffer)) ⌝ }
+    ensures { λ r. ⌜ Wrote asNumber (Form.Plain size) false (now (payload .entry)) (now (buffer .entry)) (now (buffer .exit)) ⌝ }
+{
+    let k = steps::bytes(size);
+    let mut i: usize = 0;
+    while i < n {
+        let at = i * k;
+        buffer[i] = steps::number_at(&payload[at..at + k], 0, size);
+        i += 1;
     }
 }
 

@@ -4,7 +4,7 @@ use mathlib.Core.List.{_++_}
 use Prim.Native.Nat.{_+_, _-_, _≤_}
 use native.Mathlib.Omega.{arith}
 use lib.ListN.{length, take, drop, length-set}
-use Rattle.decoding.specs.Laws.Calls.{copied-start, copied-more, copied-all}
+use Rattle.payloads.specs.Laws.Writing.{laid-next, laid-all}
 use Rattle.decoding.proofs.copy.Statement.{statement}
 use Rattle.decoding.proofs.copy.Tie as tie
 
@@ -18,13 +18,13 @@ loop-again : tie.Need-loop-again Inv-loop μ-loop
 loop-again c =
     let a = c .before .before .before .args in
     let p = c .before .before .loop in
-    (omega arith, length-set (p .buffer) (p .i) _ ∙ p .inv .1, copied-more (a .bytes .now) (a .buffer .now) (p .buffer) (p .i) (omega arith) (omega (arith, c .before .before .before .pre)) (p .inv .2))
+    (omega arith, length-set (p .buffer) (p .i) _ ∙ p .inv .1, laid-next (a .bytes .now) (a .buffer .now) (p .buffer) (p .i) _ 0 (omega arith) (omega (arith, c .before .before .before .pre)) refl (p .inv .2))
 
 returns : tie.Need-returns Inv-loop μ-loop
 returns c =
     let a = c .before .before .args in
     let p = c .before .loop in
-    copied-all (a .bytes .now) (a .buffer .now) (p .buffer) (p .i) (omega arith) (p .inv .2)
+    laid-all (a .bytes .now) (a .buffer .now) (p .buffer) (p .i) (omega arith) (p .inv .2)
 
 pub copy-spec : {M : Type 1} → statement M
 copy-spec =
@@ -32,7 +32,7 @@ copy-spec =
     (tie.spec
     Inv-loop
     μ-loop
-    (λ c. (omega arith, refl, copied-start (c .args .bytes .now) (c .args .buffer .now)))
+    (λ c. (omega arith, refl, refl))
     (λ c. omega arith)
     (λ c. omega (arith, c .before .before .before .pre))
     (λ c. omega arith)

@@ -3,6 +3,7 @@ use mathlib.Core.Path.{sym, ap, _∙_}
 use Prim.Native.Nat.{_≤_}
 use lib.ListN.{length}
 use borrow.Author.Needs.{needs}
+use Rattle.numbers.specs.BigEndian.{unsignedAt}
 use Rattle.columns.specs.Header.{headerSize}
 use Rattle.columns.specs.Decode.{Decoding, decode}
 use Rattle.columns.specs.Laws.Table.{Passes, header-passes, no-names}
@@ -10,6 +11,7 @@ use Rattle.columns.specs.Laws.Decode.{decode-refused, decode-good}
 use Rattle.columns.specs.Buffer.{decodedAnswer}
 use Rattle.columns.specs.Laws.Buffer.{answers-refused}
 use Rattle.decoding.specs.Calls.{asNumber, numberBuffer}
+use Rattle.decoding.specs.Laws.Table.{written-row}
 use Rattle.decoding.proofs.decode_integers.Statement.{statement}
 use Rattle.decoding.proofs.decode_integers.Tie as tie
 
@@ -26,7 +28,9 @@ integers-in-requires : tie.Need-integers-in-requires
 integers-in-requires c κs =
     let a = c .before .before .before .before .before .before .before in
     let g = c .before .before .before .n .given .0 in
-    no-names (a .args .wanted) (a .args .column .now) (g .0) (g .1 .0) (g .1 .1 .0) (g .1 .1 .1 .0) (g .1 .1 .1 .1 .0) (passes (c .before .before .before)) (a .pre)
+    let p = passes (c .before .before .before) .3 in
+    written-row (unsignedAt 4 (a .args .column .now) 0) (g .1 .1 .0) (g .1 .1 .1 .0) (g .1 .1 .1 .1 .0) (p .0) (p .1)
+    (no-names (a .args .wanted) (a .args .column .now) (g .0) (g .1 .0) (g .1 .1 .0) (g .1 .1 .1 .0) (g .1 .1 .1 .1 .0) (passes (c .before .before .before)) (a .pre))
 
 returns : tie.Need-returns
 returns c =

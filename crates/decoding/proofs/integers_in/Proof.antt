@@ -7,6 +7,7 @@ use Rattle.columns.specs.Decode.{judgedPayload}
 use Rattle.columns.specs.Laws.Buffer.{answers-refused}
 use Rattle.payloads.specs.Laws.Judged.{Holds, judged-refused, read-fine, holds-small, holds-done}
 use Rattle.decoding.specs.Calls.{asNumber}
+use Rattle.decoding.specs.Laws.Table.{written-other}
 use Rattle.decoding.proofs.integers_in.Statement.{statement}
 use Rattle.decoding.proofs.integers_in.Tie as tie
 
@@ -20,7 +21,7 @@ returns c =
 held : (c : tie.Else1) → Holds (c .before .before .before .args .n) (c .before .before .before .args .m) (c .before .before .before .args .kind) (c .before .before .before .args .form) (c .before .before .before .args .delta) (c .before .before .before .args .payload .now)
 held c =
     let a = c .before .before .before in
-    read-fine (a .args .n) (a .args .m) (a .args .kind) (a .args .form) (a .args .delta) (a .args .payload .now) (a .pre) (sym (c .if1 .left) ∙ c .before .refusal-of .ensures)
+    read-fine (a .args .n) (a .args .m) (a .args .kind) (a .args .form) (a .args .delta) (a .args .payload .now) (written-other (a .args .form) (a .args .delta) (a .pre)) (sym (c .if1 .left) ∙ c .before .refusal-of .ensures)
 
 returns-2 : tie.Need-returns-2
 returns-2 c =
@@ -32,7 +33,7 @@ put-integers-requires : tie.Need-put-integers-requires
 put-integers-requires c κs =
     let g = held (c .before .before) in
     let size = g .2 in
-    ((g .0, g .1, omega arith), (g .0, g .1, size), omega arith)
+    (c .before .before .before .before .before .pre, (g .0, g .1, size), omega arith)
 
 returns-3 : tie.Need-returns-3
 returns-3 c =

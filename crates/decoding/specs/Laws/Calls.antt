@@ -1,12 +1,9 @@
--- Laws of the decoders: copies of bytes, the divisor, and writers by the form that a payload has. Assumes nothing.
+-- Laws of the decoders: the divisor, and writers by the form that a payload has. Assumes nothing.
 use mathlib.Core.Path.{_≡_, refl, sym, ap, subst, _∙_}
 use mathlib.Core.Bool.{Bool}
-use mathlib.Core.List.{List, [], _∷_, _++_, append-assoc}
-use Prim.Native.Nat.{ℕ, suc, _+_, _<_, _≤_}
+use mathlib.Core.List.{List}
+use Prim.Native.Nat.{ℕ, _≤_}
 use native.Mathlib.Omega.{arith}
-use native.Mathlib.Numerals.{add-one}
-use lib.ListN.{length, take, drop, set, getD}
-use lib.Seq.{drop-cons, set-at, length-take-le, take-suc, take-all}
 use lib.IntN.{ℤ}
 use Rattle.refusal.specs.declared.Answer.{Answer}
 use Rattle.numbers.specs.BigEndian.{unsignedAt}
@@ -20,27 +17,8 @@ use Rattle.columns.specs.Decode.{Decoding, refused, column, decode}
 use Rattle.columns.specs.Buffer.{decodedAnswer}
 use Rattle.columns.specs.Laws.Decode.{decode-rules, decode-kind}
 use Rattle.columns.specs.Laws.CanHold.{parameterOf, kind-parameter}
-use Rattle.payloads.specs.Results.{HasRoom, Wrote}
+use Rattle.payloads.specs.Results.{HasRoom, HasResults, Wrote}
 use Rattle.decoding.specs.Calls.{withDivisor, fixedAnswer}
-
--- Copies
-
-module _ (bytes old : List ℕ) where
-  pub copied-start : old ≡ take 0 bytes ++ drop 0 old
-  copied-start = refl
-
-  pub copied-more : (new : List ℕ) (i : ℕ) → i < length bytes → length bytes ≤ length old → new ≡ take i bytes ++ drop i old
-      → set new i (getD bytes i 0) ≡ take (i + 1) bytes ++ drop (i + 1) old
-  copied-more new i h k w =
-      let l = length-take-le i bytes (omega arith) in
-      let d = drop-cons old i 0 (omega arith) in
-      let t = take-suc bytes i 0 h in
-      ap (λ (x : List ℕ). set x i (getD bytes i 0)) (w ∙ ap (λ (x : List ℕ). take i bytes ++ x) d)
-      ∙ set-at (take i bytes) (getD old i 0) (drop (suc i) old) (getD bytes i 0) i l
-      ∙ rw (add-one i, t) (sym (append-assoc (take i bytes) (getD bytes i 0 ∷ []) (drop (suc i) old)))
-
-  pub copied-all : (new : List ℕ) (i : ℕ) → i ≡ length bytes → new ≡ take i bytes ++ drop i old → new ≡ bytes ++ drop (length bytes) old
-  copied-all new i e w = w ∙ rw e (ap (λ (x : List ℕ). x ++ drop (length bytes) old) (take-all (length bytes) bytes (omega arith)))
 
 -- Fixed point
 
@@ -56,9 +34,12 @@ fixed-divisor s (column k m l) room r e h =
 
 -- Forms
 
-module _ {B : Type 0} (g : ℤ → B) (d : Bool) (s : List ℕ) where
-  pub room-as : {f h : Form} {n : ℕ} → f ≡ h → HasRoom f s n → HasRoom h s n
-  room-as {f} {h} {n} e r = subst (λ (i : Form). HasRoom i s n) e r
+-- the results of a form that have room, by another name of the form
+pub results-as : (s : List ℕ) (n : ℕ) {f h : Form} → f ≡ h → HasResults f s n → HasResults h s n
+results-as s n e r = subst (λ (i : Form). HasResults i s n) e r
 
-  pub wrote-as : {f h : Form} (old new : List B) → f ≡ h → Wrote g h d s old new → Wrote g f d s old new
-  wrote-as {f} {h} old new e w = subst (λ (i : Form). Wrote g i d s old new) (sym e) w
+pub room-as : (s : List ℕ) (n room : ℕ) {f h : Form} → f ≡ h → HasResults f s n → n ≤ room → HasRoom h s room
+room-as s n room {f} {h} e r k = let t = results-as s n e r in let l = t .2 in (t .0, t .1, omega arith)
+
+pub wrote-as : {B : Type 0} (g : ℤ → B) (s : List ℕ) (old new : List B) {f h : Form} {d e : Bool} → f ≡ h → d ≡ e → Wrote g h e s old new → Wrote g f d s old new
+wrote-as g s old new {f} {h} {d} {e} p q w = subst (λ (i : Form). Wrote g i d s old new) (sym p) (subst (λ (b : Bool). Wrote g h b s old new) (sym q) w)

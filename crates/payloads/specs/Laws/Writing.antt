@@ -7,7 +7,7 @@ use Prim.Native.Nat.{ℕ, zero, suc, _+_, _-_, _<_, _≤_}
 use native.Mathlib.Omega.{arith}
 use native.Mathlib.Numerals.{add-one}
 use lib.ListN.{length, take, drop, set, getD, replicate, length-map, length-append, length-replicate, length-drop, take-append-drop}
-use lib.Seq.{drop-cons, drop-drop, set-at, length-take-le, take-at, drop-at}
+use lib.Seq.{drop-cons, drop-drop, set-at, length-take-le, take-suc, take-all, take-at, drop-at}
 use lib.IntN.{ℤ, pos}
 use Rattle.steps.specs.declared.Form.{Form}
 use Rattle.steps.specs.Delta.{advance, resultsFrom, lastFrom}
@@ -58,6 +58,21 @@ paste-front old l m h =
     sym (drop-drop (length m) (length l) (l ++ drop (length l) old)) ∙ ap (drop (length m)) (drop-at l (drop (length l) old) (length l) refl)
     ∙ drop-drop (length m) (length l) old ∙ ap (λ (n : ℕ). drop n old) (sym (length-append l m)) in
     rw (t, d) (sym (append-assoc l m (drop (length (l ++ m)) old)))
+
+-- One after the other: the first i elements of l stand at the buffer's start, and from i on nothing has changed.
+module _ {B : Type 0} (l old : List B) where
+  pub laid-next : (new : List B) (i : ℕ) (b e : B) → i < length l → length l ≤ length old → b ≡ getD l i e → new ≡ take i l ++ drop i old
+      → set new i b ≡ take (i + 1) l ++ drop (i + 1) old
+  laid-next new i b e h k q w =
+      let n = length-take-le i l (omega arith) in
+      let d = drop-cons old i e (omega arith) in
+      let t = take-suc l i e h in
+      ap (λ (x : List B). set x i b) (w ∙ ap (λ (x : List B). take i l ++ x) d)
+      ∙ set-at (take i l) (getD old i e) (drop (suc i) old) b i n
+      ∙ rw (add-one i, t, q) (sym (append-assoc (take i l) (getD l i e ∷ []) (drop (suc i) old)))
+
+  pub laid-all : (new : List B) (i : ℕ) → i ≡ length l → new ≡ take i l ++ drop i old → new ≡ l ++ drop (length l) old
+  laid-all new i e w = w ∙ rw e (ap (λ (x : List B). x ++ drop (length l) old) (take-all (length l) l (omega arith)))
 
 -- A run
 
