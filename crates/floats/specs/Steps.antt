@@ -8,9 +8,8 @@ use lib.Dec.{T}
 use lib.Ieee.{Float, binary32, ofInt, div, toBits}
 use lib.Ieee.Positive.{positive}
 use Rattle.steps.specs.declared.Size.the-variants.{Four}
-use Rattle.steps.specs.declared.Range.{Range}
 use Rattle.steps.specs.declared.Form.{Form}
-use Rattle.steps.specs.declared.Form.the-variants.{Plain, Runs}
+use Rattle.steps.specs.declared.Form.the-variants.{Plain}
 use Rattle.columns.specs.declared.Kind.the-variants as kind
 use Rattle.columns.specs.declared.Header.the-variants.{Good}
 use Rattle.columns.specs.Decode.{Decoding, judgedPayload}
@@ -32,6 +31,6 @@ quotientPayload n m f d s = exactly (judgedPayload (Good n m kind.FixedPoint f d
 abbrev pub Divisible : Form → Bool → List ℕ → ℕ → Float → Type 0
 Divisible f d s room divisor = HasRoom f s room × ResultsExact f d s × T (positive divisor)
 
--- of n results in runs
-abbrev pub DivisibleRuns : Range → List ℕ → ℕ → ℕ → Float → Type 0
-DivisibleRuns r s n room divisor = HasResults (Runs r) s n × (n ≤ room) × ResultsExact (Runs r) false s × T (positive divisor)
+-- the same of n results, without delta
+abbrev pub DivisibleAlone : Form → List ℕ → ℕ → ℕ → Float → Type 0
+DivisibleAlone f s n room divisor = HasResults f s n × (n ≤ room) × ResultsExact f false s × T (positive divisor)

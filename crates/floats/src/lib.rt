@@ -15,7 +15,7 @@ ghost use Rattle.payloads.specs.Results.{Filled, HasRoom, HasResults, Covered, 
 ghost use Rattle.payloads.specs.Exact.{exact, allExact};
 ghost use Rattle.columns.specs.Buffer.{decodedAnswer, decodedBuffer};
 ghost use Rattle.floats.specs.Calls.{kept, exactly, floatBits};
-ghost use Rattle.floats.specs.Steps.{bitsBy, keptPayload, quotientPayload, Divisible, DivisibleRuns};
+ghost use Rattle.floats.specs.Steps.{bitsBy, keptPayload, quotientPayload, Divisible, DivisibleAlone};
 use columns::HEADER_SIZE;
 use columns::Header;
 use columns::Kind;
@@ -63,21 +63,21 @@ fn kept_in(payload: &[u8], n: usize, m: u32, buffer: &mut [u32]) -> Answer
     if buffer.len() < n {
         return Answer::Refused(refusal::BUFFER_TOO_SMALL);
     }
-    write_kept(payload, buffer);
+    write_kept(payload, n, buffer);
     Answer::Count(n)
 }
 
-// Writes the 32 bits of each number of a payload.
-fn write_kept(payload: &[u8], buffer: &mut [u32])
-    requires { ⌜ HasRoom (Form.Plain Size.Four) (now payload) (length (now buffer)) ⌝ }
+// Writes the 32 bits of n numbers. Each is read from the part of the payload that it fills, so that no test of room is left, and the
+// processor does several at once.
+fn write_kept(payload: &[u8], n: usize, buffer: &mut [u32])
+    requires { ⌜ HasResults (Form.Plain Size.Four) (now payload) n × (n ≤ length (now buffer)) ⌝ }
     ensures { λ r. ⌜ Wrote kept (Form.Plain Size.Four) false (now (payload .entry)) (now (buffer .entry)) (now (buffer .exit)) ⌝ }
 {
-    let mut at: usize = 0;
-    let mut o: usize = 0;
-    while 4 <= payload.len() - at {
-        buffer[o] = numbers::read_u32(payload, at);
-        o += 1;
-        at += 4;
+    let mut i: usize = 0;
+    while i < n {
+        let at = i * 4;
+        buffer[i] = numbers::read_u32(&payload[at..at + 4], 0);
+        i += 1;
     }
 }
 
@@ -124,7 +124,7 @@ fn put_quotients(
     ensures { λ r. ⌜ Wrote (bitsBy divisor) form delta (now (payload .entry)) (now (buffer .entry)) (now (buffer .exit)) ⌝ }
 {
     match form {
-        Form::Plain(size) => write_quotients(payload, Form::Plain(size), delta, divisor, buffer),
+        Form::Plain(size) => put_plain(payload, size, divisor, n, buffer),
         Form::Packed(size) => match size {
             Size::One => write_quotients(payload, Form::Packed(Size::One), delta, divisor, buffer),
             Size::Two => write_two(payload, delta, divisor, buffer),
@@ -138,6 +138,32 @@ fn put_quotients(
         },
         Form::Runs(range) => write_runs(payload, range, divisor, n, buffer),
         Form::Names => write_quotients(payload, Form::Names, delta, divisor, buffer),
+    }
+}
+
+// Writes the quotients of n plain numbers, by a loop of their size's own.
+fn put_plain(payload: &[u8], size: Size, divisor: f32, n: usize, buffer: &mut [u32])
+    requires { ⌜ DivisibleAlone (Form.Plain size) (now payload) n (length (now buffer)) divisor ⌝ }
+    ensures { λ r. ⌜ Wrote (bitsBy divisor) (Form.Plain size) false (now (payload .entry)) (now (buffer .entry)) (now (buffer .exit)) ⌝ }
+{
+    match size {
+        Size::One => write_plain(payload, Size::One, divisor, n, buffer),
+        Size::Two => write_plain(payload, Size::Two, divisor, n, buffer),
+        Size::Four => write_plain(payload, Size::Four, divisor, n, buffer),
+    }
+}
+
+// Writes the quotients of n plain numbers, each read from the part of the payload that it fills.
+fn write_plain(payload: &[u8], size: Size, divisor: f32, n: usize, buffer: &mut [u32])
+    requires { ⌜ DivisibleAlone (Form.Plain size) (now payload) n (length (now buffer)) divisor ⌝ }
+    ensures { λ r. ⌜ Wrote (bitsBy divisor) (Form.Plain size) false (now (payload .entry)) (now (buffer .entry)) (now (buffer .exit)) ⌝ }
+{
+    let k = steps::bytes(size);
+    let mut i: usize = 0;
+    while i < n {
+        let at = i * k;
+        buffer[i] = quotient_bits(steps::number_at(&payload[at..at + k], 0, size), divisor);
+        i += 1;
     }
 }
 
@@ -164,7 +190,7 @@ fn write_two(payload: &[u8], delta: bool, divisor: f32, buffer: &mut [u32])
 
 // Writes the quotients of n results in runs, with one division for each run.
 fn write_runs(payload: &[u8], range: Range, divisor: f32, n: usize, buffer: &mut [u32])
-    requires { ⌜ DivisibleRuns range (now payload) n (length (now buffer)) divisor ⌝ }
+    requires { ⌜ DivisibleAlone (Form.Runs range) (now payload) n (length (now buffer)) divisor ⌝ }
     ensures { λ r. ⌜ Wrote (bitsBy divisor) (Form.Runs range) false (now (payload .entry)) (now (buffer .entry)) (now (buffer .exit)) ⌝ }
 {
     let mut at: usize = 0;

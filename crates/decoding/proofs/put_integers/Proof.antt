@@ -7,7 +7,7 @@ use Rattle.steps.specs.declared.Form.{Form}
 use Rattle.steps.specs.declared.Form.the-variants.{Packed}
 use Rattle.decoding.specs.Steps.{isWritten}
 use Rattle.decoding.specs.Calls.{asNumber}
-use Rattle.decoding.specs.Laws.Calls.{results-as, room-as, wrote-as}
+use Rattle.payloads.specs.Laws.Writing.{results-as, room-as, wrote-as}
 use Rattle.decoding.specs.Laws.Table.{plain-alone}
 use Rattle.decoding.proofs.put_integers.Statement.{statement}
 use Rattle.decoding.proofs.put_integers.Tie as tie

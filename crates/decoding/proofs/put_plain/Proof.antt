@@ -3,7 +3,7 @@ use mathlib.Core.Path.{refl, ap}
 use borrow.Author.Needs.{needs}
 use Rattle.steps.specs.declared.Form.the-variants.{Plain}
 use Rattle.decoding.specs.Calls.{asNumber}
-use Rattle.decoding.specs.Laws.Calls.{results-as, wrote-as}
+use Rattle.payloads.specs.Laws.Writing.{results-as, wrote-as}
 use Rattle.decoding.proofs.put_plain.Statement.{statement}
 use Rattle.decoding.proofs.put_plain.Tie as tie
 

@@ -34,13 +34,13 @@ returns-2 c =
     holds-small floatBits (a .n) (a .m) kind.Float32 (Plain Four) false (a .payload .now) h (exactly (judgedPayload (Good (a .n) (a .m) kind.Float32 (Plain Four) false) (a .payload .now))) (exactly-column (a .n) (a .m) kind.Float32 (Plain Four) false (a .payload .now) h refl) (a .buffer .now) (c .if2 .taken)
 
 write-kept-requires : tie.Need-write-kept-requires
-write-kept-requires c κs = let h = held (c .before .before) in let n = h .2 in (h .0, h .1, omega arith)
+write-kept-requires c κs = let h = held (c .before .before) in let n = h .2 in ((h .0, h .1, n), omega arith)
 
 returns-3 : tie.Need-returns-3
 returns-3 c =
     let a = c .before .before .before .before .before .before .before .before .before .args in
     let h = held (c .before .before .before .before .before) in
-    holds-done floatBits (a .n) (a .m) kind.Float32 (Plain Four) false (a .payload .now) h (exactly (judgedPayload (Good (a .n) (a .m) kind.Float32 (Plain Four) false) (a .payload .now))) (exactly-column (a .n) (a .m) kind.Float32 (Plain Four) false (a .payload .now) h refl) (a .buffer .now) (c .before .before .before .before .if2 .left) (c .before .before .write-kept .last .1 .0) (c .before .before .write-kept .ensures)
+    holds-done floatBits (a .n) (a .m) kind.Float32 (Plain Four) false (a .payload .now) h (exactly (judgedPayload (Good (a .n) (a .m) kind.Float32 (Plain Four) false) (a .payload .now))) (exactly-column (a .n) (a .m) kind.Float32 (Plain Four) false (a .payload .now) h refl) (a .buffer .now) (c .before .before .before .before .if2 .left) (c .before .before .write-kept .last .1 .1 .0) (c .before .before .write-kept .ensures)
 
 pub kept-in-spec : {M : Type 1} → statement M
 kept-in-spec =

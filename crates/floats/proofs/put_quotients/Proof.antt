@@ -2,7 +2,7 @@
 use mathlib.Core.Path.{_≡_, sym, ap, subst, _∙_}
 use mathlib.Core.Bool.{Bool, true, false}
 use mathlib.Core.List.{List}
-use Prim.Native.Nat.{ℕ}
+use Prim.Native.Nat.{ℕ, _≤_}
 use lib.ListN.{length}
 use lib.Dec.{T}
 use lib.Ieee.{Float}
@@ -15,7 +15,9 @@ use Rattle.steps.specs.declared.Form.{Form}
 use Rattle.steps.specs.declared.Form.the-variants.{Plain, Packed, Runs, Names}
 use Rattle.payloads.specs.Results.{HasRoom, HasResults, Wrote, ResultsExact}
 use Rattle.payloads.specs.Scan.{judgesExact}
-use Rattle.floats.specs.Steps.{bitsBy}
+use Rattle.payloads.specs.Laws.Writing.{wrote-as}
+use Rattle.floats.specs.Steps.{bitsBy, Divisible, DivisibleAlone}
+use Rattle.floats.specs.Laws.Table.{plain-judged}
 use Rattle.floats.proofs.put_quotients.Statement.{statement}
 use Rattle.floats.proofs.put_quotients.Tie as tie
 
@@ -23,17 +25,23 @@ use Rattle.floats.proofs.put_quotients.Tie as tie
 asks : (f g : Form) (d : Bool) (s : List ℕ) (n : ℕ) (x : Float) → f ≡ g → HasRoom f s n × ResultsExact f d s × T (positive x) → HasRoom g s n × ResultsExact g d s × T (positive x)
 asks f g d s n x e p = subst (λ (h : Form). HasRoom h s n × ResultsExact h d s × T (positive x)) e p
 
+-- without delta
+alone : (s : List ℕ) (n room : ℕ) (x : Float) {f g : Form} {d : Bool} → f ≡ g → d ≡ false → Divisible f d s room x → HasResults f s n → n ≤ room → DivisibleAlone g s n room x
+alone s n room x {f} {g} {d} e q p r h = subst (λ (i : Form). DivisibleAlone i s n room x) e (r, h, subst (λ (b : Bool). ResultsExact f b s) q (p .1), p .2)
+
 -- what it leaves
 puts : (f g : Form) (d : Bool) (s old new : List ℕ) (x : Float) → f ≡ g → Wrote (bitsBy x) g d s old new → Wrote (bitsBy x) f d s old new
 puts f g d s old new x e w = subst (λ (h : Form). Wrote (bitsBy x) h d s old new) (sym e) w
 
+put-plain-requires : tie.Need-put-plain-requires
+put-plain-requires c κs =
+    let a = c .before .before .before .before .before .before in
+    let e = c .before .before .form .given .1 in
+    let d = plain-judged (c .before .before .form .given .0 .0) (a .args .delta) (subst (λ (h : Form). judgesExact h (a .args .delta) ≡ true) e (a .pre .1 .2)) in
+    alone (a .args .payload .now) (a .args .n) (length (a .args .buffer .now)) (a .args .divisor) e d (a .pre .0) (a .pre .1 .0) (a .pre .1 .1)
+
 write-quotients-requires : tie.Need-write-quotients-requires
 write-quotients-requires c κs =
-    let a = c .before .before .before .before .before .before in
-    asks (a .args .form) (Plain (c .before .before .form .given .0 .0)) (a .args .delta) (a .args .payload .now) (length (a .args .buffer .now)) (a .args .divisor) (c .before .before .form .given .1) (a .pre .0)
-
-write-quotients-requires-2 : tie.Need-write-quotients-requires-2
-write-quotients-requires-2 c κs =
     let a = c .before .before .before .before .before .before .before .before in
     asks (a .args .form) (Packed One) (a .args .delta) (a .args .payload .now) (length (a .args .buffer .now)) (a .args .divisor) (c .before .before .before .before .form2 .given .1 ∙ ap Packed (c .before .enum-told .given .1)) (a .pre .0)
 
@@ -42,8 +50,8 @@ write-two-requires c κs =
     let a = c .before .before .before .before .before .before .before .before in
     asks (a .args .form) (Packed Two) (a .args .delta) (a .args .payload .now) (length (a .args .buffer .now)) (a .args .divisor) (c .before .before .before .before .form2 .given .1 ∙ ap Packed (c .before .enum-told2 .given .1)) (a .pre .0)
 
-write-quotients-requires-3 : tie.Need-write-quotients-requires-3
-write-quotients-requires-3 c κs =
+write-quotients-requires-2 : tie.Need-write-quotients-requires-2
+write-quotients-requires-2 c κs =
     let a = c .before .before .before .before .before .before .before .before in
     asks (a .args .form) (Packed Four) (a .args .delta) (a .args .payload .now) (length (a .args .buffer .now)) (a .args .divisor) (c .before .before .before .before .form2 .given .1 ∙ ap Packed (c .before .enum-told3 .given .1)) (a .pre .0)
 
@@ -56,23 +64,24 @@ write-runs-requires c κs =
     let a = c .before .before .before .before .before .before in
     let e = c .before .before .form3 .given .1 in
     let d = no-delta (c .before .before .form3 .given .0 .0) (a .args .form) (a .args .delta) e (a .pre .1 .2) in
-    let p = asks (a .args .form) (Runs (c .before .before .form3 .given .0 .0)) (a .args .delta) (a .args .payload .now) (length (a .args .buffer .now)) (a .args .divisor) e (a .pre .0) in
-    (subst (λ (h : Form). HasResults h (a .args .payload .now) (a .args .n)) e (a .pre .1 .0), a .pre .1 .1, rw d at (p .1), a .pre .0 .2)
+    alone (a .args .payload .now) (a .args .n) (length (a .args .buffer .now)) (a .args .divisor) e d (a .pre .0) (a .pre .1 .0) (a .pre .1 .1)
 
-write-quotients-requires-4 : tie.Need-write-quotients-requires-4
-write-quotients-requires-4 c κs =
+write-quotients-requires-3 : tie.Need-write-quotients-requires-3
+write-quotients-requires-3 c κs =
     let a = c .before .before .before .before .before in
     asks (a .args .form) (Names) (a .args .delta) (a .args .payload .now) (length (a .args .buffer .now)) (a .args .divisor) (c .before .enum-told4 .given .1) (a .pre .0)
 
 returns : tie.Need-returns
 returns c =
     let a = c .before .before .before .before .before .before .before .before .before in
-    puts (a .args .form) (Plain (c .before .before .before .before .before .form .given .0 .0)) (a .args .delta) (a .args .payload .now) (a .args .buffer .now) (c .before .before .write-quotients .last .1 .1 .1 .1 .0) (a .args .divisor) (c .before .before .before .before .before .form .given .1) (c .before .before .write-quotients .ensures)
+    let e = c .before .before .before .before .before .form .given .1 in
+    let d = plain-judged (c .before .before .before .before .before .form .given .0 .0) (a .args .delta) (subst (λ (h : Form). judgesExact h (a .args .delta) ≡ true) e (a .pre .1 .2)) in
+    wrote-as (bitsBy (a .args .divisor)) (a .args .payload .now) (a .args .buffer .now) (c .before .before .put-plain .last .1 .1 .1 .1 .0) e d (c .before .before .put-plain .ensures)
 
 returns-2 : tie.Need-returns-2
 returns-2 c =
     let a = c .before .before .before .before .before .before .before .before .before .before .before in
-    puts (a .args .form) (Packed One) (a .args .delta) (a .args .payload .now) (a .args .buffer .now) (c .before .before .write-quotients2 .last .1 .1 .1 .1 .0) (a .args .divisor) (c .before .before .before .before .before .before .before .form2 .given .1 ∙ ap Packed (c .before .before .before .before .enum-told .given .1)) (c .before .before .write-quotients2 .ensures)
+    puts (a .args .form) (Packed One) (a .args .delta) (a .args .payload .now) (a .args .buffer .now) (c .before .before .write-quotients .last .1 .1 .1 .1 .0) (a .args .divisor) (c .before .before .before .before .before .before .before .form2 .given .1 ∙ ap Packed (c .before .before .before .before .enum-told .given .1)) (c .before .before .write-quotients .ensures)
 
 returns-3 : tie.Need-returns-3
 returns-3 c =
@@ -82,7 +91,7 @@ returns-3 c =
 returns-4 : tie.Need-returns-4
 returns-4 c =
     let a = c .before .before .before .before .before .before .before .before .before .before .before in
-    puts (a .args .form) (Packed Four) (a .args .delta) (a .args .payload .now) (a .args .buffer .now) (c .before .before .write-quotients3 .last .1 .1 .1 .1 .0) (a .args .divisor) (c .before .before .before .before .before .before .before .form2 .given .1 ∙ ap Packed (c .before .before .before .before .enum-told3 .given .1)) (c .before .before .write-quotients3 .ensures)
+    puts (a .args .form) (Packed Four) (a .args .delta) (a .args .payload .now) (a .args .buffer .now) (c .before .before .write-quotients2 .last .1 .1 .1 .1 .0) (a .args .divisor) (c .before .before .before .before .before .before .before .form2 .given .1 ∙ ap Packed (c .before .before .before .before .enum-told3 .given .1)) (c .before .before .write-quotients2 .ensures)
 
 returns-5 : tie.Need-returns-5
 returns-5 c =
@@ -95,25 +104,25 @@ returns-5 c =
 returns-6 : tie.Need-returns-6
 returns-6 c =
     let a = c .before .before .before .before .before .before .before .before in
-    puts (a .args .form) (Names) (a .args .delta) (a .args .payload .now) (a .args .buffer .now) (c .before .before .write-quotients4 .last .1 .1 .1 .1 .0) (a .args .divisor) (c .before .before .before .before .enum-told4 .given .1) (c .before .before .write-quotients4 .ensures)
+    puts (a .args .form) (Names) (a .args .delta) (a .args .payload .now) (a .args .buffer .now) (c .before .before .write-quotients3 .last .1 .1 .1 .1 .0) (a .args .divisor) (c .before .before .before .before .enum-told4 .given .1) (c .before .before .write-quotients3 .ensures)
 
 pub put-quotients-spec : {M : Type 1} → statement M
 put-quotients-spec =
     tie.close
     (tie.spec
     (λ c. search needs)
+    put-plain-requires
+    (λ c. search needs)
+    (λ c. search needs)
     write-quotients-requires
-    (λ c. search needs)
-    (λ c. search needs)
-    write-quotients-requires-2
     (λ c. search needs)
     write-two-requires
     (λ c. search needs)
-    write-quotients-requires-3
+    write-quotients-requires-2
     (λ c. search needs)
     write-runs-requires
     (λ c. search needs)
-    write-quotients-requires-4
+    write-quotients-requires-3
     (λ c. search needs)
     returns
     (λ c. search needs)

@@ -1,10 +1,8 @@
 -- Laws of a real column's cells: whether they are exact, and what the column then is. Assumes nothing.
-use mathlib.Core.Path.{_≡_, refl, sym, ap, _∙_}
+use mathlib.Core.Path.{_≡_, sym, ap, _∙_}
 use mathlib.Core.Bool.{Bool, true, false, not, _&&_}
 use mathlib.Core.List.{List}
-use Prim.Native.Nat.{ℕ, _+_, _<_}
-use native.Mathlib.Omega.{arith}
-use lib.ListN.{length, set}
+use Prim.Native.Nat.{ℕ}
 use lib.IntN.{ℤ, pos}
 use Rattle.refusal.specs.Table.{notExact}
 use Rattle.steps.specs.declared.Form.{Form}
@@ -15,14 +13,9 @@ use Rattle.columns.specs.Table.{divides}
 use Rattle.columns.specs.Decode.{refused, column, judgedPayload}
 use Rattle.payloads.specs.Exact.{exact, allExact}
 use Rattle.payloads.specs.Scan.{judgesExact}
-use Rattle.payloads.specs.Results.{Filled, ResultsExact}
-use Rattle.payloads.specs.Laws.Writing.{filled-start, filled-next}
+use Rattle.payloads.specs.Results.{ResultsExact}
 use Rattle.payloads.specs.Laws.Judged.{Holds}
-use Rattle.floats.specs.Calls.{kept, exactly}
-
--- one number whose bits are kept
-pub one-filled : (new : List ℕ) (o b : ℕ) (x y : ℤ) → o < length new → b ≡ kept y → Filled kept false x y new o 1 (set new o b) y
-one-filled new o b x y h e = let z : o + 0 ≡ o = omega arith in rw z at (filled-next kept false x y new o 0 new x y b 0 (omega arith) (filled-start kept false x y new o) refl e)
+use Rattle.floats.specs.Calls.{exactly}
 
 module _ (n m : ℕ) (k : Kind) (f : Form) (d : Bool) (s : List ℕ) (h : Holds n m k f d s) where
   -- a form that is judged says whether the cells are exact

@@ -6,6 +6,7 @@ use native.Mathlib.Omega.{arith}
 use lib.Dec.{leb}
 use borrow.Author.Tests.{leb-true, not-true}
 use Rattle.numbers.specs.Ranges.{integerLimit}
+use Rattle.steps.specs.declared.Size.{Size}
 use Rattle.steps.specs.declared.Size.the-variants.{One, Two, Four}
 use Rattle.steps.specs.declared.Form.{Form}
 use Rattle.steps.specs.declared.Form.the-variants.{Plain, Packed, Runs, Names}
@@ -77,3 +78,9 @@ exact-names (Plain z) d h = refl
 exact-names (Packed z) d h = refl
 exact-names (Runs r) d h = refl
 exact-names Names d h = let y : _≡_ {A = ℕ} 0 1 = cc in absurd (omega arith)
+
+-- plain numbers that are judged have no delta
+pub plain-judged : (z : Size) (d : Bool) → judgesExact (Plain z) d ≡ true → d ≡ false
+plain-judged One d h = not-true d h
+plain-judged Two d h = not-true d h
+plain-judged Four d h = let y : _≡_ {A = ℕ} 0 1 = cc in absurd (omega arith)

@@ -14,7 +14,7 @@ use Rattle.steps.specs.Delta.{advance, resultsFrom, lastFrom}
 use Rattle.steps.specs.Payload.{readIn}
 use Rattle.steps.specs.Laws.Delta.{length-results, results-append, last-append}
 use Rattle.payloads.specs.Exact.{allExact}
-use Rattle.payloads.specs.Results.{paste, Filled, HasRoom, Wrote, ResultsExact}
+use Rattle.payloads.specs.Results.{paste, Filled, HasRoom, HasResults, Wrote, ResultsExact}
 use Rattle.payloads.specs.Laws.Exact.{exact-parts}
 use Rattle.payloads.specs.Laws.Scan.{map-id, map-both, rest-of}
 
@@ -234,3 +234,14 @@ module _ {B : Type 0} (g : ℤ → B) (f : Form) (d : Bool) (s : List ℕ) (old 
     -- the reading does not end at a number that is not allowed
     pub written-wrong : {A : Type 0} → left ≡ none → A
     written-wrong q = let z : none ≡ some (rest .0) = sym q ∙ rest .1 in let y : _≡_ {A = ℕ} 0 1 = cc in absurd (omega arith)
+
+-- By the form and the delta that a payload has
+
+pub results-as : (s : List ℕ) (n : ℕ) {f h : Form} → f ≡ h → HasResults f s n → HasResults h s n
+results-as s n e r = subst (λ (i : Form). HasResults i s n) e r
+
+pub room-as : (s : List ℕ) (n room : ℕ) {f h : Form} → f ≡ h → HasResults f s n → n ≤ room → HasRoom h s room
+room-as s n room {f} {h} e r k = let t = results-as s n e r in let l = t .2 in (t .0, t .1, omega arith)
+
+pub wrote-as : {B : Type 0} (g : ℤ → B) (s : List ℕ) (old new : List B) {f h : Form} {d e : Bool} → f ≡ h → d ≡ e → Wrote g h e s old new → Wrote g f d s old new
+wrote-as g s old new {f} {h} {d} {e} p q w = subst (λ (i : Form). Wrote g i d s old new) (sym p) (subst (λ (b : Bool). Wrote g h b s old new) (sym q) w)
