@@ -4,18 +4,17 @@ ghost use mathlib.Core.Path.{_≡_};
 ghost use mathlib.Core.Bool.{true, false};
 ghost use mathlib.Core.List.{_++_};
 ghost use Prim.Native.Nat.{_+_, _≤_};
-ghost use lib.ListN.{length, drop};
-ghost use Rattle.columns.specs.Table.{suits, isNames};
+ghost use lib.ListN.{length, drop, replicate};
+ghost use Rattle.columns.specs.Table.{suits};
 ghost use Rattle.columns.specs.Decode.{decode, judgedPayload};
-ghost use Rattle.payloads.specs.Results.{Filled, HasRoom, HasResults, Covered, Wrote};
+ghost use Rattle.payloads.specs.Results.{paste, Filled, HasRoom, HasResults, Covered, Wrote};
 ghost use Rattle.columns.specs.Buffer.{decodedAnswer};
-ghost use Rattle.decoding.specs.Steps.{namesPayload, isWritten};
+ghost use Rattle.decoding.specs.Steps.{namesPayload, charsPayload, isWritten};
 ghost use Rattle.decoding.specs.Calls.{fixedAnswer, asNumber, asByte, numberBuffer, byteBuffer};
 use columns::HEADER_SIZE;
 use columns::Header;
 use columns::Kind;
 use columns::Wanted;
-use payloads::Item;
 use refusal::Answer;
 use steps::Form;
 use steps::Range;
@@ -70,9 +69,7 @@ pub fn decode_chars(column: &[u8], buffer: &mut [u8]) -> Answer
 {
     match columns::read_header(column, Wanted::Only(Kind::Chars)) {
         Header::Refused(r) => Answer::Refused(r),
-        Header::Good(n, m, kind, form, delta) => {
-            chars_in(&column[HEADER_SIZE..], n, m, kind, form, delta, buffer)
-        }
+        Header::Good(n, m, _, _, _) => chars_in(&column[HEADER_SIZE..], n, m, buffer),
     }
 }
 
@@ -148,7 +145,7 @@ fn put_integers(payload: &[u8], form: Form, delta: bool, n: usize, buffer: &mut 
         },
         Form::Runs(range) => {
             if delta {
-                return write_integers(payload, Form::Runs(range), delta, buffer);
+                return write_sums(payload, range, buffer);
             }
             write_runs(payload, range, n, buffer)
         }
@@ -180,31 +177,6 @@ fn write_plain(payload: &[u8], size: Size, n: usize, buffer: &mut [i32])
         let at = i * k;
         buffer[i] = steps::number_at(&payload[at..at + k], 0, size);
         i += 1;
-    }
-}
-
-// Writes the results of a payload, item by item.
-fn write_integers(payload: &[u8], form: Form, delta: bool, buffer: &mut [i32])
-    requires { ⌜ HasRoom form (now payload) (length (now buffer)) ⌝ }
-    ensures { λ r. ⌜ Wrote asNumber form delta (now (payload .entry)) (now (buffer .entry)) (now (buffer .exit)) ⌝ }
-{
-    let mut at: usize = 0;
-    let mut o: usize = 0;
-    let mut sum: i32 = 0;
-    loop {
-        match payloads::item_at(payload, at, form) {
-            Item::Run(value, count, next) => {
-                sum = fill_integers(buffer, o, count, sum, value, delta);
-                o += count;
-                at = next;
-            }
-            Item::Wrong => {
-                return;
-            }
-            Item::End => {
-                return;
-            }
-        }
     }
 }
 
@@ -275,6 +247,24 @@ fn write_runs(payload: &[u8], range: Range, n: usize, buffer: &mut [i32])
     }
 }
 
+// Writes the sums of runs of deltas.
+fn write_sums(payload: &[u8], range: Range, buffer: &mut [i32])
+    requires { ⌜ HasRoom (Form.Runs range) (now payload) (length (now buffer)) ⌝ }
+    ensures { λ r. ⌜ Wrote asNumber (Form.Runs range) true (now (payload .entry)) (now (buffer .entry)) (now (buffer .exit)) ⌝ }
+{
+    let mut at: usize = 0;
+    let mut o: usize = 0;
+    let mut sum: i32 = 0;
+    while 8 <= payload.len() - at {
+        let run = &payload[at..];
+        let value = numbers::read_i32(run, 0);
+        let count = numbers::to_u32(numbers::read_i32(run, 4));
+        at += 8;
+        sum = fill_integers(buffer, o, count as usize, sum, value, true);
+        o += count as usize;
+    }
+}
+
 // Writes a run from a place on. A short one is written as four cells, where so many are left: the next run is written over them. The first
 // test is of the 32 bits that were read, so that they are read at once.
 fn write_run(buffer: &mut [i32], from: usize, count: u32, value: i32, left: usize)
@@ -318,75 +308,64 @@ fn fill_integers(
 }
 
 // The characters of a payload whose header passed.
-fn chars_in(
-    payload: &[u8],
-    n: usize,
-    m: u32,
-    kind: Kind,
-    form: Form,
-    delta: bool,
-    buffer: &mut [u8],
-) -> Answer
-    requires { ⌜ isNames form ≡ false ⌝ }
-    ensures answer { λ r. ⌜ r ≡ decodedAnswer (judgedPayload (Header.Good n m kind form delta) (now (payload .entry))) (length (now (buffer .entry))) ⌝ }
-    ensures buffer { λ r. ⌜ now (buffer .exit) ≡ byteBuffer (judgedPayload (Header.Good n m kind form delta) (now (payload .entry))) (now (buffer .entry)) ⌝ }
+fn chars_in(payload: &[u8], n: usize, m: u32, buffer: &mut [u8]) -> Answer
+    ensures answer { λ r. ⌜ r ≡ decodedAnswer (charsPayload n m (now (payload .entry))) (length (now (buffer .entry))) ⌝ }
+    ensures buffer { λ r. ⌜ now (buffer .exit) ≡ byteBuffer (charsPayload n m (now (payload .entry))) (now (buffer .entry)) ⌝ }
 {
-    let refused = payloads::refusal_of(payload, form, m as usize, n);
+    let refused = payloads::refusal_of(payload, Form::Runs(Range::Ascii), m as usize, n);
     if refused != refusal::ACCEPTED {
         return Answer::Refused(refused);
     }
     if buffer.len() < n {
         return Answer::Refused(refusal::BUFFER_TOO_SMALL);
     }
-    write_bytes(payload, form, delta, buffer);
+    write_chars(payload, n, buffer);
     Answer::Count(n)
 }
 
-// Writes the results of a payload as bytes, item by item.
-fn write_bytes(payload: &[u8], form: Form, delta: bool, buffer: &mut [u8])
-    requires { ⌜ HasRoom form (now payload) (length (now buffer)) ⌝ }
-    ensures { λ r. ⌜ Wrote asByte form delta (now (payload .entry)) (now (buffer .entry)) (now (buffer .exit)) ⌝ }
+// Writes the characters of n results in runs.
+fn write_chars(payload: &[u8], n: usize, buffer: &mut [u8])
+    requires { ⌜ HasResults (Form.Runs Range.Ascii) (now payload) n × (n ≤ length (now buffer)) ⌝ }
+    ensures { λ r. ⌜ Wrote asByte (Form.Runs Range.Ascii) false (now (payload .entry)) (now (buffer .entry)) (now (buffer .exit)) ⌝ }
 {
     let mut at: usize = 0;
     let mut o: usize = 0;
-    let mut sum: i32 = 0;
-    loop {
-        match payloads::item_at(payload, at, form) {
-            Item::Run(value, count, next) => {
-                sum = fill_bytes(buffer, o, count, sum, value, delta);
-                o += count;
-                at = next;
-            }
-            Item::Wrong => {
-                return;
-            }
-            Item::End => {
-                return;
-            }
-        }
+    while 8 <= payload.len() - at {
+        let run = &payload[at..];
+        let byte = low_byte(numbers::read_i32(run, 0));
+        let count = numbers::to_u32(numbers::read_i32(run, 4));
+        at += 8;
+        write_byte(buffer, o, count as usize, byte, n - o);
+        o += count as usize;
     }
 }
 
-// Writes the results of a run as bytes from a place on, and gives the last.
-fn fill_bytes(
-    buffer: &mut [u8],
-    from: usize,
-    count: usize,
-    sum: i32,
-    value: i32,
-    delta: bool,
-) -> i32
-    requires { ⌜ from + count ≤ length (now buffer) ⌝ }
-    ensures { λ r. ⌜ Filled asByte delta sum value (now (buffer .entry)) from count (now (buffer .exit)) r ⌝ }
+// Writes a run of characters from a place on: sixteen at once, where so many are left, and those behind them. The next run is written over
+// what is too much.
+fn write_byte(buffer: &mut [u8], from: usize, count: usize, byte: u8, left: usize)
+    requires { ⌜ (count ≤ left) × (from + left ≤ length (now buffer)) ⌝ }
+    ensures { λ r. ⌜ Covered byte (now (buffer .entry)) from count left (now (buffer .exit)) ⌝ }
 {
-    let mut x = sum;
+    if left < 16 {
+        fill_bytes(buffer, from, count, byte);
+        return;
+    }
+    fill_bytes(buffer, from, 16, byte);
+    if 16 < count {
+        fill_bytes(buffer, from + 16, count - 16, byte);
+    }
+}
+
+// Writes the same byte many times.
+fn fill_bytes(buffer: &mut [u8], from: usize, count: usize, byte: u8)
+    requires { ⌜ from + count ≤ length (now buffer) ⌝ }
+    ensures { λ r. ⌜ now (buffer .exit) ≡ paste (now (buffer .entry)) from (replicate count byte) ⌝ }
+{
     let mut n: usize = 0;
     while n < count {
-        x = payloads::next_result(x, value, delta);
-        buffer[from + n] = low_byte(x);
+        buffer[from + n] = byte;
         n += 1;
     }
-    x
 }
 
 // The lowest byte of a number.

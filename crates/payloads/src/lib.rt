@@ -61,7 +61,7 @@ pub fn refusal_of(payload: &[u8], form: Form, size: usize, length: usize) -> u8
             Size::Two => count_two(payload, length),
             Size::Four => refusal_in(scan_packed(payload, Size::Four, false, length)),
         },
-        Form::Runs(range) => count_runs(payload, range, length),
+        Form::Runs(range) => runs_refusal(payload, range, length),
         Form::Plain(width) => refusal_in(scan_plain(payload, width, false, length)),
         Form::Names => names_refusal(payload, size, length),
     }
@@ -368,6 +368,18 @@ fn scan_runs(payload: &[u8], range: Range, delta: bool, length: usize) -> Outcom
                 return judged(over, left, exact);
             }
         }
+    }
+}
+
+// The refusal of runs, or 0, by a loop of their range's own.
+fn runs_refusal(payload: &[u8], range: Range, length: usize) -> u8
+    ensures { λ r. ⌜ r ≡ refusalOf length (readIn (Form.Runs range) (now (payload .entry))) ⌝ }
+{
+    match range {
+        Range::Int8 => count_runs(payload, Range::Int8, length),
+        Range::Int16 => count_runs(payload, Range::Int16, length),
+        Range::Int32 => count_runs(payload, Range::Int32, length),
+        Range::Ascii => count_runs(payload, Range::Ascii, length),
     }
 }
 

@@ -36,7 +36,7 @@ put-integers-spec =
     (λ c. search needs)
     (λ c κs. room-as (c .before .before .before .before .before .before .args .payload .now) (c .before .before .before .before .before .before .args .n) _ (c .before .before .before .form3 .given .1) (c .before .before .before .before .before .before .pre .1) (c .before .before .before .before .before .before .pre .2))
     (λ c. search needs)
-    (λ c. wrote-as asNumber (c .before .before .before .before .before .before .before .before .args .payload .now) (c .before .before .before .before .before .before .before .before .args .buffer .now) (c .before .write-integers .last .1 .1 .1 .0) (c .before .before .before .before .before .form3 .given .1) refl (c .before .write-integers .ensures))
+    (λ c. wrote-as asNumber (c .before .before .before .before .before .before .before .before .args .payload .now) (c .before .before .before .before .before .before .before .before .args .buffer .now) (c .before .write-sums .last .1 .1 .0) (c .before .before .before .before .before .form3 .given .1) (c .before .before .before .if1 .taken) (c .before .write-sums .ensures))
     (λ c κs. (results-as (c .before .before .before .before .before .before .args .payload .now) (c .before .before .before .before .before .before .args .n) (c .before .before .before .form3 .given .1) (c .before .before .before .before .before .before .pre .1), c .before .before .before .before .before .before .pre .2))
     (λ c. search needs)
     (λ c. search needs)

@@ -28,7 +28,7 @@ returns-3 c =
 returns-4 : tie.Need-returns-4
 returns-4 c =
     let a = c .before .before .before .before .before .args in
-    refusal-held (Runs (c .before .before .form2 .given .0 .0)) (a .form) (a .size) (a .length) (a .payload .now) (c .count-runs .result) refl (c .before .before .form2 .given .1) (c .count-runs .ensures)
+    refusal-held (Runs (c .before .before .form2 .given .0 .0)) (a .form) (a .size) (a .length) (a .payload .now) (c .runs-refusal .result) refl (c .before .before .form2 .given .1) (c .runs-refusal .ensures)
 
 returns-5 : tie.Need-returns-5
 returns-5 c =

@@ -24,7 +24,7 @@ use Rattle.steps.specs.Laws.Delta.{results-plain}
 use Rattle.payloads.specs.Results.{paste, Filled, HasResults, Covered, Wrote}
 use Rattle.payloads.specs.Laws.Items.{count-bits, runs-count, runs-run, runs-wrong}
 use Rattle.payloads.specs.Laws.Scan.{map-id, map-both, rest-of}
-use Rattle.payloads.specs.Laws.Writing.{map-append, paste-length, paste-set, paste-none}
+use Rattle.payloads.specs.Laws.Writing.{map-append, paste-length, paste-set, paste-none, paste-more}
 
 -- The next run
 
@@ -56,8 +56,19 @@ map-replicate g zero v = refl
 map-replicate g (suc n) v = ap (λ (l : List _). g v ∷ l) (map-replicate g n v)
 
 -- a run that is written
+pub filled-same : {B : Type 0} (g : ℤ → B) (a v x : ℤ) (old new : List B) (from n : ℕ) → Filled g false a v old from n new x → new ≡ paste old from (replicate n (g v))
+filled-same g a v x old new from n w = w .0 ∙ ap (paste old from) (ap (map g) (results-plain a (replicate n v)) ∙ map-replicate g n v)
+
+-- the rest of a run behind its first k elements
+pub covered-rest : {B : Type 0} (b : B) (old : List B) (o k n : ℕ) → k ≤ n → o + n ≤ length old → paste (paste old o (replicate k b)) (o + k) (replicate (n - k) b) ≡ paste old o (replicate n b)
+covered-rest b old o k n h l =
+    let p = length-replicate k b in
+    let q = length-replicate (n - k) b in
+    let e : replicate k b ++ replicate (n - k) b ≡ replicate n b = replicate-append-replicate k (n - k) b ∙ ap (λ (j : ℕ). replicate j b) (let z : k + (n - k) ≡ n = omega arith in z) in
+    ap (λ (j : ℕ). paste (paste old o (replicate k b)) (o + j) (replicate (n - k) b)) (sym p) ∙ paste-more old o (replicate k b) (replicate (n - k) b) (omega arith) ∙ ap (paste old o) e
+
 pub covered-filled : {B : Type 0} (g : ℤ → B) (a v x : ℤ) (old new : List B) (from n bound : ℕ) → n ≤ bound → Filled g false a v old from n new x → Covered (g v) old from n bound new
-covered-filled g a v x old new from n bound h w = (n, omega arith, h, w .0 ∙ ap (paste old from) (ap (map g) (results-plain a (replicate n v)) ∙ map-replicate g n v))
+covered-filled g a v x old new from n bound h w = (n, omega arith, h, filled-same g a v x old new from n w)
 
 -- the test of a short run
 pub short-run : (count left : ℕ) (t : Bool) → t ≡ (leb count 4 && leb 4 left) → t ≡ true → (count ≤ 4) × (4 ≤ left)

@@ -49,6 +49,18 @@ module _ {B : Type 0} (old : List B) (o : ℕ) where
       ∙ set-at (take o old ++ l) (getD old (o + length l) e) (drop (suc (o + length l)) old) x (o + length l) p
       ∙ rw n (append-assoc (take o old) l (x ∷ drop (suc (o + length l)) old) ∙ ap (λ (r : List B). take o old ++ r) (sym (append-assoc l (x ∷ []) (drop (suc (o + length l)) old))))
 
+  -- a list behind one that is pasted
+  pub paste-more : (l m : List B) → o + (length l + length m) ≤ length old → paste (paste old o l) (o + length l) m ≡ paste old o (l ++ m)
+  paste-more l m h =
+      let n : length (take o old ++ l) ≡ o + length l = length-append (take o old) l ∙ ap (λ (i : ℕ). i + length l) (length-take-le o old (omega arith)) in
+      let a : paste old o l ≡ (take o old ++ l) ++ drop (o + length l) old = sym (append-assoc (take o old) l (drop (o + length l) old)) in
+      let t : take (o + length l) (paste old o l) ≡ take o old ++ l = ap (take (o + length l)) a ∙ take-at (take o old ++ l) (drop (o + length l) old) (o + length l) n in
+      let e : o + length l + length m ≡ o + length (l ++ m) = let q = length-append l m in omega arith in
+      let d : drop (o + length l + length m) (paste old o l) ≡ drop (o + length (l ++ m)) old =
+      sym (drop-drop (length m) (o + length l) (paste old o l)) ∙ ap (drop (length m)) (ap (drop (o + length l)) a ∙ drop-at (take o old ++ l) (drop (o + length l) old) (o + length l) n)
+      ∙ drop-drop (length m) (o + length l) old ∙ ap (λ (i : ℕ). drop i old) e in
+      rw (t, d) (simp append-assoc)
+
 -- after a list at the buffer's start, one more behind it
 pub paste-front : {B : Type 0} (old l m : List B) → length l + length m ≤ length old
     → paste (l ++ drop (length l) old) (length l) m ≡ (l ++ m) ++ drop (length (l ++ m)) old
@@ -140,13 +152,13 @@ module _ {B : Type 0} (g : ℤ → B) (f : Form) (d : Bool) (s : List ℕ) (old 
 
   module _ (left : Option (List ℤ)) (o : ℕ) (new : List B) (x : ℤ) (w : WrittenTo left o new x) where
     -- the rest of the values
-    rest : (r : List ℤ) × (left ≡ some r) × (w .0 ++ r ≡ room .0)
-    rest = let r = rest-of (w .0) (room .0) left (sym (room .1) ∙ w .1) in (r .0, r .1, sym (r .2))
+    pub written-rest : (r : List ℤ) × (left ≡ some r) × (w .0 ++ r ≡ room .0)
+    written-rest = let r = rest-of (w .0) (room .0) left (sym (room .1) ∙ w .1) in (r .0, r .1, sym (r .2))
 
     pub written-length : length new ≡ length old
     written-length =
-        let a = length-append (w .0) (rest .0) in
-        let b = ap length (rest .2) in
+        let a = length-append (w .0) (written-rest .0) in
+        let b = ap length (written-rest .2) in
         let m = length-append (map g (resultsFrom d (pos 0) (w .0))) (drop (length (w .0)) old) in
         let c = length-map (resultsFrom d (pos 0) (w .0)) g in
         let e = length-results d (pos 0) (w .0) in
@@ -159,12 +171,12 @@ module _ {B : Type 0} (g : ℤ → B) (f : Form) (d : Bool) (s : List ℕ) (old 
       -- there is room for a run
       pub written-room : o + k ≤ length new
       written-room =
-          let x = rest-of (replicate k v) (rest .0) left′ (sym (rest .1) ∙ q) in
+          let x = rest-of (replicate k v) (written-rest .0) left′ (sym (written-rest .1) ∙ q) in
           let a = ap length (x .2) in
           let b = length-append (replicate k v) (x .0) in
           let c = length-replicate k v in
-          let m = length-append (w .0) (rest .0) in
-          let i = ap length (rest .2) in
+          let m = length-append (w .0) (written-rest .0) in
+          let i = ap length (written-rest .2) in
           let h = room .2 in
           let n = written-length in
           let j = w .2 in
@@ -233,7 +245,7 @@ module _ {B : Type 0} (g : ℤ → B) (f : Form) (d : Bool) (s : List ℕ) (old 
 
     -- the reading does not end at a number that is not allowed
     pub written-wrong : {A : Type 0} → left ≡ none → A
-    written-wrong q = let z : none ≡ some (rest .0) = sym q ∙ rest .1 in let y : _≡_ {A = ℕ} 0 1 = cc in absurd (omega arith)
+    written-wrong q = let z : none ≡ some (written-rest .0) = sym q ∙ written-rest .1 in let y : _≡_ {A = ℕ} 0 1 = cc in absurd (omega arith)
 
 -- By the form and the delta that a payload has
 
