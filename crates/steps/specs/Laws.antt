@@ -5,6 +5,7 @@ pub mod Payload
 pub mod Lists
 pub mod Allowed
 pub mod Names
+pub mod Padding
 pub mod Fits
 pub mod NumbersBack
 pub mod RunLength

@@ -2,19 +2,20 @@
 // (packing), each defined once on lists in specs/. The calls here are the steps on single numbers and the check of names, and every call
 // is total.
 ghost use mathlib.Core.Path.{_≡_};
-ghost use mathlib.Core.Bool.{not, _||_};
+ghost use mathlib.Core.Bool.{true, _&&_};
 ghost use mathlib.Core.List.{map};
-ghost use Prim.Native.Nat.{_+_};
+ghost use Prim.Native.Nat.{_+_, _<_, _≤_};
 ghost use lib.IntN.{pos};
-ghost use lib.Dec.{eqb};
+ghost use lib.ListN.{length, take, drop};
+ghost use lib.Dec.{leb};
 ghost use mir.Syntax.{w8};
 ghost use mir.Val.{toZ};
 ghost use Rattle.numbers.specs.BigEndian.{signedAt};
 ghost use Rattle.steps.specs.Width.{widthOf, sizeOf, upper, lower};
 ghost use Rattle.steps.specs.Delta.{plusDelta, minusDelta};
 ghost use Rattle.steps.specs.Packing.{isLimit};
-ghost use Rattle.steps.specs.Payload.{leastIn, mostIn, inRange, allowed};
-ghost use Rattle.steps.specs.Steps.{turnOf};
+ghost use Rattle.steps.specs.Payload.{leastIn, mostIn, inRange, allIn, paddedFrom, allowed};
+ghost use Rattle.steps.specs.Steps.{turnOf, oneName, wordOf, zerosLast};
 
 // The size of a number, in bytes.
 pub enum Size {
@@ -135,32 +136,105 @@ pub fn is_limit(number: i32, size: Size) -> bool
     }
 }
 
-// Whether names of `size` bytes each are ASCII and padded. `place` is the next byte's place in its name, `before` the byte before it.
+// Whether names of `size` bytes each are ASCII and padded. Small sizes are constants, so that each has a loop of its own; without a size
+// there is one name.
 pub fn are_names(names: &[u8], size: usize) -> bool
     ensures { λ r. ⌜ r ≡ allowed Form.Names size (map pos (now (names .entry))) ⌝ }
 {
-    let mut ok = true;
-    let mut before: u8 = 0;
-    let mut place: usize = 0;
+    if !are_ascii(names) {
+        return false;
+    }
+    match size {
+        0 => is_padded(names),
+        1 => true,
+        2 => are_padded(names, 2),
+        3 => are_padded(names, 3),
+        4 => are_padded(names, 4),
+        _ => are_padded(names, size),
+    }
+}
+
+// Whether every byte is ASCII, by the highest of them.
+fn are_ascii(bytes: &[u8]) -> bool
+    ensures { λ r. ⌜ r ≡ allIn Range.Ascii (map pos (now (bytes .entry))) ⌝ }
+{
+    let mut highest: u8 = 0;
     let mut i: usize = 0;
-    while i < names.len() {
-        let b = names[i];
-        ok = ok & (b <= 127) & may_follow(place, before, b);
-        before = b;
+    while i < bytes.len() {
+        highest = higher(highest, bytes[i]);
         i += 1;
-        place += 1;
-        if place == size {
-            place = 0;
+    }
+    highest <= 127
+}
+
+// The higher of two bytes.
+fn higher(a: u8, b: u8) -> u8
+    ensures { λ r. ⌜ leb r 127 ≡ (leb a 127 && leb b 127) ⌝ }
+{
+    if a < b { b } else { a }
+}
+
+// Whether names of a size are padded: each whole one, and what is left after them.
+fn are_padded(names: &[u8], size: usize) -> bool
+    requires { ⌜ (0 < size) × (allIn Range.Ascii (map pos (now names)) ≡ true) ⌝ }
+    ensures { λ r. ⌜ r ≡ paddedFrom size 0 (pos 0) (map pos (now (names .entry))) ⌝ }
+{
+    let n = names.len() / size;
+    let mut ok = true;
+    let mut i: usize = 0;
+    while i < n {
+        ok = ok & is_name(names, i * size, size);
+        i += 1;
+    }
+    let at = n * size;
+    ok & is_padded(&names[at..])
+}
+
+// Whether the name at a place is padded. One of four bytes is tested as one number.
+fn is_name(names: &[u8], at: usize, size: usize) -> bool
+    requires { ⌜ (at + size ≤ length (now names)) × (allIn Range.Ascii (map pos (now names)) ≡ true) ⌝ }
+    ensures { λ r. ⌜ r ≡ oneName (take size (drop at (now (names .entry)))) ⌝ }
+{
+    match size {
+        4 => zeros_last(word_of(names[at], names[at + 1], names[at + 2], names[at + 3])),
+        _ => {
+            let end = at + size;
+            is_padded(&names[at..end])
         }
+    }
+}
+
+// Whether one name is padded: after a 0 there are only zeros.
+fn is_padded(name: &[u8]) -> bool
+    ensures { λ r. ⌜ r ≡ oneName (now (name .entry)) ⌝ }
+{
+    let mut ok = true;
+    let mut i: usize = 1;
+    while i < name.len() {
+        ok = ok & ((name[i - 1] != 0) | (name[i] == 0));
+        i += 1;
     }
     ok
 }
 
-// Whether a byte may stand at a place in its name: the first, after a byte that is not 0, or as padding.
-fn may_follow(place: usize, before: u8, b: u8) -> bool
-    ensures { λ r. ⌜ r ≡ (eqb place 0 || not (eqb before 0) || eqb b 0) ⌝ }
+// Four bytes as one number, the first byte the lowest.
+fn word_of(a: u8, b: u8, c: u8, d: u8) -> u32
+    ensures { λ r. ⌜ r ≡ wordOf a b c d ⌝ }
 {
-    (place == 0) | (before != 0) | (b == 0)
+    let low = numbers::u8_to_u32(a) + numbers::u8_to_u32(b) * 256;
+    low + numbers::u8_to_u32(c) * 65536 + numbers::u8_to_u32(d) * 16777216
+}
+
+// Whether the bytes of a word that are 0 are its last. A byte below 128 that is not 0 has its highest bit set once 127 is added.
+fn zeros_last(word: u32) -> bool
+    ensures { λ r. ⌜ r ≡ zerosLast word ⌝ }
+{
+    let marks = std::num::wrapping_add_u32(word, 0x7f7f_7f7f) & 0x8080_8080;
+    (marks == 0)
+        | (marks == 0x80)
+        | (marks == 0x8080)
+        | (marks == 0x80_8080)
+        | (marks == 0x8080_8080)
 }
 
 fn least(range: Range) -> i32
