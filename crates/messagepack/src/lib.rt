@@ -150,20 +150,35 @@ fn key_at(leads: &[u8; 256], file: &[u8], at: usize) -> Text
     }
 }
 
-// A value at a place that is an integer in its lead byte, or a short string of bytes below 80: the commonest, found with no table.
+// A value at a place that is an integer in its lead byte, a float, or a short string of bytes below 80: the commonest, found with no table.
 fn quick_at(file: &[u8], at: usize) -> Quick
     ensures { λ r. ⌜ QuickSays (now (file .entry)) at r ⌝ }
 {
     if file.len() <= at {
         return Quick::Other;
     }
-    if file[at] < 0x80 {
+    let b = file[at];
+    if b < 0x80 {
         return Quick::End(at + 1);
+    }
+    if b == 0xca {
+        return float_at(file, at);
     }
     let Short::At(p, n) = short_at(file, at) else {
         return Quick::Other;
     };
     Quick::End(p + n)
+}
+
+// The float at a place, by its lead byte.
+fn float_at(file: &[u8], at: usize) -> Quick
+    requires { ⌜ (at < length (now file)) × (getD (now file) at 0 ≡ 0xca) ⌝ }
+    ensures { λ r. ⌜ QuickSays (now (file .entry)) at r ⌝ }
+{
+    if file.len() - at < 5 {
+        return Quick::Other;
+    }
+    Quick::End(at + 5)
 }
 
 // A string of at most 31 bytes, its length in its lead byte, if all its bytes are below 80.
@@ -189,6 +204,19 @@ fn short_at(file: &[u8], at: usize) -> Short
         return Short::At(p, n);
     }
     Short::Other
+}
+
+// Whether the lead byte at a place begins an array or a map and has its count in it: a quick look before the table.
+fn holds_few(file: &[u8], at: usize) -> bool
+    ensures { λ r. ⌜ (r ≡ true → (0x80 ≤ getD (now (file .entry)) at 0) × (getD (now (file .entry)) at 0 < 0xa0)) ⌝ }
+{
+    if file.len() <= at {
+        return false;
+    }
+    if file[at] < 0x80 {
+        return false;
+    }
+    file[at] < 0xa0
 }
 
 // The value at a place if it holds no others.
@@ -348,6 +376,9 @@ fn element(
     if let Quick::End(p) = quick_at(file, at) {
         return Walk::End(p);
     }
+    if holds_few(file, at) {
+        return value(leads, file, at, depth, starts, prints);
+    }
     match leaf_at(leads, file, at) {
         Leaf::End(p) => Walk::End(p),
         Leaf::Refused(e) => Walk::Refused(e),
@@ -411,6 +442,9 @@ fn leaf_end(leads: &[u8; 256], file: &[u8], at: usize) -> Quick
 {
     if let Quick::End(p) = quick_at(file, at) {
         return Quick::End(p);
+    }
+    if holds_few(file, at) {
+        return Quick::Other;
     }
     match leaf_at(leads, file, at) {
         Leaf::End(p) => Quick::End(p),

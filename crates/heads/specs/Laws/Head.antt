@@ -17,6 +17,7 @@ use Rattle.heads.specs.Head.{Holds, HeadOf, kindAt, headNumber, headFrom
 use Rattle.heads.specs.declared.Kind.{Kind}
 use Rattle.heads.specs.declared.Head.{Head}
 use Rattle.heads.specs.Span.{Span}
+use Rattle.heads.specs.Laws.Table.{Alone}
 use Rattle.heads.specs.Laws.Span.{part-length, span-join, span-one, span-part, starts, holds, fits}
 
 module _ (s : List ℕ) (at : ℕ) where
@@ -43,6 +44,22 @@ module _ (s : List ℕ) (at : ℕ) where
       let j : at + size ≡ at + 1 + suc y = omega arith in
       let m : n ≡ numberOf (take (suc y) (drop (at + 1) s)) = i ∙ unsignedAt-in (suc y) s (at + 1) (omega arith) in
       rw (m, j) (sym (head-whole (suc y) (omega arith) (omega arith)))
+
+  -- a head of a lead byte alone
+  pub alone-head : {k : Kind} {n : ℕ} → at < length s → Alone k (getD s at 0) n → (kindAt s at ≡ k) × (headAt s at ≡ Head.At n (at + 1))
+  alone-head lt l = (kind-in lt ∙ l .kind, sym (head-held {size = 1} (rw (l .more)) refl (omega arith) (sym (l .held))))
+
+  -- a float: its lead byte, and four bytes after it
+  pub float-kind : at < length s → getD s at 0 ≡ 0xca → kindAt s at ≡ Kind.Float
+  unfolding kindOf
+  float-kind lt b = kind-in lt ∙ ap kindOf b
+
+  pub float-size : getD s at 0 ≡ 0xca → 5 ≡ moreOf (getD s at 0) + 1
+  unfolding moreOf
+  float-size b = rw b
+
+  pub float-head : getD s at 0 ≡ 0xca → at + 5 ≤ length s → headAt s at ≡ Head.At (unsignedAt 4 s (at + 1)) (at + 5)
+  float-head b le = sym (head-number 3 (float-size b) refl le refl)
 
   -- a head that is read ends after its place, inside
   pub head-inside : {n p : ℕ} → headAt s at ≡ Head.At n p → (at < p) × (p ≤ length s)

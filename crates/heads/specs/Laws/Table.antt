@@ -1,11 +1,11 @@
 -- The tables of lead bytes: their rows, and that kind and head by it are those of the lead-byte rule.
 -- Assumes nothing.
-use mathlib.Core.Path.{_≡_, refl, sym, ap, _∙_}
+use mathlib.Core.Path.{_≡_, refl, sym, ap, subst, _∙_}
 use mathlib.Core.Bool.{Bool, true, false, cond, _&&_, _||_}
 use mathlib.Core.List.{List, [], _∷_}
 use Prim.Native.Nat.{ℕ, zero, suc, _+_, _-_, _*_, _/_, _%_, _<_, _≤_}
 use native.Mathlib.Omega.{arith}
-use native.Mathlib.Nat.{add-zero, zero-add, add-suc, suc-add, le-of-suc-le-suc, not-suc-le-zero}
+use native.Mathlib.Nat.{add-zero, zero-add, add-suc, suc-add, sub-zero, le-of-suc-le-suc, not-suc-le-zero}
 use lib.Arith.{digits-div, digits-mod}
 use lib.Dec.{ltb, leb, eqb}
 use lib.ListN.{length, getD}
@@ -110,23 +110,33 @@ pub record Alone (k : Kind) (b n : ℕ) : Type 0 where
   pub more : moreOf b ≡ 0
   pub held : heldBy b ≡ n
 
+-- the n lead bytes from i on, of one kind, hold their places among them
+alone-among : (k : Kind) (i n : ℕ) → kindFrom (kindCell k) ≡ k → valuesFrom (λ j. kindCell (kindOf j)) i n ≡ valuesFrom (λ j. kindCell k) i n → valuesFrom moreOf i n ≡ valuesFrom (λ j. 0) i n → valuesFrom heldBy i n ≡ valuesFrom (λ j. j - i) i n → (b : ℕ) → i ≤ b → b < i + n → Alone k b (b - i)
+alone-among k i n named kinds mores helds b l h = record {
+  kind = sym (kind-named b) ∙ ap kindFrom (values-agree (λ j. kindCell (kindOf j)) (λ j. kindCell k) i n kinds b l h) ∙ named;
+  more = values-agree moreOf (λ j. 0) i n mores b l h;
+  held = values-agree heldBy (λ j. j - i) i n helds b l h;
+}
+
 -- the lead bytes 00 to 7f
 pub low-lead : (b : ℕ) → b < 0x80 → Alone Kind.Unsigned b b
 unfolding kindOf moreOf heldBy
-low-lead b h = record {
-  kind = sym (kind-named b) ∙ ap kindFrom (values-agree (λ i. kindCell (kindOf i)) (λ i. 1) 0 0x80 refl b (omega arith) (omega arith));
-  more = values-agree moreOf (λ i. 0) 0 0x80 refl b (omega arith) (omega arith);
-  held = values-agree heldBy (λ i. i) 0 0x80 refl b (omega arith) (omega arith);
-}
+low-lead b h = subst (Alone Kind.Unsigned b) (sub-zero b) (alone-among Kind.Unsigned 0 0x80 refl refl refl refl b (omega arith) (omega arith))
+
+-- the lead bytes 80 to 8f
+pub map-lead : (b : ℕ) → 0x80 ≤ b → b < 0x90 → Alone Kind.Map b (b - 0x80)
+unfolding kindOf moreOf heldBy
+map-lead b l h = alone-among Kind.Map 0x80 16 refl refl refl refl b l (omega arith)
+
+-- the lead bytes 90 to 9f
+pub array-lead : (b : ℕ) → 0x90 ≤ b → b < 0xa0 → Alone Kind.Array b (b - 0x90)
+unfolding kindOf moreOf heldBy
+array-lead b l h = alone-among Kind.Array 0x90 16 refl refl refl refl b l (omega arith)
 
 -- the lead bytes a0 to bf
 pub string-lead : (b : ℕ) → 0xa0 ≤ b → b < 0xc0 → Alone Kind.Str b (b - 0xa0)
 unfolding kindOf moreOf heldBy
-string-lead b l h = record {
-  kind = sym (kind-named b) ∙ ap kindFrom (values-agree (λ i. kindCell (kindOf i)) (λ i. 4) 0xa0 32 refl b l (omega arith));
-  more = values-agree moreOf (λ i. 0) 0xa0 32 refl b l (omega arith);
-  held = values-agree heldBy (λ i. i - 0xa0) 0xa0 32 refl b l (omega arith);
-}
+string-lead b l h = alone-among Kind.Str 0xa0 32 refl refl refl refl b l (omega arith)
 
 -- the tables of lead bytes, row by row
 

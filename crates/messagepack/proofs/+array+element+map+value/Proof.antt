@@ -36,6 +36,7 @@ use Rattle.messagepack.proofs.string_at.Reads as string-at-reads
 use Rattle.messagepack.proofs.leaves.Reads as leaves-reads
 use Rattle.messagepack.proofs.new_key.Reads as new-key-reads
 use Rattle.messagepack.proofs.quick_at.Reads as quick-at-reads
+use Rattle.messagepack.proofs.holds_few.Reads as holds-few-reads
 use Rattle.messagepack.proofs.+array+element+map+value.{statement}
 use Rattle.messagepack.proofs.+array+element+map+value.Tie.{close}
 
@@ -83,7 +84,7 @@ abbrev array-claims : ℕ → array-lts.Claims
 array-claims t = (leaves-reads.Asked, leaves-reads.Learnt, value-below t, value.Post)
 
 abbrev element-claims : ℕ → element-lts.Claims
-element-claims t = (quick-at-reads.Asked, quick-at-reads.Learnt, leaf-at-reads.Asked, leaf-at-reads.Learnt, value-below t, value.Post)
+element-claims t = (quick-at-reads.Asked, quick-at-reads.Learnt, holds-few-reads.Asked, holds-few-reads.Learnt, value-below t, value.Post, leaf-at-reads.Asked, leaf-at-reads.Learnt)
 
 abbrev map-claims : ℕ → map-lts.Claims
 map-claims t = (new-key-reads.Asked, new-key-reads.Learnt, element-below t, element.Post)
@@ -296,20 +297,23 @@ value-returns-13 t c =
 element-returns : (t : ℕ) → element-lts.Need-returns (element-claims t) (element-at t) element.Post
 element-returns t c = unchanged (c .before .before .before .before .before .pre .1) (quick-ends _ (c .before .before .before .quick-at .ensures) (c .before .p .given .1))
 
-element-leaf-at-requires : (t : ℕ) → element-lts.Need-leaf-at-requires (element-claims t) (element-at t) element.Post
-element-leaf-at-requires t c κs = c .before .before .before .before .pre .1 .table
-
 element-value-requires : (t : ℕ) → element-lts.Need-value-requires (element-claims t) (element-at t) element.Post
-element-value-requires t c κs = (search needs, c .before .before .before .before .before .before .before .before .before .pre .1)
+element-value-requires t c κs = (search needs, c .before .before .before .before .before .before .before .before .pre .1)
+
+element-leaf-at-requires : (t : ℕ) → element-lts.Need-leaf-at-requires (element-claims t) (element-at t) element.Post
+element-leaf-at-requires t c κs = c .before .before .before .before .before .before .pre .1 .table
 
 element-value-requires-2 : (t : ℕ) → element-lts.Need-value-requires-2 (element-claims t) (element-at t) element.Post
-element-value-requires-2 t c κs = (search needs, c .before .before .before .before .before .before .before .before .before .pre .1)
+element-value-requires-2 t c κs = (search needs, c .before .before .before .before .before .before .before .before .before .before .before .pre .1)
 
-element-returns-2 : (t : ℕ) → element-lts.Need-returns-2 (element-claims t) (element-at t) element.Post
-element-returns-2 t c = unchanged (c .before .before .before .before .before .before .before .before .pre .1) (leaf-ends _ _ _ (sym (c .before .before .before .leaf-at .ensures) ∙ c .before .p2 .given .1))
+element-value-requires-3 : (t : ℕ) → element-lts.Need-value-requires-3 (element-claims t) (element-at t) element.Post
+element-value-requires-3 t c κs = (search needs, c .before .before .before .before .before .before .before .before .before .before .before .pre .1)
 
 element-returns-3 : (t : ℕ) → element-lts.Need-returns-3 (element-claims t) (element-at t) element.Post
-element-returns-3 t c = unchanged (c .before .before .before .before .before .before .before .before .pre .1) (leaf-refuses _ _ _ (sym (c .before .before .before .leaf-at .ensures) ∙ c .before .e .given .1))
+element-returns-3 t c = unchanged (c .before .before .before .before .before .before .before .before .before .before .pre .1) (leaf-ends _ _ _ (sym (c .before .before .before .leaf-at .ensures) ∙ c .before .p2 .given .1))
+
+element-returns-4 : (t : ℕ) → element-lts.Need-returns-4 (element-claims t) (element-at t) element.Post
+element-returns-4 t c = unchanged (c .before .before .before .before .before .before .before .before .before .before .pre .1) (leaf-refuses _ _ _ (sym (c .before .before .before .leaf-at .ensures) ∙ c .before .e .given .1))
 
 pub +array+element+map+value-spec : {M : Type 1} → statement M
 +array+element+map+value-spec =
@@ -343,17 +347,20 @@ pub +array+element+map+value-spec : {M : Type 1} → statement M
     (λ c. search needs)
     (element-returns t)
     (λ c. search needs)
+    (λ c κs. search needs)
+    (element-value-requires t)
+    (λ c. c .value .ensures)
     (element-leaf-at-requires t)
     (λ c. search needs)
     (λ c. search needs)
     (λ c. search needs)
-    (element-value-requires t)
-    (λ c. search needs)
     (element-value-requires-2 t)
-    (element-returns-2 t)
+    (λ c. search needs)
+    (element-value-requires-3 t)
     (element-returns-3 t)
-    (λ c. c .value .ensures)
-    (λ c. c .value2 .ensures))
+    (element-returns-4 t)
+    (λ c. c .value2 .ensures)
+    (λ c. c .value3 .ensures))
     (λ t. map-lts.spec
     (map-claims t)
     (map-at t)

@@ -1,6 +1,6 @@
--- Values that hold no others, and the quick looks at them: an integer in its lead byte, and a short string of bytes below 80.
+-- Values that hold no others, and the quick looks at them: an integer in its lead byte, a float, and a short string of bytes below 80.
 -- Assumes nothing.
-use mathlib.Core.Path.{_≡_, refl, sym, subst, _∙_}
+use mathlib.Core.Path.{_≡_, refl, sym, ap, subst, _∙_}
 use mathlib.Core.Bool.{true}
 use mathlib.Core.List.{List}
 use Prim.Native.Nat.{ℕ, _+_, _-_, _<_, _≤_}
@@ -10,11 +10,10 @@ use Rattle.numbers.specs.Ranges.{integerLimit}
 use borrow.Author.Tests.{le-leb}
 use Rattle.utf8.specs.Check.{isAscii}
 use Rattle.utf8.specs.Laws.Check.{isAscii-isUtf8}
-use Rattle.heads.specs.Lead.{moreOf}
 use Rattle.heads.specs.Head.{kindAt, headAt}
 use Rattle.heads.specs.declared.Kind.{Kind}
 use Rattle.heads.specs.declared.Head.{Head}
-use Rattle.heads.specs.Laws.Head.{kind-in, head-held}
+use Rattle.heads.specs.Laws.Head.{alone-head, float-kind, float-head}
 use Rattle.heads.specs.Laws.Table.{low-lead, string-lead}
 use Rattle.messagepack.specs.Walk.{keyAt, integerAt, plainAt, binaryAt, stringAt, valueAt}
 use Rattle.messagepack.specs.Quick.{leafOf, leafByKind, leafAt, QuickSays, ends, ShortSays, found, RunSays}
@@ -79,19 +78,19 @@ module _ (s : List ℕ) (at : ℕ) (inside : at < length s) where
   -- an integer in its lead byte
   pub low-ends : getD s at 0 < 0x80 → QuickSays s at (Quick.End (at + 1))
   low-ends h =
-      let r = low-lead (getD s at 0) h in
-      let k : kindAt s at ≡ Kind.Unsigned = kind-in s at inside ∙ r .kind in
-      let one : 1 ≡ moreOf (getD s at 0) + 1 = rw (r .more) in
-      let g : headAt s at ≡ Head.At (getD s at 0) (at + 1) = sym (head-held s at one refl (omega arith) (sym (r .held))) in
-      ends {p = at + 1} (λ d. w.value-unsigned s d at k ∙ rw (g, le-leb (getD s at 0) integerLimit (omega arith)))
+      let r = alone-head s at inside (low-lead (getD s at 0) h) in
+      ends {p = at + 1} (λ d. w.value-unsigned s d at (r .0) ∙ rw (r .1, le-leb (getD s at 0) integerLimit (omega arith)))
+
+  -- a float
+  pub float-ends : getD s at 0 ≡ 0xca → at + 5 ≤ length s → QuickSays s at (Quick.End (at + 5))
+  float-ends b le = ends {p = at + 5} (λ d. w.value-float s d at (float-kind s at inside b) ∙ rw (float-head s at b le))
 
   -- a short string
   pub short-found : (n : ℕ) → 0xa0 ≤ getD s at 0 → getD s at 0 < 0xc0 → n ≡ getD s at 0 - 0xa0 → at + 1 + n ≤ length s → isAscii (take n (drop (at + 1) s)) ≡ true → ShortSays s at (Short.At (at + 1) n)
   short-found n l h e le a =
-      let r = string-lead (getD s at 0) l h in
-      let one : 1 ≡ moreOf (getD s at 0) + 1 = rw (r .more) in
-      let g : headAt s at ≡ Head.At n (at + 1) = sym (head-held s at one refl (omega arith) (e ∙ sym (r .held))) in
-      found (kind-in s at inside ∙ r .kind) (w.text-tested s at true g (w.body-in s n (at + 1) le) (isAscii-isUtf8 (take n (drop (at + 1) s)) a))
+      let r = alone-head s at inside (string-lead (getD s at 0) l h) in
+      let g : headAt s at ≡ Head.At n (at + 1) = r .1 ∙ ap (λ (m : ℕ). Head.At m (at + 1)) (sym e) in
+      found (r .0) (w.text-tested s at true g (w.body-in s n (at + 1) le) (isAscii-isUtf8 (take n (drop (at + 1) s)) a))
 
 module _ {s : List ℕ} {at : ℕ} where
   -- a short string's end is the value's

@@ -10,14 +10,13 @@ use native.Mathlib.Nat.{add-zero, zero-add, suc-add, add-assoc}
 use lib.Dec.{leb}
 use borrow.Author.Tests.{leb-true, leb-false}
 use lib.ListN.{length, getD, drop, length-append}
-use Rattle.heads.specs.Lead.{kindOf, moreOf}
 use Rattle.heads.specs.Head.{HeadOf, kindAt, headAt}
 use Rattle.heads.specs.declared.Kind.{Kind}
 use Rattle.heads.specs.declared.Head.{Head}
 use Rattle.heads.specs.Span.{Span}
 use Rattle.heads.specs.Laws.Span.{follows, fits}
-use Rattle.heads.specs.Laws.Head.{Told, head-told, head-inside, kind-in, head-held, head-number, head-cut}
-use Rattle.heads.specs.Laws.Table.{Alone, low-lead, string-lead}
+use Rattle.heads.specs.Laws.Head.{Told, head-told, head-inside, alone-head, float-kind, float-size, float-head, head-cut}
+use Rattle.heads.specs.Laws.Table.{low-lead, string-lead}
 use Rattle.messagepack.specs.Document.{Document, Documents, Entries, integer, float, string, binary, array, map, none, item, empty, entry, count, size, UnsignedOf, SignedOf, TextOf, Writes, WritesAll, WritesEntries}
 use Rattle.values.specs.Standing.{Standing, pastOver, pairsOver, LowRun, ItemsOver, over, each, Stepped, on, stop}
 use Rattle.values.specs.declared.Over.{Over}
@@ -303,40 +302,23 @@ stands-one s at x w v wr d = standing-one s at (at + length w) x w wr (stands s 
 -- steps over values whose head is their lead byte
 
 module _ (s : List ℕ) (p : ℕ) (lt : p < length s) where
-  alone-head : {k : Kind} {n : ℕ} → Alone k (getD s p 0) n → (kindAt s p ≡ k) × (headAt s p ≡ Head.At n (p + 1))
-  alone-head l = (kind-in s p lt ∙ l .kind, sym (head-held s p {size = 1} (rw (l .more)) refl (omega arith) (sym (l .held))))
-
   pub steps-low : getD s p 0 < 0x80 → Stepped s p (Over.On (p + 1) 0)
-  steps-low h = let a = alone-head (low-lead (getD s p 0) h) in steps-on s p (a .1) (a .0) (omega arith)
+  steps-low h = let a = alone-head s p lt (low-lead (getD s p 0) h) in steps-on s p (a .1) (a .0) (omega arith)
 
   pub steps-short : {o : Over} {n : ℕ} → 0xa0 ≤ getD s p 0 → getD s p 0 < 0xc0 → n ≡ getD s p 0 - 0xa0 → o ≡ pastOver (length s) n (p + 1) → Stepped s p o
-  steps-short l h e q = let a = alone-head (string-lead (getD s p 0) l h) in steps-past s p (a .1) (a .0) refl refl (q ∙ ap (λ (m : ℕ). pastOver (length s) m (p + 1)) e)
+  steps-short l h e q = let a = alone-head s p lt (string-lead (getD s p 0) l h) in steps-past s p (a .1) (a .0) refl refl (q ∙ ap (λ (m : ℕ). pastOver (length s) m (p + 1)) e)
 
 -- a float
-
-float-kind : (b : ℕ) → b ≡ 0xca → kindOf b ≡ Kind.Float
-unfolding kindOf
-float-kind b e = rw e
-
-float-more : (b : ℕ) → b ≡ 0xca → moreOf b ≡ 4
-unfolding moreOf
-float-more b e = rw e
 
 pub steps-float : (s : List ℕ) (p : ℕ) → p < length s → {o : Over} → getD s p 0 ≡ 0xca → o ≡ pastOver (length s) 4 (p + 1) → Stepped s p o
 steps-float s p lt b q = subst (Stepped s p) (sym q) (go (leb (p + 1 + 4) (length s)) refl)
   where
-    size : 5 ≡ moreOf (getD s p 0) + 1
-    size = rw (float-more (getD s p 0) b)
-
-    kind : kindAt s p ≡ Kind.Float
-    kind = kind-in s p lt ∙ float-kind (getD s p 0) b
-
     go : (t : Bool) → leb (p + 1 + 4) (length s) ≡ t → Stepped s p (cond t (Over.On (p + 1 + 4) 0) Over.Stop)
     go true e =
         let l = leb-true (p + 1 + 4) (length s) e in
         let f : p + 5 ≡ p + 1 + 4 = omega arith in
-        subst (λ (r : ℕ). Stepped s p (Over.On r 0)) f (steps-on s p (sym (head-number s p 3 size refl (omega arith) refl)) kind (omega arith))
-    go false e = steps-cut-head s p (head-cut s p size lt (omega (arith, leb-false (p + 1 + 4) (length s) e)))
+        subst (λ (r : ℕ). Stepped s p (Over.On r 0)) f (steps-on s p (float-head s p b (omega arith)) (float-kind s p lt b) (omega arith))
+    go false e = steps-cut-head s p (head-cut s p (float-size s p b) lt (omega (arith, leb-false (p + 1 + 4) (length s) e)))
 
 -- an array, by its values or at once
 
