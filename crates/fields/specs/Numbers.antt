@@ -43,7 +43,20 @@ unfoldable pub rowCells : Rows → List ℕ → List ℕ
 rowCells last codes = []
 rowCells (row k q t rows) codes = (length k ∷ bit q ∷ getD codes 0 0 ∷ dotted 19 k) ++ rowCells rows (drop 1 codes)
 
--- the whole table: the types, the rows of the inner maps, and the named fields last, from row 16 on
+-- the place of a name's hint, by the first row of its map
+unfoldable pub hintPlace : ℕ → List ℕ → ℕ
+hintPlace first k = (getD k 0 0 * 24 + getD k 3 0 * 10 + length k % 128 + first * 31) % 128
+
+-- the hint at a place: the row of a map's name that has its place there, counted from the first, or the rest's
+unfoldable pub rowHint : ℕ → Rows → ℕ → ℕ → ℕ → ℕ
+rowHint first last i place rest = rest
+rowHint first (row k q t rows) i place rest = cond (eqb (hintPlace first k) place) i (rowHint first rows (suc i) place rest)
+
+-- the hints: for each place the row of the name that has its hint there, counted from the first of its map; 255 of none
+unfoldable pub hintCells : List ℕ
+hintCells = valuesFrom (λ place. rowHint 0 groupRows 0 place (rowHint 8 transformRows 0 place (rowHint 10 assemblyRows 0 place (rowHint 12 entityRows 0 place (rowHint 16 named 0 place 255))))) 0 128
+
+-- the whole table: the types, the rows of the inner maps, the named fields from row 16 on, and the hints
 unfoldable pub typeTable : List ℕ
 typeTable =
     typeCells
@@ -51,7 +64,7 @@ typeTable =
     ++ (rowCells transformRows (4 ∷ 7 ∷ [])
     ++ (rowCells assemblyRows (2 ∷ 12 ∷ [])
     ++ (rowCells entityRows (4 ∷ 2 ∷ 2 ∷ 2 ∷ [])
-    ++ rowCells named (2 ∷ 2 ∷ 0 ∷ 0 ∷ 0 ∷ 0 ∷ 0 ∷ 10 ∷ 3 ∷ 3 ∷ 3 ∷ 3 ∷ 3 ∷ 3 ∷ 4 ∷ 4 ∷ 3 ∷ 3 ∷ 3 ∷ 3 ∷ 3 ∷ 3 ∷ 3 ∷ 3 ∷ 3 ∷ 3 ∷ 2 ∷ 2 ∷ 2 ∷ 2 ∷ 2 ∷ 1 ∷ 1 ∷ 1 ∷ 6 ∷ 5 ∷ 8 ∷ 14 ∷ 16 ∷ [])))))
+    ++ (rowCells named (2 ∷ 2 ∷ 0 ∷ 0 ∷ 0 ∷ 0 ∷ 0 ∷ 10 ∷ 3 ∷ 3 ∷ 3 ∷ 3 ∷ 3 ∷ 3 ∷ 4 ∷ 4 ∷ 3 ∷ 3 ∷ 3 ∷ 3 ∷ 3 ∷ 3 ∷ 3 ∷ 3 ∷ 3 ∷ 3 ∷ 2 ∷ 2 ∷ 2 ∷ 2 ∷ 2 ∷ 1 ∷ 1 ∷ 1 ∷ 6 ∷ 5 ∷ 8 ∷ 14 ∷ 16 ∷ []) ++ hintCells)))))
 
 -- the row of the first named field
 abbrev pub firstField : ℕ
@@ -89,6 +102,15 @@ codeOf r = tableByte (rowAt r + 2)
 unfoldable pub rowsFrom : (ℕ → FieldType) → ℕ → ℕ → Rows
 rowsFrom f zero r = last
 rowsFrom f (suc n) r = row (nameOf r) (needOf r) (f (codeOf r)) (rowsFrom f n (r + 1))
+
+-- the hint of a name, by the first row of its map
+unfoldable pub hintOf : ℕ → List ℕ → ℕ
+hintOf first k = tableByte (rowAt 55 + hintPlace first k)
+
+-- have the names of n rows from the first on their own rows as hints?
+unfoldable pub hinted : ℕ → ℕ → Bool
+hinted zero first = true
+hinted (suc n) first = eqb (hintOf first (nameOf (first + n))) n && hinted n first
 
 -- a type by its three numbers, with the types inside by f
 abbrev pub build : (ℕ → FieldType) → ℕ → ℕ → ℕ → FieldType

@@ -15,13 +15,12 @@ use Rattle.fields.specs.Tests.{all, fitting}
 use Rattle.fields.specs.Fields.{fieldNames, setOf, present}
 use Rattle.fields.specs.Noted.{SpanFrom}
 use Rattle.fields.specs.Numbers.{covered, rowTest}
-use Rattle.fields.specs.declared.Typed.{Typed}
 use Rattle.fields.specs.declared.Fields.{Fields}
 
--- where a value ends, if it passes
-abbrev pub endsIf : Bool → ℕ → Typed
-endsIf true e = Typed.Ends e
-endsIf false e = Typed.Wrong
+-- where a value ends, if it passes, else 0
+abbrev pub endsIf : Bool → ℕ → ℕ
+endsIf true e = e
+endsIf false e = 0
 
 -- the number of a kind, as `Types.documentKind` has it of a document; 0 of no kind
 abbrev pub headKind : Kind → ℕ
@@ -39,22 +38,26 @@ headKind Kind.Missing = 0
 abbrev pub hasBody : ℕ → Bool
 hasBody kind = eqb kind 3 || eqb kind 4
 
--- where a value of a kind that holds no others ends, if it is of the kind that is wanted: its head holds n and ends at p, in a file of some length
-abbrev pub plainEnd : ℕ → ℕ → ℕ → ℕ → ℕ → Typed
+-- where a value of a kind that holds no others ends, if it is of the kind that is wanted, else 0: its head holds n and ends at p, in a file of some length
+abbrev pub plainEnd : ℕ → ℕ → ℕ → ℕ → ℕ → ℕ
 plainEnd length kind wanted n p =
-    cond (eqb kind wanted) (cond (hasBody kind) (cond (leb (p + n) length) (Typed.Ends (p + n)) Typed.Wrong) (Typed.Ends p)) Typed.Wrong
+    cond (eqb kind wanted) (cond (hasBody kind) (cond (leb (p + n) length) (p + n) 0) p) 0
 
--- of the document at a place: where it ends, if it passes a test
-pub record ValueSays (leads s : List ℕ) (f : Document → Bool) (at : ℕ) (r : Typed) : Type 0 where
+-- of the document at a place: where it ends, if it passes a test, else 0
+pub record ValueSays (leads s : List ℕ) (f : Document → Bool) (at : ℕ) (r : ℕ) : Type 0 where
   pub says : Walked leads s at (λ x e. r ≡ endsIf (f x) e)
 
--- of the n values of an array from a place on: where they end, if all pass
-pub record ItemsSay (leads s : List ℕ) (f : Document → Bool) (n at : ℕ) (r : Typed) : Type 0 where
+-- of the n values of an array from a place on: where they end, if all pass, else 0
+pub record ItemsSay (leads s : List ℕ) (f : Document → Bool) (n at : ℕ) (r : ℕ) : Type 0 where
   pub says : WalkedAll leads s n at (λ ds e. r ≡ endsIf (all f ds) e)
+
+-- of n values of an array from a place on: those before another place pass and end there, and so many are left
+pub record RunSays (s : List ℕ) (f : Document → Bool) (n at left p : ℕ) : Type 0 where
+  pub says : (leads : List ℕ) (r : ℕ) → ItemsSay leads s f left p r → ItemsSay leads s f n at r
 
 -- of the n entries of a map from a place on, when a set of rows has been seen before: where they end, if each named key has its type and all
 -- required ones have been seen
-pub record EntriesSay (leads s : List ℕ) (rows : Rows) (seen n at : ℕ) (r : Typed) : Type 0 where
+pub record EntriesSay (leads s : List ℕ) (rows : Rows) (seen n at : ℕ) (r : ℕ) : Type 0 where
   pub says : WalkedEntries leads s n at (λ es e. r ≡ endsIf (fitting rows es && covered rows (bitOr seen (setOf (present rows es)))) e)
 
 -- of the document at a place: where it ends, and whether it has the type of row i of the named fields

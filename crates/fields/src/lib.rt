@@ -6,7 +6,7 @@ ghost use mathlib.Core.Path.{_≡_};
 ghost use mathlib.Core.Bool.{true, false};
 ghost use mathlib.Core.List.{List};
 ghost use Prim.Native.Nat.{ℕ, _+_, _*_, _≤_, _<_};
-ghost use lib.ListN.{length, take, drop, set};
+ghost use lib.ListN.{length, getD, take, drop, set};
 ghost use Rattle.text.specs.Equal.{equal};
 ghost use Rattle.values.specs.Walked.{Walked, WalkedEntries, WalkedBy};
 ghost use Rattle.fields.specs.Types.{FieldType, plain};
@@ -14,8 +14,8 @@ ghost use Rattle.fields.specs.Table.{fieldCount};
 ghost use Rattle.fields.specs.Tests.{typed};
 ghost use Rattle.fields.specs.Fields.{fieldTypeOf, isVersionOne, fieldsNumber, findRow};
 ghost use Rattle.fields.specs.Noted.{Noted, Spanned};
-ghost use Rattle.fields.specs.Numbers.{typeTable, nameOf, rowsFrom, typeOf, rowTest, build, covered, marked, lacking, distinctNames, tableByte};
-ghost use Rattle.fields.specs.Steps.{headKind, hasBody, plainEnd, ValueSays, ItemsSay, EntriesSay, RowSays, noPlaces};
+ghost use Rattle.fields.specs.Numbers.{typeTable, nameOf, rowsFrom, typeOf, rowTest, build, covered, marked, lacking, distinctNames, tableByte, hintOf, hinted};
+ghost use Rattle.fields.specs.Steps.{headKind, hasBody, plainEnd, ValueSays, ItemsSay, RunSays, EntriesSay, RowSays, noPlaces};
 use heads::Head;
 use heads::Kind;
 
@@ -113,10 +113,10 @@ pub struct Fields {
     pub typed: bool,
 }
 
-// Where a value ends, or that it has not its type.
-pub enum Typed {
-    Ends(usize),
-    Wrong,
+// A place, and how many values are left from there on.
+pub struct Run {
+    pub at: usize,
+    pub left: usize,
 }
 
 // Where a field's value ends, and whether it has its type.
@@ -244,7 +244,7 @@ fn judge(leads: &[u8; 256], file: &[u8], types: &[u8; TABLE_SIZE], at: usize, ro
     requires { ⌜ now types ≡ typeTable ⌝ }
     ensures { λ r. ⌜ RowSays (now (leads .entry)) (now (file .entry)) row at (r .end) (r .typed) ⌝ }
 {
-    match row_typed(
+    let e = row_typed(
         leads,
         file,
         types,
@@ -253,19 +253,20 @@ fn judge(leads: &[u8; 256], file: &[u8], types: &[u8; TABLE_SIZE], at: usize, ro
         FIELD_COUNT,
         row,
         TYPE_DEPTH,
-    ) {
-        Typed::Ends(e) => Judged {
-            end: e,
-            typed: true,
-        },
-        Typed::Wrong => Judged {
+    );
+    if e == 0 {
+        return Judged {
             end: values::skip(leads, file, at),
             typed: false,
-        },
+        };
+    }
+    Judged {
+        end: e,
+        typed: true,
     }
 }
 
-// The value at a place as that of one of the n rows from first on, or of none.
+// The value at a place as that of one of the n rows from first on, or of none: where it ends, 0 if it has not its type.
 fn row_typed(
     leads: &[u8; 256],
     file: &[u8],
@@ -275,7 +276,7 @@ fn row_typed(
     n: usize,
     row: usize,
     depth: usize,
-) -> Typed
+) -> usize
     requires { ⌜ (now types ≡ typeTable) × ((first < 256) × (n < 64)) ⌝ }
     ensures { λ r. ⌜ ValueSays (now (leads .entry)) (now (file .entry)) (rowTest row (rowsFrom (typeOf depth) n first)) at r ⌝ }
 {
@@ -283,7 +284,7 @@ fn row_typed(
         let code = cell(types, (first + row) * ROW_SIZE + ROWS_AT + 2);
         return typed_at(leads, file, types, at, code, depth);
     }
-    Typed::Ends(values::skip(leads, file, at))
+    values::skip(leads, file, at)
 }
 
 // The value at a place by a type of at most so many levels.
@@ -294,15 +295,15 @@ fn typed_at(
     at: usize,
     code: usize,
     depth: usize,
-) -> Typed
+) -> usize
     requires { ⌜ now types ≡ typeTable ⌝ }
     ensures { λ r. ⌜ ValueSays (now (leads .entry)) (now (file .entry)) (typed (typeOf depth code)) at r ⌝ }
 {
     if depth == 0 {
-        return Typed::Wrong;
+        return 0;
     }
     if CODE_COUNT <= code {
-        return Typed::Wrong;
+        return 0;
     }
     let tag = cell(types, code * 3);
     let many = cell(types, code * 3 + 1) % 64;
@@ -311,17 +312,17 @@ fn typed_at(
         return simple_at(leads, file, at, tag, many, inside);
     }
     let Head::At(n, p) = heads::head_at(leads, file, at) else {
-        return Typed::Wrong;
+        return 0;
     };
     let kind = head_kind(heads::kind_at(leads, file, at));
     if tag == 3 {
         if kind != ARRAY {
-            return Typed::Wrong;
+            return 0;
         }
         return items_typed(leads, file, types, n, p, inside, depth - 1);
     }
     if kind != MAP {
-        return Typed::Wrong;
+        return 0;
     }
     entries_typed(leads, file, types, n, p, inside, many, depth - 1)
 }
@@ -335,20 +336,21 @@ fn items_typed(
     at: usize,
     code: usize,
     depth: usize,
-) -> Typed
+) -> usize
     requires { ⌜ now types ≡ typeTable ⌝ }
     ensures { λ r. ⌜ ItemsSay (now (leads .entry)) (now (file .entry)) (typed (typeOf depth code)) count at r ⌝ }
 {
     let mut left = count;
     let mut p = at;
     while 0 < left {
-        let Typed::Ends(e) = typed_at(leads, file, types, p, code, depth) else {
-            return Typed::Wrong;
-        };
+        let e = typed_at(leads, file, types, p, code, depth);
+        if e == 0 {
+            return 0;
+        }
         p = e;
         left -= 1;
     }
-    Typed::Ends(p)
+    p
 }
 
 // The count entries of a map from a place on by the n rows from first on.
@@ -361,8 +363,8 @@ fn entries_typed(
     first: usize,
     n: usize,
     depth: usize,
-) -> Typed
-    requires { ⌜ (now types ≡ typeTable) × ((first < 256) × ((n < 64) × (distinctNames (rowsFrom (typeOf depth) n first) ≡ true))) ⌝ }
+) -> usize
+    requires { ⌜ (now types ≡ typeTable) × ((first < 256) × ((n < 64) × ((distinctNames (rowsFrom (typeOf depth) n first) ≡ true) × (hinted n first ≡ true)))) ⌝ }
     ensures { λ r. ⌜ EntriesSay (now (leads .entry)) (now (file .entry)) (rowsFrom (typeOf depth) n first) 0 count at r ⌝ }
 {
     let mut seen: u64 = 0;
@@ -373,17 +375,18 @@ fn entries_typed(
         let a = key.at;
         let m = key.count;
         let row = row_of(types, file, a, m, first, n);
-        let Typed::Ends(e) = row_typed(leads, file, types, a + m, first, n, row, depth) else {
-            return Typed::Wrong;
-        };
+        let e = row_typed(leads, file, types, a + m, first, n, row, depth);
+        if e == 0 {
+            return 0;
+        }
         seen = mark(n, seen, row);
         p = e;
         left -= 1;
     }
     if all_seen(types, seen, first, n) {
-        return Typed::Ends(p);
+        return p;
     }
-    Typed::Wrong
+    0
 }
 
 // The value at a place by a type with no types inside: a value of a kind, or an array of those, or of exactly so many.
@@ -394,7 +397,7 @@ fn simple_at(
     tag: usize,
     many: usize,
     wanted: usize,
-) -> Typed
+) -> usize
     requires { ⌜ (tag < 3) × (wanted ≤ 4) ⌝ }
     ensures { λ r. ⌜ ((f : ℕ → FieldType) → ValueSays (now (leads .entry)) (now (file .entry)) (typed (build f tag many wanted)) at r) ⌝ }
 {
@@ -402,66 +405,101 @@ fn simple_at(
         return plain_at(leads, file, at, wanted);
     }
     let Head::At(n, p) = heads::head_at(leads, file, at) else {
-        return Typed::Wrong;
+        return 0;
     };
     let kind = head_kind(heads::kind_at(leads, file, at));
     if kind != ARRAY {
-        return Typed::Wrong;
+        return 0;
     }
     if tag == 1 {
         return plain_items(leads, file, n, p, wanted);
     }
     if n != many {
-        return Typed::Wrong;
+        return 0;
     }
     plain_items(leads, file, n, p, wanted)
 }
 
 // The count values of an array from a place on, each of a kind: integers in their lead bytes all at once.
-fn plain_items(leads: &[u8; 256], file: &[u8], count: usize, at: usize, wanted: usize) -> Typed
+fn plain_items(leads: &[u8; 256], file: &[u8], count: usize, at: usize, wanted: usize) -> usize
     requires { ⌜ wanted ≤ 4 ⌝ }
     ensures { λ r. ⌜ ItemsSay (now (leads .entry)) (now (file .entry)) (typed (plain wanted)) count at r ⌝ }
 {
     if wanted == INTEGER {
         if values::all_low(file, at, count) {
-            return Typed::Ends(at + count);
+            return at + count;
         }
     }
     plain_each(leads, file, count, at, wanted)
 }
 
 // The count values of an array from a place on, each of a kind, one after another.
-fn plain_each(leads: &[u8; 256], file: &[u8], count: usize, at: usize, wanted: usize) -> Typed
+fn plain_each(leads: &[u8; 256], file: &[u8], count: usize, at: usize, wanted: usize) -> usize
     requires { ⌜ wanted ≤ 4 ⌝ }
     ensures { λ r. ⌜ ItemsSay (now (leads .entry)) (now (file .entry)) (typed (plain wanted)) count at r ⌝ }
+{
+    let first = quick_items(file, count, at, wanted);
+    let mut left = first.left;
+    let mut p = first.at;
+    while 0 < left {
+        let e = plain_at(leads, file, p, wanted);
+        if e == 0 {
+            return 0;
+        }
+        p = e;
+        left -= 1;
+    }
+    p
+}
+
+// Past the first of count values from a place on that are quickly found to be of a kind: a loop for each kind.
+fn quick_items(file: &[u8], count: usize, at: usize, wanted: usize) -> Run
+    ensures { λ r. ⌜ RunSays (now (file .entry)) (typed (plain wanted)) count at (r .left) (r .at) ⌝ }
+{
+    if wanted == STRING {
+        return quick_run(file, count, at, STRING);
+    }
+    if wanted == FLOAT {
+        return quick_run(file, count, at, FLOAT);
+    }
+    Run {
+        at: at,
+        left: count,
+    }
+}
+
+// Past the first of count values from a place on that are quickly found to be of a kind.
+fn quick_run(file: &[u8], count: usize, at: usize, wanted: usize) -> Run
+    ensures { λ r. ⌜ RunSays (now (file .entry)) (typed (plain wanted)) count at (r .left) (r .at) ⌝ }
 {
     let mut left = count;
     let mut p = at;
     while 0 < left {
-        let Typed::Ends(e) = plain_at(leads, file, p, wanted) else {
-            return Typed::Wrong;
-        };
+        let e = quick_end(file, p, wanted);
+        if e == 0 {
+            return Run { at: p, left: left };
+        }
         p = e;
         left -= 1;
     }
-    Typed::Ends(p)
+    Run { at: p, left: left }
 }
 
 // The value at a place, if it is of a kind.
-fn plain_at(leads: &[u8; 256], file: &[u8], at: usize, wanted: usize) -> Typed
+fn plain_at(leads: &[u8; 256], file: &[u8], at: usize, wanted: usize) -> usize
     requires { ⌜ wanted ≤ 4 ⌝ }
     ensures { λ r. ⌜ ValueSays (now (leads .entry)) (now (file .entry)) (typed (plain wanted)) at r ⌝ }
 {
     let end = quick_end(file, at, wanted);
     if 0 < end {
-        return Typed::Ends(end);
+        return end;
     }
     headed_at(leads, file, at, wanted)
 }
 
-// Where the commonest values end, an integer in its lead byte and a short string, if they are wanted; else 0.
+// Where the commonest values end, an integer in its lead byte, a float and a short string, if they are wanted; else 0.
 fn quick_end(file: &[u8], at: usize, wanted: usize) -> usize
-    ensures { λ r. ⌜ (0 < r → (leads : List ℕ) → ValueSays leads (now (file .entry)) (typed (plain wanted)) at (Typed.Ends r)) ⌝ }
+    ensures { λ r. ⌜ (0 < r → (leads : List ℕ) → ValueSays leads (now (file .entry)) (typed (plain wanted)) at r) ⌝ }
 {
     if file.len() <= at {
         return 0;
@@ -472,6 +510,9 @@ fn quick_end(file: &[u8], at: usize, wanted: usize) -> usize
             return at + 1;
         }
         return 0;
+    }
+    if wanted == FLOAT {
+        return float_end(file, at);
     }
     if wanted != STRING {
         return 0;
@@ -489,35 +530,49 @@ fn quick_end(file: &[u8], at: usize, wanted: usize) -> usize
     at + 1 + n
 }
 
+// Where the float at a place ends; of another value 0.
+fn float_end(file: &[u8], at: usize) -> usize
+    requires { ⌜ at < length (now file) ⌝ }
+    ensures { λ r. ⌜ (0 < r → (leads : List ℕ) → ValueSays leads (now (file .entry)) (typed (plain 2)) at r) ⌝ }
+{
+    if file[at] != 0xca {
+        return 0;
+    }
+    if file.len() - at < 5 {
+        return 0;
+    }
+    at + 5
+}
+
 // The value at a place, if it is of a kind, by its head.
-fn headed_at(leads: &[u8; 256], file: &[u8], at: usize, wanted: usize) -> Typed
+fn headed_at(leads: &[u8; 256], file: &[u8], at: usize, wanted: usize) -> usize
     requires { ⌜ wanted ≤ 4 ⌝ }
     ensures { λ r. ⌜ ValueSays (now (leads .entry)) (now (file .entry)) (typed (plain wanted)) at r ⌝ }
 {
     let Head::At(n, p) = heads::head_at(leads, file, at) else {
-        return Typed::Wrong;
+        return 0;
     };
     let kind = head_kind(heads::kind_at(leads, file, at));
     plain_end(file, kind, wanted, n, p)
 }
 
 // Where a value of a kind that holds no others ends, if that kind is wanted: its head holds n and ends at p.
-fn plain_end(file: &[u8], kind: usize, wanted: usize, n: usize, p: usize) -> Typed
+fn plain_end(file: &[u8], kind: usize, wanted: usize, n: usize, p: usize) -> usize
     ensures { λ r. ⌜ r ≡ plainEnd (length (now (file .entry))) kind wanted n p ⌝ }
 {
     if kind != wanted {
-        return Typed::Wrong;
+        return 0;
     }
     if !has_body(kind) {
-        return Typed::Ends(p);
+        return p;
     }
     if file.len() < p {
-        return Typed::Wrong;
+        return 0;
     }
     if file.len() - p < n {
-        return Typed::Wrong;
+        return 0;
     }
-    Typed::Ends(p + n)
+    p + n
 }
 
 // Has a value of a kind a body after its head: is it a string or a binary?
@@ -544,7 +599,7 @@ fn head_kind(kind: Kind) -> usize
     }
 }
 
-// The first of the n rows from first on whose name the m bytes from a on are; n if there is none.
+// The first of the n rows from first on whose name the m bytes from a on are; n if there is none. Only the row of their hint can be it.
 fn row_of(
     types: &[u8; TABLE_SIZE],
     file: &[u8],
@@ -553,17 +608,42 @@ fn row_of(
     first: usize,
     n: usize,
 ) -> usize
-    requires { ⌜ (now types ≡ typeTable) × ((a + m ≤ length (now file)) × ((first < 256) × (n < 64))) ⌝ }
+    requires { ⌜ (now types ≡ typeTable) × ((a + m ≤ length (now file)) × ((first < 256) × ((n < 64) × (hinted n first ≡ true)))) ⌝ }
     ensures { λ r. ⌜ ((f : ℕ → FieldType) → r ≡ findRow (take m (drop a (now (file .entry)))) (rowsFrom f n first)) ⌝ }
 {
-    let mut i: usize = 0;
-    while i < n {
-        if is_name(types, file, a, m, first + i) {
-            return i;
-        }
-        i += 1;
+    let i = hint(types, file, a, m, first);
+    if n <= i {
+        return n;
     }
-    n
+    if !is_name(types, file, a, m, first + i) {
+        return n;
+    }
+    i
+}
+
+// The hint of the m bytes from a on, by the first row of a map: a byte of the table, at a place that two of them and their length give.
+fn hint(types: &[u8; TABLE_SIZE], file: &[u8], a: usize, m: usize, first: usize) -> usize
+    requires { ⌜ (now types ≡ typeTable) × ((a + m ≤ length (now file)) × (first < 256)) ⌝ }
+    ensures { λ r. ⌜ r ≡ hintOf first (take m (drop a (now (file .entry)))) ⌝ }
+{
+    let early = byte_of(file, a, m, 0);
+    let late = byte_of(file, a, m, 3);
+    cell(
+        types,
+        HINTS_AT + (early * 24 + late * 10 + m % 128 + first * 31) % 128,
+    )
+}
+
+// Byte i of the m bytes from a on; 0 past their end.
+fn byte_of(file: &[u8], a: usize, m: usize, i: usize) -> usize
+    requires { ⌜ a + m ≤ length (now file) ⌝ }
+    ensures is { λ r. ⌜ r ≡ getD (take m (drop a (now (file .entry)))) i 0 ⌝ }
+    ensures byte { λ r. ⌜ r < 256 ⌝ }
+{
+    if i < m {
+        return numbers::u8_to_usize(file[a + i]);
+    }
+    0
 }
 
 // Are the m bytes from a on the name of a row?
@@ -657,12 +737,16 @@ const ROWS_AT: usize = CODE_COUNT * 3;
 
 const ROW_SIZE: usize = 22;
 
+// Where the hints start.
+const HINTS_AT: usize = ROWS_AT + (FIRST_FIELD + FIELD_COUNT) * ROW_SIZE;
+
 // The bytes of the table.
-const TABLE_SIZE: usize = ROWS_AT + (FIRST_FIELD + FIELD_COUNT) * ROW_SIZE;
+const TABLE_SIZE: usize = HINTS_AT + 128;
 
 // Three bytes for each type: 0 a value of a kind, 1 an array of values of a kind, 2 an array of exactly so many, 3 an array of values of a type,
 // 4 a map; then how many values or rows; then the kind, the type or the first row. After these 22 bytes for each row: the length of its name,
-// 1 if it is required, its type, and its name. The named fields are the last rows.
+// 1 if it is required, its type, and its name. The named fields are the last rows. Then 128 hints: the row of the name that has its hint there,
+// counted from the first of its map; 255 of none.
 const TYPES: [u8; TABLE_SIZE] = *b"\x00\x00\x01\x00\x00\x02\x00\x00\x03\x00\x00\x04\
     \x01\x00\x01\x01\x00\x03\x02\x06\x02\x02\x10\x02\x03\x00\x07\
     \x04\x08\x00\x03\x00\x09\x04\x02\x08\x03\x00\x0b\
@@ -721,4 +805,12 @@ const TYPES: [u8; TABLE_SIZE] = *b"\x00\x00\x01\x00\x00\x02\x00\x00\x03\x00\x00\
     \x13\x00\x05experimentalMethods\
     \x0f\x00\x08ncsOperatorList....\
     \x0f\x00\x0ebioAssemblyList....\
-    \x0a\x00\x10entityList.........";
+    \x0a\x00\x10entityList.........\
+    \x1f\xff\xff\x16\xff\xff\xff\xff\xff\x12\x14\xff\x26\x1a\xff\x04\
+    \x08\xff\xff\xff\x10\x11\x02\x20\xff\x21\xff\xff\xff\x1e\xff\xff\
+    \x1c\xff\xff\xff\x06\x07\xff\xff\x09\xff\x01\xff\xff\xff\xff\x00\
+    \x01\xff\xff\x07\x1d\x0b\xff\x0c\x0e\x25\xff\xff\xff\x01\xff\xff\
+    \x0a\xff\xff\x00\xff\x05\xff\xff\xff\xff\x02\x06\xff\xff\xff\xff\
+    \xff\xff\x03\xff\x13\x1b\x03\xff\x18\xff\xff\xff\x02\x0d\x01\x19\
+    \x0f\xff\x03\xff\x00\x24\x04\x05\x00\xff\xff\xff\xff\x23\xff\x01\
+    \xff\x17\xff\xff\xff\xff\xff\x15\x22\xff\xff\xff\x00\xff\xff\xff";

@@ -15,8 +15,7 @@ use Rattle.fields.specs.Types.{arrayOf, mapWith}
 use Rattle.fields.specs.Tests.{typed}
 use Rattle.fields.specs.Numbers.{build, typeOf, tagOf, rowsFrom, marked}
 use Rattle.fields.specs.Steps.{ItemsSay, EntriesSay}
-use Rattle.fields.specs.declared.Typed.{Typed}
-use Rattle.fields.specs.Laws.Numbers.{rows-count, simple-kind, map-distinct, type-none, type-past, type-read, build-map}
+use Rattle.fields.specs.Laws.Numbers.{rows-count, simple-kind, map-distinct, map-hinted, type-none, type-past, type-read, build-map}
 use Rattle.fields.specs.Laws.Steps.{value-as, value-cut, nothing-says, head-read, arrayOf-wrong, arrayOf-says, mapWith-wrong, mapWith-says, items-none, items-next, items-wrong, entries-next, entries-wrong, entries-done, entries-lack, row-says, row-over}
 use Rattle.fields.proofs.entries_typed.Reads as entries-typed
 use Rattle.fields.proofs.entries_typed.Kinds as entries-typed-kinds
@@ -93,7 +92,7 @@ typed-at-claims t = (cell-reads.Asked, cell-reads.Learnt, simple-at-reads.Asked,
 
 abbrev entries-typed-Inv-loop : entries-typed-lts.InvT-loop
 entries-typed-Inv-loop leads file types count at first n depth seen₀ left₀ p₀ seen left p =
-    (r : Typed) → EntriesSay leads file (rowsFrom (typeOf depth) n first) seen left p r → EntriesSay leads file (rowsFrom (typeOf depth) n first) 0 count at r
+    (r : ℕ) → EntriesSay leads file (rowsFrom (typeOf depth) n first) seen left p r → EntriesSay leads file (rowsFrom (typeOf depth) n first) 0 count at r
 
 abbrev entries-typed-μ-loop : entries-typed-lts.MeasureT-loop
 entries-typed-μ-loop leads file types count at first n depth seen₀ left₀ p₀ seen left p = left
@@ -102,27 +101,27 @@ entries-typed-loop-holds : (t : ℕ) → entries-typed-lts.Need-loop-holds (entr
 entries-typed-loop-holds t c = λ r h. h
 
 entries-typed-row-of-requires : (t : ℕ) → entries-typed-lts.Need-row-of-requires (entries-typed-claims t) (entries-typed-at t) entries-typed.Post entries-typed-Inv-loop entries-typed-μ-loop
-entries-typed-row-of-requires t c κs = (c .before .before .before .before .pre .1 .0, (c .text-at .ensures .0, (c .before .before .before .before .pre .1 .1 .0, c .before .before .before .before .pre .1 .1 .1 .0)))
+entries-typed-row-of-requires t c κs = (c .before .before .before .before .pre .1 .0, (c .text-at .ensures .0, (c .before .before .before .before .pre .1 .1 .0, (c .before .before .before .before .pre .1 .1 .1 .0, c .before .before .before .before .pre .1 .1 .1 .1 .1))))
 
 entries-typed-row-typed-requires : (t : ℕ) → entries-typed-lts.Need-row-typed-requires (entries-typed-claims t) (entries-typed-at t) entries-typed.Post entries-typed-Inv-loop entries-typed-μ-loop
 entries-typed-row-typed-requires t c κs = (search needs, (c .before .before .before .before .before .pre .1 .0, (c .before .before .before .before .before .pre .1 .1 .0, c .before .before .before .before .before .pre .1 .1 .1 .0)))
 
 entries-typed-returns : (t : ℕ) → entries-typed-lts.Need-returns (entries-typed-claims t) (entries-typed-at t) entries-typed.Post entries-typed-Inv-loop entries-typed-μ-loop
 entries-typed-returns t c =
-    let a = c .before .before .before .before .before .before .before .before .args in
-    let l = c .before .before .before .before .before .before .loop in
+    let a = c .before .before .before .before .before .before .before .args in
+    let l = c .before .before .before .before .before .loop in
     let rows = rowsFrom (typeOf (a .depth)) (a .n) (a .first) in
-    l .inv Typed.Wrong (entries-wrong (a .leads .now) (a .file .now) rows (c .before .before .before .before .before .before .before .before .pre .1 .1 .1 .1) (l .left) (l .p) (l .seen) _ (c .before .before .before .before .before .loop-test .taken) (record { says = c .before .before .before .before .text-at .ensures .1 .1 }) (c .before .before .before .row-of .ensures (typeOf (a .depth))) (c .before .before .row-typed .ensures) (c .enum-told .given .1))
+    l .inv 0 (entries-wrong (a .leads .now) (a .file .now) rows (c .before .before .before .before .before .before .before .pre .1 .1 .1 .1 .0) (l .left) (l .p) (l .seen) _ (c .before .before .before .before .loop-test .taken) (record { says = c .before .before .before .text-at .ensures .1 .1 }) (c .before .before .row-of .ensures (typeOf (a .depth))) (c .before .row-typed .ensures) (c .if1 .taken))
 
 entries-typed-mark-requires : (t : ℕ) → entries-typed-lts.Need-mark-requires (entries-typed-claims t) (entries-typed-at t) entries-typed.Post entries-typed-Inv-loop entries-typed-μ-loop
-entries-typed-mark-requires t c κs = c .before .before .before .before .before .before .before .before .before .pre .1 .1 .1 .0
+entries-typed-mark-requires t c κs = c .before .before .before .before .before .before .before .pre .1 .1 .1 .0
 
 entries-typed-loop-again : (t : ℕ) → entries-typed-lts.Need-loop-again (entries-typed-claims t) (entries-typed-at t) entries-typed.Post entries-typed-Inv-loop entries-typed-μ-loop
 entries-typed-loop-again t c =
-    let a = c .before .before .before .before .before .before .before .before .before .before .args in
-    let l = c .before .before .before .before .before .before .before .before .loop in
+    let a = c .before .before .before .before .before .before .before .before .args in
+    let l = c .before .before .before .before .before .before .loop in
     let rows = rowsFrom (typeOf (a .depth)) (a .n) (a .first) in
-    λ r h. l .inv r (entries-next (a .leads .now) (a .file .now) rows (c .before .before .before .before .before .before .before .before .before .before .pre .1 .1 .1 .1) (l .left) (l .p) (l .seen) _ (c .before .before .before .before .before .before .before .loop-test .taken) (record { says = c .before .before .before .before .before .before .text-at .ensures .1 .1 }) (c .before .before .before .before .before .row-of .ensures (typeOf (a .depth))) (c .before .before .before .before .row-typed .ensures) _ _ (c .before .before .e .given .1) (c .mark .ensures ∙ ap (λ (z : ℕ). marked z (l .seen) (c .before .before .before .before .before .row-of .result)) (sym (rows-count (typeOf (a .depth)) (a .n) (a .first)))) h)
+    λ r h. l .inv r (entries-next (a .leads .now) (a .file .now) rows (c .before .before .before .before .before .before .before .before .pre .1 .1 .1 .1 .0) (l .left) (l .p) (l .seen) _ (c .before .before .before .before .before .loop-test .taken) (record { says = c .before .before .before .before .text-at .ensures .1 .1 }) (c .before .before .before .row-of .ensures (typeOf (a .depth))) (c .before .before .row-typed .ensures) _ (c .before .if1 .left) (c .mark .ensures ∙ ap (λ (z : ℕ). marked z (l .seen) (c .before .before .before .row-of .result)) (sym (rows-count (typeOf (a .depth)) (a .n) (a .first)))) h)
 
 entries-typed-all-seen-requires : (t : ℕ) → entries-typed-lts.Need-all-seen-requires (entries-typed-claims t) (entries-typed-at t) entries-typed.Post entries-typed-Inv-loop entries-typed-μ-loop
 entries-typed-all-seen-requires t c κs = (c .before .before .before .pre .1 .0, (c .before .before .before .pre .1 .1 .0, c .before .before .before .pre .1 .1 .1 .0))
@@ -132,18 +131,18 @@ entries-typed-returns-2 t c =
     let a = c .before .before .before .before .before .args in
     let l = c .before .before .before .loop in
     let rows = rowsFrom (typeOf (a .depth)) (a .n) (a .first) in
-    l .inv (Typed.Ends (l .p)) (entries-done (a .leads .now) (a .file .now) rows (l .left) (l .p) (l .seen) (c .before .before .loop-test .left) (c .before .all-seen .ensures (typeOf (a .depth))) (c .if1 .taken))
+    l .inv (l .p) (entries-done (a .leads .now) (a .file .now) rows (l .left) (l .p) (l .seen) (c .before .before .loop-test .left) (c .before .all-seen .ensures (typeOf (a .depth))) (c .if2 .taken))
 
 entries-typed-returns-3 : (t : ℕ) → entries-typed-lts.Need-returns-3 (entries-typed-claims t) (entries-typed-at t) entries-typed.Post entries-typed-Inv-loop entries-typed-μ-loop
 entries-typed-returns-3 t c =
     let a = c .before .before .before .before .before .args in
     let l = c .before .before .before .loop in
     let rows = rowsFrom (typeOf (a .depth)) (a .n) (a .first) in
-    l .inv Typed.Wrong (entries-lack (a .leads .now) (a .file .now) rows (l .left) (l .p) (l .seen) (c .before .before .loop-test .left) (c .before .all-seen .ensures (typeOf (a .depth))) (c .if1 .left))
+    l .inv 0 (entries-lack (a .leads .now) (a .file .now) rows (l .left) (l .p) (l .seen) (c .before .before .loop-test .left) (c .before .all-seen .ensures (typeOf (a .depth))) (c .if2 .left))
 
 abbrev items-typed-Inv-loop : items-typed-lts.InvT-loop
 items-typed-Inv-loop leads file types count at code depth left₀ p₀ left p =
-    (r : Typed) → ItemsSay leads file (typed (typeOf depth code)) left p r → ItemsSay leads file (typed (typeOf depth code)) count at r
+    (r : ℕ) → ItemsSay leads file (typed (typeOf depth code)) left p r → ItemsSay leads file (typed (typeOf depth code)) count at r
 
 abbrev items-typed-μ-loop : items-typed-lts.MeasureT-loop
 items-typed-μ-loop leads file types count at code depth left₀ p₀ left p = left
@@ -156,21 +155,21 @@ items-typed-typed-at-requires t c κs = (search needs, c .before .before .before
 
 items-typed-returns : (t : ℕ) → items-typed-lts.Need-returns (items-typed-claims t) (items-typed-at t) items-typed.Post items-typed-Inv-loop items-typed-μ-loop
 items-typed-returns t c =
-    let a = c .before .before .before .before .before .before .args in
-    let l = c .before .before .before .before .loop in
-    l .inv Typed.Wrong (items-wrong (a .leads .now) (a .file .now) (typed (typeOf (a .depth) (a .code))) (l .left) (l .p) (c .before .before .before .loop-test .taken) (c .before .before .typed-at .ensures) (c .enum-told .given .1))
+    let a = c .before .before .before .before .before .args in
+    let l = c .before .before .before .loop in
+    l .inv 0 (items-wrong (a .leads .now) (a .file .now) (typed (typeOf (a .depth) (a .code))) (l .left) (l .p) (c .before .before .loop-test .taken) (c .before .typed-at .ensures) (c .if1 .taken))
 
 items-typed-loop-again : (t : ℕ) → items-typed-lts.Need-loop-again (items-typed-claims t) (items-typed-at t) items-typed.Post items-typed-Inv-loop items-typed-μ-loop
 items-typed-loop-again t c =
-    let a = c .before .before .before .before .before .before .before .args in
-    let l = c .before .before .before .before .before .loop in
-    λ r h. l .inv r (items-next (a .leads .now) (a .file .now) (typed (typeOf (a .depth) (a .code))) (l .left) (l .p) _ (c .before .before .before .before .loop-test .taken) (c .before .before .before .typed-at .ensures) (c .before .e .given .1) h)
+    let a = c .before .before .before .before .before .args in
+    let l = c .before .before .before .loop in
+    λ r h. l .inv r (items-next (a .leads .now) (a .file .now) (typed (typeOf (a .depth) (a .code))) (l .left) (l .p) (c .before .before .loop-test .taken) (c .before .typed-at .ensures) (c .if1 .left) h)
 
 items-typed-returns-2 : (t : ℕ) → items-typed-lts.Need-returns-2 (items-typed-claims t) (items-typed-at t) items-typed.Post items-typed-Inv-loop items-typed-μ-loop
 items-typed-returns-2 t c =
     let a = c .before .before .before .args in
     let l = c .before .loop in
-    l .inv (Typed.Ends (l .p)) (items-none (a .leads .now) (a .file .now) (typed (typeOf (a .depth) (a .code))) (l .left) (l .p) (c .loop-test .left))
+    l .inv (l .p) (items-none (a .leads .now) (a .file .now) (typed (typeOf (a .depth) (a .code))) (l .left) (l .p) (c .loop-test .left))
 
 row-typed-typed-at-requires : (t : ℕ) → row-typed-lts.Need-typed-at-requires (row-typed-claims t) (row-typed-at t) row-typed.Post
 row-typed-typed-at-requires t c κs = (search needs, c .before .before .before .pre .1 .0)
@@ -234,7 +233,7 @@ typed-at-entries-typed-requires : (t : ℕ) → typed-at-lts.Need-entries-typed-
 typed-at-entries-typed-requires t c κs =
     let a = c .before .before .before .before .before .before .before .before .before .before .before .before .before .before .before .args in
     let large : 3 < tagOf (a .code) = omega (arith, c .before .before .before .before .before .before .before .before .before .before .before .cell .ensures .0) in
-    (search needs, (c .before .before .before .before .before .before .before .before .before .before .before .before .before .before .before .pre .1, (c .before .before .before .before .before .before .before .before .before .cell3 .ensures .1, (omega arith, rw (c .before .before .before .before .before .before .before .before .before .before .cell2 .ensures .0, c .before .before .before .before .before .before .before .before .before .cell3 .ensures .0) (map-distinct (typeOf (a .depth - 1)) (a .code) (c .before .before .before .before .before .before .before .before .before .before .before .before .if2 .left) large)))))
+    (search needs, (c .before .before .before .before .before .before .before .before .before .before .before .before .before .before .before .pre .1, (c .before .before .before .before .before .before .before .before .before .cell3 .ensures .1, (omega arith, (rw (c .before .before .before .before .before .before .before .before .before .before .cell2 .ensures .0, c .before .before .before .before .before .before .before .before .before .cell3 .ensures .0) (map-distinct (typeOf (a .depth - 1)) (a .code) (c .before .before .before .before .before .before .before .before .before .before .before .before .if2 .left) large), rw (c .before .before .before .before .before .before .before .before .before .before .cell2 .ensures .0, c .before .before .before .before .before .before .before .before .before .cell3 .ensures .0) (map-hinted (a .code) (c .before .before .before .before .before .before .before .before .before .before .before .before .if2 .left) large))))))
 
 typed-at-returns-8 : (t : ℕ) → typed-at-lts.Need-returns-8 (typed-at-claims t) (typed-at-at t) typed-at.Post
 typed-at-returns-8 t c =
@@ -260,8 +259,6 @@ pub +entries-typed+items-typed+row-typed+typed-at-spec : {M : Type 1} → statem
     (entries-typed-row-of-requires t)
     (λ c. search needs)
     (entries-typed-row-typed-requires t)
-    (λ c. search needs)
-    (λ c. search needs)
     (entries-typed-returns t)
     (entries-typed-mark-requires t)
     (λ c. search needs)
@@ -278,8 +275,6 @@ pub +entries-typed+items-typed+row-typed+typed-at-spec : {M : Type 1} → statem
     items-typed-μ-loop
     (items-typed-loop-holds t)
     (items-typed-typed-at-requires t)
-    (λ c. search needs)
-    (λ c. search needs)
     (items-typed-returns t)
     (λ c. search needs)
     (λ c. search needs)

@@ -8,6 +8,7 @@ use lib.ListN.{length, length-set}
 use borrow.Author.Needs.{needs}
 use Rattle.fields.specs.declared.Fields.{Fields}
 use Rattle.fields.specs.Numbers.{typeTable}
+use Rattle.fields.specs.Laws.Numbers.{named-hinted}
 use Rattle.fields.specs.Laws.Notes.{note-none, note-next, note-spans, note-done}
 use Rattle.fields.specs.Table.{fieldCount}
 use Rattle.fields.specs.Steps.{NoteSays, noPlaces}
@@ -26,7 +27,7 @@ loop-holds c =
     (c .before .before .types .ensures, (ap length (c .before .no-places .ensures), (ap length (c .no-places2 .ensures), λ r h. subst (λ (l : List ℕ). NoteSays (a .leads .now) (a .file .now) noPlaces l 0 true (a .count) (a .at) r) (c .no-places2 .ensures) (subst (λ (l : List ℕ). NoteSays (a .leads .now) (a .file .now) l (c .no-places2 .result) 0 true (a .count) (a .at) r) (c .before .no-places .ensures) h))))
 
 row-of-requires : tie.Need-row-of-requires Inv-loop μ-loop
-row-of-requires c κs = (c .before .before .before .loop .inv .0, (c .before .text-at .ensures .0, (lit< tt, lit< tt)))
+row-of-requires c κs = (c .before .before .before .loop .inv .0, (c .before .text-at .ensures .0, (lit< tt, (lit< tt, named-hinted))))
 
 judge-requires : tie.Need-judge-requires Inv-loop μ-loop
 judge-requires c κs = c .before .before .before .before .before .loop .inv .0

@@ -8,7 +8,6 @@ use Rattle.fields.specs.Types.{FieldType, plain, arrayOf, exactly}
 use Rattle.fields.specs.Laws.Steps.{HeadRead, value-as, value-cut, head-read, arrayOf-wrong, arrayOf-says, exactly-wrong, exactly-says, exactly-other}
 use Rattle.fields.specs.Steps.{ValueSays}
 use Rattle.fields.specs.Numbers.{build}
-use Rattle.fields.specs.declared.Typed.{Typed}
 use Rattle.fields.specs.Tests.{typed}
 use Rattle.fields.proofs.simple_at.Statement.{statement}
 use Rattle.fields.proofs.simple_at.Tie as tie
@@ -24,7 +23,7 @@ returns-2 c =
     λ f. value-cut (a .leads .now) (a .file .now) (a .at) (typed (build f (a .tag) (a .many) (a .wanted))) (c .before .before .head-at .ensures .1) (c .enum-told .given .1)
 
 -- an array is of neither type where the kind is another
-array-wrong : (f : ℕ → FieldType) (tag many wanted : ℕ) → (tag ≡ 0 → ⊥) → tag < 3 → {leads s : List ℕ} {at n p k : ℕ} → HeadRead leads s at n p k → (k ≡ 5 → ⊥) → ValueSays leads s (typed (build f tag many wanted)) at Typed.Wrong
+array-wrong : (f : ℕ → FieldType) (tag many wanted : ℕ) → (tag ≡ 0 → ⊥) → tag < 3 → {leads s : List ℕ} {at n p k : ℕ} → HeadRead leads s at n p k → (k ≡ 5 → ⊥) → ValueSays leads s (typed (build f tag many wanted)) at 0
 array-wrong f zero m w d l h o = absurd (d refl)
 array-wrong f (suc zero) m w d l h o = arrayOf-wrong h (plain w) o
 array-wrong f (suc (suc zero)) m w d l h o = exactly-wrong h m (plain w) o

@@ -32,7 +32,6 @@ use Rattle.fields.specs.Fields.{rowCount, rowValue, namesOf, fieldNames,
 use Rattle.fields.specs.Noted.{Noted, Among, first, later, SpanFrom, absent, stands, Spanned}
 use Rattle.fields.specs.Numbers.{rowsFrom, typeOf, typeDepth, firstField, rowTest, covered, marked}
 use Rattle.fields.specs.Steps.{ValueSays, RowSays, NotedFrom, NoteSays, noPlaces}
-use Rattle.fields.specs.declared.Typed.{Typed}
 use Rattle.fields.specs.declared.Fields.{Fields}
 use Rattle.fields.specs.Laws.Types.{have-exactly}
 use Rattle.fields.specs.Laws.Sets.{present-none, covered-have}
@@ -45,18 +44,18 @@ use Rattle.fields.specs.Laws.Steps.{no-kind, passed, failed, or-marked, 
 row-named : (i : ℕ) (x : Document) → rowTest i (rowsFrom (typeOf typeDepth) fieldCount firstField) x ≡ rowTest i named x
 row-named i x = ap (λ (z : Rows). rowTest i z x) named-is
 
-module _ (i : ℕ) {leads s : List ℕ} {at : ℕ} {v : Typed} (h : ValueSays leads s (rowTest i (rowsFrom (typeOf typeDepth) fieldCount firstField)) at v) where
-  pub judge-right : (e : ℕ) → v ≡ Typed.Ends e → RowSays leads s i at e true
-  judge-right e is = record {
+module _ (i : ℕ) {leads s : List ℕ} {at : ℕ} {v : ℕ} (h : ValueSays leads s (rowTest i (rowsFrom (typeOf typeDepth) fieldCount firstField)) at v) where
+  pub judge-right : (v ≡ 0 → ⊥) → RowSays leads s i at v true
+  judge-right is = record {
     says = λ l x f a.
-        let k = passed (rowTest i (rowsFrom (typeOf typeDepth) fieldCount firstField) x) (sym is ∙ h .says l x f a) in
+        let k = passed (rowTest i (rowsFrom (typeOf typeDepth) fieldCount firstField) x) is (h .says l x f a) in
         (k .1, sym (k .0) ∙ row-named i x);
   }
 
-  pub judge-wrong : (e : ℕ) → v ≡ Typed.Wrong → (leads ≡ leadTable → (f : ℕ) → Standing s 1 at f → e ≡ f) → RowSays leads s i at e false
+  pub judge-wrong : (e : ℕ) → v ≡ 0 → (leads ≡ leadTable → (f : ℕ) → Standing s 1 at f → e ≡ f) → RowSays leads s i at e false
   judge-wrong e is over = record {
     says = λ l x f a.
-        (over l f (at-standing a), sym (failed (rowTest i (rowsFrom (typeOf typeDepth) fieldCount firstField) x) f (sym is ∙ h .says l x f a)) ∙ row-named i x);
+        (over l f (at-standing a), sym (failed (rowTest i (rowsFrom (typeOf typeDepth) fieldCount firstField) x) a is (h .says l x f a)) ∙ row-named i x);
   }
 
 -- whether a field's value has its type, by that type

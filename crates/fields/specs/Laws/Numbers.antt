@@ -1,18 +1,18 @@
 -- The table of numbers says what Table.antt says, and what is read from it.
 -- Assumes nothing.
 use mathlib.Core.Path.{_≡_, refl, sym, ap, _∙_}
-use mathlib.Core.Bool.{Bool, true, false, not, _&&_, _||_}
+use mathlib.Core.Bool.{Bool, true, false, cond, not, _&&_, _||_}
 use mathlib.Core.List.{List}
 use Prim.Native.Nat.{ℕ, zero, suc, _+_, _-_, _*_, _/_, _%_, _<_, _≤_}
 use native.Mathlib.Omega.{arith}
 use native.Mathlib.Nat.{add-zero, sub-zero}
-use lib.Dec.{eqb, leb}
+use lib.Dec.{eqb, leb, ltb}
 use lib.ListN.{length, getD, take, drop}
 use lib.Seq.{getD-take, getD-drop}
 use Rattle.numbers.specs.Laws.Tests.{clash, and-left, and-right}
 use Rattle.text.specs.Equal.{equal}
-use Rattle.text.specs.Laws.Equal.{equal-lengths, equal-next, equal-not, equal-end}
-use borrow.Author.Tests.{leb-true, eqb-true, eqb-false, lt-ltb, le-ltb}
+use Rattle.text.specs.Laws.Equal.{equal-true, false-equal, equal-lengths, equal-next, equal-not, equal-end}
+use borrow.Author.Tests.{leb-true, eqb-true, eqb-false, ltb-true, ltb-false, lt-ltb, le-ltb}
 use Rattle.heads.specs.Laws.Table.{rows-at, values-length}
 use Rattle.heads.specs.Laws.Span.{part-length}
 use Rattle.messagepack.specs.Document.{Document}
@@ -20,15 +20,15 @@ use Rattle.fields.specs.Types.{FieldType, Rows, plain, mapWith, last, ro
 use Rattle.fields.specs.Table.{groupRows, transformRows, assemblyRows, entityRows, named, fieldCount}
 use Rattle.fields.specs.Tests.{typed}
 use Rattle.fields.specs.Fields.{typeIn, findRow, rowCount}
-use Rattle.fields.specs.Numbers.{rowCells, typeTable, tagOf, manyOf, insideOf, rowAt, nameOf, needOf, codeOf, rowsFrom, build, typeOf, codeCount, typeDepth, firstField, rowTest, covered, newName, distinctNames, lacking, tableByte}
+use Rattle.fields.specs.Numbers.{rowCells, hintPlace, rowHint, hintCells, hintOf, hinted, typeTable, tagOf, manyOf, insideOf, rowAt, nameOf, needOf, codeOf, rowsFrom, build, typeOf, codeCount, typeDepth, firstField, rowTest, covered, newName, distinctNames, lacking, tableByte}
 
 -- computed over the whole table
 pub named-is : rowsFrom (typeOf typeDepth) fieldCount firstField ≡ named
 unfolding rowCells typeTable tableByte nameOf rowsFrom typeOf named groupRows transformRows assemblyRows entityRows
 named-is = refl
 
-pub table-length : length typeTable ≡ rowAt (firstField + fieldCount)
-unfolding rowCells typeTable named groupRows transformRows assemblyRows entityRows
+pub table-length : length typeTable ≡ rowAt (firstField + fieldCount) + 128
+unfolding rowCells hintCells typeTable named groupRows transformRows assemblyRows entityRows
 table-length = refl
 
 -- the names of the fields are different
@@ -97,26 +97,6 @@ module _ (f : ℕ → FieldType) (n r i : ℕ) where
       let e : n - i - 1 ≡ n - (i + 1) = omega arith in
       let g : r + i + 1 ≡ r + (i + 1) = omega arith in
       rows-first f (n - i) (r + i) (omega arith) ∙ rw (e, g)
-
-  -- no row before i has a name: the row at i has it, or those after it may, or there are none
-  module _ (k : List ℕ) (so-far : findRow k (rowsFrom f n r) ≡ i + findRow k (rowsLeft f n r i)) where
-    pub found-here : {b : Bool} → i < n → b ≡ equal k (nameOf (r + i)) → b ≡ true → i ≡ findRow k (rowsFrom f n r)
-    unfolding findRow
-    found-here lt d e =
-        let here : findRow k (rowsLeft f n r i) ≡ 0 = rw (left-first lt, ← d, e) in
-        omega arith
-
-    pub found-later : {b : Bool} → i < n → b ≡ equal k (nameOf (r + i)) → b ≡ false → findRow k (rowsFrom f n r) ≡ i + 1 + findRow k (rowsLeft f n r (i + 1))
-    unfolding findRow
-    found-later lt d e =
-        let later : findRow k (rowsLeft f n r i) ≡ suc (findRow k (rowsLeft f n r (i + 1))) = rw (left-first lt, ← d, e) in
-        omega arith
-
-    pub found-none : i ≤ n → n ≤ i → n ≡ findRow k (rowsFrom f n r)
-    unfolding findRow
-    found-none ge le =
-        let none : findRow k (rowsLeft f n r i) ≡ 0 = rw (rows-none f (n - i) (r + i) (omega arith)) in
-        omega arith
 
   -- the required rows that are seen, row by row
   pub covered-next : (seen : ℕ) → i < n → lacking (tableByte (rowAt (r + i) + 1)) seen ≡ false → covered (rowsLeft f n r i) seen ≡ covered (rowsLeft f n r (i + 1)) (seen / 2)
@@ -189,13 +169,85 @@ unfolding distinctNames rowsFrom
 distinct-same f g zero r = refl
 distinct-same f g (suc n) r = rw (new-same f g (nameOf r) n (r + 1), distinct-same f g n (r + 1))
 
--- each type by its numbers: a type with none inside is of a kind that holds no others, and the names of its rows are different
+-- a name is looked for where its hint says
+
+module _ (k : List ℕ) (f : ℕ → FieldType) where
+  -- the row that is found has the name, and a row with the name is found
+  found-name : (n r : ℕ) → findRow k (rowsFrom f n r) < n → k ≡ nameOf (r + findRow k (rowsFrom f n r))
+  unfolding findRow rowsFrom
+  found-name zero r lt = absurd (omega arith)
+  found-name (suc n) r lt = go (equal k (nameOf r)) refl lt (found-name n (r + 1))
+    where
+      go : (b : Bool) → equal k (nameOf r) ≡ b → cond b 0 (suc (findRow k (rowsFrom f n (r + 1)))) < suc n → (findRow k (rowsFrom f n (r + 1)) < n → k ≡ nameOf (r + 1 + findRow k (rowsFrom f n (r + 1)))) → k ≡ nameOf (r + cond b 0 (suc (findRow k (rowsFrom f n (r + 1)))))
+      go true e h later = equal-true k (nameOf r) e ∙ ap nameOf (sym (add-zero r))
+      go false e h later =
+          let g : r + 1 + findRow k (rowsFrom f n (r + 1)) ≡ r + suc (findRow k (rowsFrom f n (r + 1))) = omega arith in
+          later (omega arith) ∙ ap nameOf g
+
+  name-found : (n r i : ℕ) → i < n → equal k (nameOf (r + i)) ≡ true → findRow k (rowsFrom f n r) < n
+  unfolding findRow rowsFrom
+  name-found zero r i lt h = absurd (omega arith)
+  name-found (suc n) r zero lt h = let e : equal k (nameOf r) ≡ true = ap (λ (z : ℕ). equal k (nameOf z)) (sym (add-zero r)) ∙ h in rw e (omega arith)
+  name-found (suc n) r (suc i) lt h =
+      let g : r + 1 + i ≡ r + suc i = omega arith in
+      go (equal k (nameOf r)) (name-found n (r + 1) i (omega arith) (ap (λ (z : ℕ). equal k (nameOf z)) g ∙ h))
+    where
+      go : (b : Bool) → findRow k (rowsFrom f n (r + 1)) < n → cond b 0 (suc (findRow k (rowsFrom f n (r + 1)))) < suc n
+      go true later = omega arith
+      go false later = omega arith
+
+  found-few : (n r : ℕ) → findRow k (rowsFrom f n r) ≤ n
+  unfolding findRow rowsFrom
+  found-few zero r = omega arith
+  found-few (suc n) r = go (equal k (nameOf r)) (found-few n (r + 1))
+    where
+      go : (b : Bool) → findRow k (rowsFrom f n (r + 1)) ≤ n → cond b 0 (suc (findRow k (rowsFrom f n (r + 1)))) ≤ suc n
+      go true later = omega arith
+      go false later = omega arith
+
+hinted-at : (n first i : ℕ) → hinted n first ≡ true → i < n → hintOf first (nameOf (first + i)) ≡ i
+unfolding hinted
+hinted-at zero first i h lt = absurd (omega arith)
+hinted-at (suc n) first i h lt = go (eqb i n) refl (hinted-at n first i (and-right (eqb (hintOf first (nameOf (first + n))) n) (hinted n first) h))
+  where
+    go : (b : Bool) → eqb i n ≡ b → (i < n → hintOf first (nameOf (first + i)) ≡ i) → hintOf first (nameOf (first + i)) ≡ i
+    go true e earlier = rw (eqb-true i n e) (eqb-true (hintOf first (nameOf (first + n))) n (and-left (eqb (hintOf first (nameOf (first + n))) n) (hinted n first) h))
+    go false e earlier = let d = eqb-false i n e in earlier (omega arith)
+
+-- the hint of the m bytes from a on, by two of them
+pub hint-is : (s : List ℕ) (a m first : ℕ) {early late : ℕ} → a + m ≤ length s → early ≡ getD (take m (drop a s)) 0 0 → late ≡ getD (take m (drop a s)) 3 0 → tableByte (rowAt 55 + (early * 24 + late * 10 + m % 128 + first * 31) % 128) ≡ hintOf first (take m (drop a s))
+unfolding hintOf hintPlace
+hint-is s a m first fits e l = rw (e, l, part-length s a m fits)
+
+module _ (f : ℕ → FieldType) (n first : ℕ) (all : hinted n first ≡ true) (k : List ℕ) {i : ℕ} (hint : i ≡ hintOf first k) where
+  -- the row that is found is the hint
+  is-hint : findRow k (rowsFrom f n first) < n → i ≡ findRow k (rowsFrom f n first)
+  is-hint lt = hint ∙ ap (hintOf first) (found-name k f n first lt) ∙ hinted-at n first (findRow k (rowsFrom f n first)) all lt
+
+  pub hint-found : i < n → equal k (nameOf (first + i)) ≡ true → i ≡ findRow k (rowsFrom f n first)
+  hint-found lt h = is-hint (name-found k f n first i lt h)
+
+  pub hint-none : (i < n → equal k (nameOf (first + i)) ≡ false) → n ≡ findRow k (rowsFrom f n first)
+  hint-none other = go (ltb (findRow k (rowsFrom f n first)) n) refl
+    where
+      go : (b : Bool) → ltb (findRow k (rowsFrom f n first)) n ≡ b → n ≡ findRow k (rowsFrom f n first)
+      go true e =
+          let lt = ltb-true (findRow k (rowsFrom f n first)) n e in
+          let is = is-hint lt in
+          absurd (false-equal k (nameOf (first + i)) (other (omega (arith, is, lt))) (found-name k f n first lt ∙ ap (λ (z : ℕ). nameOf (first + z)) (sym is)))
+      go false e = let a = found-few k f n first in let b = ltb-false (findRow k (rowsFrom f n first)) n e in omega arith
+
+-- each type by its numbers: a type with none inside is of a kind that holds no others, and the names of a map's rows are different and have
+-- their rows as hints
 
 simple : ℕ → Bool
 simple c = leb 3 (tagOf c) || leb (insideOf c) 4
 
 distinct : ℕ → Bool
 distinct c = leb (tagOf c) 3 || distinctNames (rowsFrom plain (manyOf c) (insideOf c))
+
+allHinted : ℕ → Bool
+allHinted c = leb (tagOf c) 3 || hinted (manyOf c) (insideOf c)
 
 every : (ℕ → Bool) → ℕ → Bool
 every t zero = true
@@ -219,6 +271,14 @@ every-distinct : every distinct codeCount ≡ true
 unfolding every distinct distinctNames newName equal rowsFrom nameOf tableByte typeTable rowCells named groupRows transformRows assemblyRows entityRows
 every-distinct = refl
 
+every-hinted : every allHinted codeCount ≡ true
+unfolding every allHinted hinted hintOf hintPlace rowHint hintCells nameOf tableByte typeTable rowCells named groupRows transformRows assemblyRows entityRows
+every-hinted = refl
+
+pub named-hinted : hinted fieldCount firstField ≡ true
+unfolding hinted hintOf hintPlace rowHint hintCells nameOf tableByte typeTable rowCells named groupRows transformRows assemblyRows entityRows
+named-hinted = refl
+
 pub simple-kind : (c : ℕ) → c < codeCount → tagOf c < 3 → insideOf c ≤ 4
 unfolding simple
 simple-kind c lt small = go (leb 3 (tagOf c)) refl (every-at simple codeCount every-simple c lt)
@@ -227,13 +287,21 @@ simple-kind c lt small = go (leb 3 (tagOf c)) refl (every-at simple codeCount ev
     go true e h = absurd (omega (arith, leb-true 3 (tagOf c) e))
     go false e h = leb-true (insideOf c) 4 h
 
-pub map-distinct : (f : ℕ → FieldType) (c : ℕ) → c < codeCount → 3 < tagOf c → distinctNames (rowsFrom f (manyOf c) (insideOf c)) ≡ true
-unfolding distinct
-map-distinct f c lt large = distinct-same f plain (manyOf c) (insideOf c) ∙ go (leb (tagOf c) 3) refl (every-at distinct codeCount every-distinct c lt)
+-- what is tested of each map's type
+of-map : (c : ℕ) (b : Bool) → 3 < tagOf c → (leb (tagOf c) 3 || b) ≡ true → b ≡ true
+of-map c b large h = go (leb (tagOf c) 3) refl h
   where
-    go : (b : Bool) → leb (tagOf c) 3 ≡ b → (b || distinctNames (rowsFrom plain (manyOf c) (insideOf c))) ≡ true → distinctNames (rowsFrom plain (manyOf c) (insideOf c)) ≡ true
+    go : (t : Bool) → leb (tagOf c) 3 ≡ t → (t || b) ≡ true → b ≡ true
     go true e h = absurd (omega (arith, leb-true (tagOf c) 3 e))
     go false e h = h
+
+pub map-distinct : (f : ℕ → FieldType) (c : ℕ) → c < codeCount → 3 < tagOf c → distinctNames (rowsFrom f (manyOf c) (insideOf c)) ≡ true
+unfolding distinct
+map-distinct f c lt large = distinct-same f plain (manyOf c) (insideOf c) ∙ of-map c (distinctNames (rowsFrom plain (manyOf c) (insideOf c))) large (every-at distinct codeCount every-distinct c lt)
+
+pub map-hinted : (c : ℕ) → c < codeCount → 3 < tagOf c → hinted (manyOf c) (insideOf c) ≡ true
+unfolding allHinted
+map-hinted c lt large = of-map c (hinted (manyOf c) (insideOf c)) large (every-at allHinted codeCount every-hinted c lt)
 
 -- a type by its number
 

@@ -12,8 +12,7 @@ use lib.ListN.{length, getD, take, drop}
 use borrow.Author.Tests.{eq-eqb, ne-eqb, le-leb}
 use Rattle.heads.specs.Head.{kindAt, headAt}
 use Rattle.heads.specs.Table.{leadTable}
-use Rattle.heads.specs.Lead.{moreOf}
-use Rattle.heads.specs.Laws.Head.{Told, kind-in, head-held}
+use Rattle.heads.specs.Laws.Head.{Told, alone-head, float-kind, float-head}
 use Rattle.heads.specs.Laws.Table.{low-lead, string-lead}
 use Rattle.heads.specs.declared.Head.{Head}
 use Rattle.heads.specs.declared.Kind.{Kind}
@@ -28,8 +27,7 @@ use Rattle.fields.specs.Types.{FieldType, Rows, plain, arrayOf, exactly,
 use Rattle.fields.specs.Tests.{onArray, onMap, all, have, typed, fitting}
 use Rattle.fields.specs.Fields.{setOf, present, findRow, rowCount}
 use Rattle.fields.specs.Numbers.{codeOf, rowsFrom, rowTest, covered, marked, distinctNames}
-use Rattle.fields.specs.Steps.{endsIf, headKind, plainEnd, ValueSays, ItemsSay, EntriesSay}
-use Rattle.fields.specs.declared.Typed.{Typed}
+use Rattle.fields.specs.Steps.{endsIf, headKind, plainEnd, ValueSays, ItemsSay, RunSays, EntriesSay}
 use Rattle.fields.specs.Laws.Sets.{or-later, present-none, covered-have}
 use Rattle.fields.specs.Laws.Rows.{fitting-none, fitting-entry, present-marked}
 use Rattle.fields.specs.Laws.Numbers.{row-typed, row-free}
@@ -70,8 +68,8 @@ kind-there (map es) a = ap headKind (open-map a .told .kind)
 
 -- a value that holds no others ends with its head, or with its body
 
-with-head : (b : Bool) {p e : ℕ} → p ≡ e → cond b (Typed.Ends p) Typed.Wrong ≡ endsIf b e
-with-head true q = ap Typed.Ends q
+with-head : (b : Bool) {p e : ℕ} → p ≡ e → cond b p 0 ≡ endsIf b e
+with-head true q = q
 with-head false q = refl
 
 module _ (s : List ℕ) (at n p : ℕ) (h : headAt s at ≡ Head.At n p) where
@@ -79,14 +77,14 @@ module _ (s : List ℕ) (at n p : ℕ) (h : headAt s at ≡ Head.At n p) where
   integer-end (unsigned m t q) = let k = t .head in cc
   integer-end (signed k m t q l z i) = let g = t .head in cc
 
-  with-body : {k : Kind} {t : List ℕ} {e : ℕ} (b : Bool) → OpenText s at k t e → cond b (cond (leb (p + n) (length s)) (Typed.Ends (p + n)) Typed.Wrong) Typed.Wrong ≡ endsIf b e
+  with-body : {k : Kind} {t : List ℕ} {e : ℕ} (b : Bool) → OpenText s at k t e → cond b (cond (leb (p + n) (length s)) (p + n) 0) 0 ≡ endsIf b e
   with-body {t = t} {e = e} true o =
       let g = o .told .head in
       let i : n ≡ length t = cc in
       let j : p ≡ o .q = cc in
       let l : p + n ≤ length s = omega (arith, o .inside) in
       let f : p + n ≡ e = omega (arith, o .ends) in
-      rw (le-leb (p + n) (length s) l) (ap Typed.Ends f)
+      rw (le-leb (p + n) (length s) l) f
   with-body false o = refl
 
   plain-of : (wanted : ℕ) → wanted ≤ 4 → (x : Document) {e : ℕ} → At s at x e → plainEnd (length s) (documentKind x) wanted n p ≡ endsIf (eqb (documentKind x) wanted) e
@@ -106,7 +104,7 @@ pub head-read : (leads s : List ℕ) (at : ℕ) {n p k : ℕ} {h : Head} {kind :
 head-read leads s at r g rk gk = record { head = λ le. sym (r le) ∙ g; kind = λ le. ap headKind (sym (rk le)) ∙ sym gk }
 
 -- no document has a head that is cut
-pub value-cut : (leads s : List ℕ) (at : ℕ) (f : Document → Bool) {h : Head} → (leads ≡ leadTable → h ≡ headAt s at) → h ≡ Head.Cut → ValueSays leads s f at Typed.Wrong
+pub value-cut : (leads s : List ℕ) (at : ℕ) (f : Document → Bool) {h : Head} → (leads ≡ leadTable → h ≡ headAt s at) → h ≡ Head.Cut → ValueSays leads s f at 0
 value-cut leads s at f r c = record { says = λ le x e a. let d = head-there x a in let i = r le in let j = d .is in cc }
 
 -- no document has the type 0
@@ -123,7 +121,7 @@ pub no-kind : (x : Document) → typed (plain 0) x ≡ false
 unfolding typed
 no-kind x = ne-eqb (documentKind x) 0 (some-kind x)
 
-pub nothing-says : (leads s : List ℕ) (at : ℕ) (t : FieldType) → t ≡ plain 0 → ValueSays leads s (typed t) at Typed.Wrong
+pub nothing-says : (leads s : List ℕ) (at : ℕ) (t : FieldType) → t ≡ plain 0 → ValueSays leads s (typed t) at 0
 unfolding typed
 nothing-says leads s at t q = record { says = λ le x e a. rw (q, no-kind x) }
 
@@ -189,41 +187,41 @@ module _ {leads s : List ℕ} {at n p k : ℕ} (r : HeadRead leads s at n p k) w
   kinds : leads ≡ leadTable → (x : Document) {e : ℕ} → At s at x e → k ≡ documentKind x
   kinds le x a = sym (r .kind le) ∙ kind-there x a
 
-  pub plain-says : (wanted : ℕ) {v : Typed} → wanted ≤ 4 → v ≡ plainEnd (length s) k wanted n p → ValueSays leads s (typed (plain wanted)) at v
+  pub plain-says : (wanted : ℕ) {v : ℕ} → wanted ≤ 4 → v ≡ plainEnd (length s) k wanted n p → ValueSays leads s (typed (plain wanted)) at v
   unfolding typed
   plain-says w small q = record { says = λ le x e a. q ∙ ap (λ (i : ℕ). plainEnd (length s) i w n p) (kinds le x a) ∙ plain-of s at n p (r .head le) w small x a }
 
-  array-wrong : (f : Documents → Bool) → (k ≡ 5 → ⊥) → leads ≡ leadTable → (x : Document) (e : ℕ) → At s at x e → Typed.Wrong ≡ endsIf (onArray x f) e
+  array-wrong : (f : Documents → Bool) → (k ≡ 5 → ⊥) → leads ≡ leadTable → (x : Document) (e : ℕ) → At s at x e → 0 ≡ endsIf (onArray x f) e
   array-wrong f d le x e a = rw (array-not f x (λ q. d (kinds le x a ∙ q)))
 
-  pub arrayOf-wrong : (t : FieldType) → (k ≡ 5 → ⊥) → ValueSays leads s (typed (arrayOf t)) at Typed.Wrong
+  pub arrayOf-wrong : (t : FieldType) → (k ≡ 5 → ⊥) → ValueSays leads s (typed (arrayOf t)) at 0
   unfolding typed
   arrayOf-wrong t d = record { says = array-wrong (all (typed t)) d }
 
-  pub exactly-wrong : (m : ℕ) (t : FieldType) → (k ≡ 5 → ⊥) → ValueSays leads s (typed (exactly m t)) at Typed.Wrong
+  pub exactly-wrong : (m : ℕ) (t : FieldType) → (k ≡ 5 → ⊥) → ValueSays leads s (typed (exactly m t)) at 0
   unfolding typed
   exactly-wrong m t d = record { says = array-wrong (λ ds. eqb (count ds) m && all (typed t) ds) d }
 
   items : k ≡ 5 → leads ≡ leadTable → (x : Document) (e : ℕ) → At s at x e → Items s x n p e
   items q le x e a = items-of s at n p e (r .head le) x (sym (kinds le x a) ∙ q) a
 
-  pub arrayOf-says : (t : FieldType) {v : Typed} → k ≡ 5 → ItemsSay leads s (typed t) n p v → ValueSays leads s (typed (arrayOf t)) at v
+  pub arrayOf-says : (t : FieldType) {v : ℕ} → k ≡ 5 → ItemsSay leads s (typed t) n p v → ValueSays leads s (typed (arrayOf t)) at v
   unfolding typed
   arrayOf-says t q i = record { says = λ le x e a. let o = items q le x e a in i .says le (o .ds) e (o .all) (o .counts) ∙ ap (λ (z : Document). endsIf (onArray z (all (typed t))) e) (sym (o .is)) }
 
-  pub exactly-says : (m : ℕ) (t : FieldType) {v : Typed} → k ≡ 5 → n ≡ m → ItemsSay leads s (typed t) n p v → ValueSays leads s (typed (exactly m t)) at v
+  pub exactly-says : (m : ℕ) (t : FieldType) {v : ℕ} → k ≡ 5 → n ≡ m → ItemsSay leads s (typed t) n p v → ValueSays leads s (typed (exactly m t)) at v
   unfolding typed
   exactly-says m t q same i = record { says = λ le x e a. let o = items q le x e a in i .says le (o .ds) e (o .all) (o .counts) ∙ ap (λ (b : Bool). endsIf (b && all (typed t) (o .ds)) e) (sym (eq-eqb (count (o .ds)) m (o .counts ∙ same))) ∙ ap (λ (z : Document). endsIf (onArray z (λ ds. eqb (count ds) m && all (typed t) ds)) e) (sym (o .is)) }
 
-  pub exactly-other : (m : ℕ) (t : FieldType) → k ≡ 5 → (n ≡ m → ⊥) → ValueSays leads s (typed (exactly m t)) at Typed.Wrong
+  pub exactly-other : (m : ℕ) (t : FieldType) → k ≡ 5 → (n ≡ m → ⊥) → ValueSays leads s (typed (exactly m t)) at 0
   unfolding typed
   exactly-other m t q other = record { says = λ le x e a. let o = items q le x e a in ap (λ (b : Bool). endsIf (b && all (typed t) (o .ds)) e) (sym (ne-eqb (count (o .ds)) m (λ i. other (sym (o .counts) ∙ i)))) ∙ ap (λ (z : Document). endsIf (onArray z (λ ds. eqb (count ds) m && all (typed t) ds)) e) (sym (o .is)) }
 
-  pub mapWith-wrong : (rows : Rows) → (k ≡ 6 → ⊥) → ValueSays leads s (typed (mapWith rows)) at Typed.Wrong
+  pub mapWith-wrong : (rows : Rows) → (k ≡ 6 → ⊥) → ValueSays leads s (typed (mapWith rows)) at 0
   unfolding typed
   mapWith-wrong rows d = record { says = λ le x e a. rw (map-not (λ es. have rows es && fitting rows es) x (λ q. d (kinds le x a ∙ q))) }
 
-  pub mapWith-says : (rows : Rows) {v : Typed} → k ≡ 6 → EntriesSay leads s rows 0 n p v → ValueSays leads s (typed (mapWith rows)) at v
+  pub mapWith-says : (rows : Rows) {v : ℕ} → k ≡ 6 → EntriesSay leads s rows 0 n p v → ValueSays leads s (typed (mapWith rows)) at v
   unfolding typed
   mapWith-says rows q i = record {
     says = λ le x e a.
@@ -234,66 +232,65 @@ module _ {leads s : List ℕ} {at n p k : ℕ} (r : HeadRead leads s at n p k) w
 -- the commonest values, found by their lead byte
 
 module _ (s : List ℕ) (at : ℕ) (inside : at < length s) (leads : List ℕ) where
+  -- what a value of a kind says whose head is known
+  known-says : (k : Kind) (n p wanted : ℕ) {v : ℕ} → (kindAt s at ≡ k) × (headAt s at ≡ Head.At n p) → wanted ≤ 4 → v ≡ plainEnd (length s) (headKind k) wanted n p → ValueSays leads s (typed (plain wanted)) at v
+  known-says k n p wanted h small q = plain-says (record { head = λ l. h .1; kind = λ l. ap headKind (h .0) }) wanted small q
+
   -- an integer in its lead byte
-  pub low-says : getD s at 0 < 0x80 → ValueSays leads s (typed (plain 1)) at (Typed.Ends (at + 1))
-  low-says h =
-      let r = low-lead (getD s at 0) h in
-      let one : 1 ≡ moreOf (getD s at 0) + 1 = rw (r .more) in
-      plain-says (record {
-        head = λ l. sym (head-held s at one refl (omega arith) (sym (r .held)));
-        kind = λ l. ap headKind (kind-in s at inside ∙ r .kind);
-      }) 1 (lit≤ tt) refl
+  pub low-says : getD s at 0 < 0x80 → ValueSays leads s (typed (plain 1)) at (at + 1)
+  low-says h = known-says Kind.Unsigned _ _ 1 (alone-head s at inside (low-lead (getD s at 0) h)) (lit≤ tt) refl
+
+  -- a float
+  pub float-says : getD s at 0 ≡ 0xca → at + 5 ≤ length s → ValueSays leads s (typed (plain 2)) at (at + 5)
+  float-says h le = known-says Kind.Float _ _ 2 (float-kind s at inside h, float-head s at h le) (lit≤ tt) refl
 
   -- a short string
-  pub short-says : (n : ℕ) → 0xa0 ≤ getD s at 0 → getD s at 0 < 0xc0 → n ≡ getD s at 0 - 0xa0 → at + 1 + n ≤ length s → ValueSays leads s (typed (plain 3)) at (Typed.Ends (at + 1 + n))
+  pub short-says : (n : ℕ) → 0xa0 ≤ getD s at 0 → getD s at 0 < 0xc0 → n ≡ getD s at 0 - 0xa0 → at + 1 + n ≤ length s → ValueSays leads s (typed (plain 3)) at (at + 1 + n)
   short-says n low high e le =
-      let r = string-lead (getD s at 0) low high in
-      let one : 1 ≡ moreOf (getD s at 0) + 1 = rw (r .more) in
-      plain-says (record {
-        head = λ l. sym (head-held s at one refl (omega arith) (e ∙ sym (r .held)));
-        kind = λ l. ap headKind (kind-in s at inside ∙ r .kind);
-      }) 3 (lit≤ tt) (rw (le-leb (at + 1 + n) (length s) le))
+      let r = alone-head s at inside (string-lead (getD s at 0) low high) in
+      known-says Kind.Str n (at + 1) 3 (r .0, r .1 ∙ ap (λ (m : ℕ). Head.At m (at + 1)) (sym e)) (lit≤ tt) (rw (le-leb (at + 1 + n) (length s) le))
 
 -- the values of an array, one after another
 
 -- a step was right: where it ended, and that it passed
-pub passed : (b : Bool) {q e : ℕ} → Typed.Ends q ≡ endsIf b e → (b ≡ true) × (q ≡ e)
-passed true h = (refl, cc)
-passed false h = let z : _≡_ {A = ℕ} 0 1 = cc in absurd (omega arith)
+pub passed : (b : Bool) {q e : ℕ} → (q ≡ 0 → ⊥) → q ≡ endsIf b e → (b ≡ true) × (q ≡ e)
+passed true n h = (refl, h)
+passed false n h = absurd (n h)
 
-pub failed : (b : Bool) (e : ℕ) → Typed.Wrong ≡ endsIf b e → b ≡ false
-failed true e h = let z : _≡_ {A = ℕ} 0 1 = cc in absurd (omega arith)
-failed false e h = refl
+-- it was wrong, since no value ends at 0
+pub failed : (b : Bool) {s : List ℕ} {p e q : ℕ} {x : Document} → At s p x e → q ≡ 0 → q ≡ endsIf b e → b ≡ false
+failed true a z h = absurd (omega (arith, at-inside a .0))
+failed false a z h = refl
 
 module _ (leads s : List ℕ) (f : Document → Bool) where
-  pub items-none : (n p : ℕ) → n ≤ 0 → ItemsSay leads s f n p (Typed.Ends p)
+  pub items-none : (n p : ℕ) → n ≤ 0 → ItemsSay leads s f n p (p)
   unfolding count all WritesAll
   items-none n p le = record { says = λ l ds e a c. go ds e a (omega arith) }
     where
-      go : (ds : Documents) (e : ℕ) → AtAll s p ds e → count ds ≡ 0 → Typed.Ends p ≡ endsIf (all f ds) e
-      go none e a c = ap Typed.Ends (sym (add-zero p) ∙ ap (λ (l : List ℕ). p + length l) (sym (a .writes)) ∙ sym (a .span .ends))
+      go : (ds : Documents) (e : ℕ) → AtAll s p ds e → count ds ≡ 0 → p ≡ endsIf (all f ds) e
+      go none e a c = sym (add-zero p) ∙ ap (λ (l : List ℕ). p + length l) (sym (a .writes)) ∙ sym (a .span .ends)
       go (item d ds) e a c = absurd (omega (arith, c))
 
-  pub items-next : (n p q : ℕ) {v r : Typed} → 0 < n → ValueSays leads s f p v → v ≡ Typed.Ends q → ItemsSay leads s f (n - 1) q r → ItemsSay leads s f n p r
+  pub items-next : (n p : ℕ) {q r : ℕ} → 0 < n → ValueSays leads s f p q → (q ≡ 0 → ⊥) → ItemsSay leads s f (n - 1) q r → ItemsSay leads s f n p r
   unfolding count all
-  items-next n p q {r = r} pos here is rest = record { says = λ l ds e a c. go l ds e a (omega (arith, c)) c }
+  items-next n p {q} {r} pos here is rest = record { says = λ l ds e a c. go l ds e a (omega (arith, c)) c }
     where
       go : leads ≡ leadTable → (ds : Documents) (e : ℕ) → AtAll s p ds e → 0 < count ds → count ds ≡ n → r ≡ endsIf (all f ds) e
       go l none e a h c = absurd (omega (arith, h))
       go l (item d ds) e a h c =
           let o = open-item a in
-          let k = passed (f d) (sym is ∙ here .says l d (o .q) (o .first)) in
+          let k = passed (f d) is (here .says l d (o .q) (o .first)) in
           rest .says l ds e (subst (λ (z : ℕ). AtAll s z ds e) (sym (k .1)) (o .rest)) (omega (arith, c)) ∙ rw (k .0)
 
-  pub items-wrong : (n p : ℕ) {v : Typed} → 0 < n → ValueSays leads s f p v → v ≡ Typed.Wrong → ItemsSay leads s f n p Typed.Wrong
+  pub items-wrong : (n p : ℕ) {v : ℕ} → 0 < n → ValueSays leads s f p v → v ≡ 0 → ItemsSay leads s f n p 0
   unfolding count all
   items-wrong n p pos here is = record { says = λ l ds e a c. go l ds e a (omega (arith, c)) }
     where
-      go : leads ≡ leadTable → (ds : Documents) (e : ℕ) → AtAll s p ds e → 0 < count ds → Typed.Wrong ≡ endsIf (all f ds) e
+      go : leads ≡ leadTable → (ds : Documents) (e : ℕ) → AtAll s p ds e → 0 < count ds → 0 ≡ endsIf (all f ds) e
       go l none e a h = absurd (omega (arith, h))
       go l (item d ds) e a h =
           let o = open-item a in
-          rw (failed (f d) (o .q) (sym is ∙ here .says l d (o .q) (o .first)))
+          rw (failed (f d) (o .first) is (here .says l d (o .q) (o .first)))
 
 -- the entries of a map, one after another
 
@@ -355,15 +352,15 @@ module _ (leads s : List ℕ) (rows : Rows) where
           rw (fitting-none rows, present-none rows, or-zero-r seen, ← h, q)
       go (entry k x es) e a c = absurd (omega (arith, c))
 
-  pub entries-done : (n p seen : ℕ) {b : Bool} → n ≤ 0 → b ≡ covered rows seen → b ≡ true → EntriesSay leads s rows seen n p (Typed.Ends p)
+  pub entries-done : (n p seen : ℕ) {b : Bool} → n ≤ 0 → b ≡ covered rows seen → b ≡ true → EntriesSay leads s rows seen n p (p)
   entries-done n p seen le h t = entries-end n p seen le true (sym t ∙ h)
 
-  pub entries-lack : (n p seen : ℕ) {b : Bool} → n ≤ 0 → b ≡ covered rows seen → b ≡ false → EntriesSay leads s rows seen n p Typed.Wrong
+  pub entries-lack : (n p seen : ℕ) {b : Bool} → n ≤ 0 → b ≡ covered rows seen → b ≡ false → EntriesSay leads s rows seen n p 0
   entries-lack n p seen le h t = entries-end n p seen le false (sym t ∙ h)
 
-  module _ (distinct : distinctNames rows ≡ true) (n p seen i : ℕ) {key : Part} {v : Typed} (pos : 0 < n) (read : KeyRead leads s p key) (found : i ≡ findRow (take (key .count) (drop (key .at) s)) rows) (here : ValueSays leads s (rowTest i rows) (key .at + key .count) v) where
-    pub entries-next : (q after : ℕ) {r : Typed} → v ≡ Typed.Ends q → after ≡ marked (rowCount rows) seen i → EntriesSay leads s rows after (n - 1) q r → EntriesSay leads s rows seen n p r
-    entries-next q after {r = r} is set rest = record { says = λ l es e a c. go l es e a c }
+  module _ (distinct : distinctNames rows ≡ true) (n p seen i : ℕ) {key : Part} {v : ℕ} (pos : 0 < n) (read : KeyRead leads s p key) (found : i ≡ findRow (take (key .count) (drop (key .at) s)) rows) (here : ValueSays leads s (rowTest i rows) (key .at + key .count) v) where
+    pub entries-next : (after : ℕ) {r : ℕ} → (v ≡ 0 → ⊥) → after ≡ marked (rowCount rows) seen i → EntriesSay leads s rows after (n - 1) v r → EntriesSay leads s rows seen n p r
+    entries-next after {r = r} is set rest = record { says = λ l es e a c. go l es e a c }
       where
         grown : (k : List ℕ) (x : Document) (es : Entries) (e : ℕ) → NoKey k es → rowTest (findRow k rows) rows x ≡ true → bitOr seen (setOf (present rows (entry k x es))) ≡ bitOr after (setOf (present rows es)) → endsIf (fitting rows es && covered rows (bitOr after (setOf (present rows es)))) e ≡ endsIf (fitting rows (entry k x es) && covered rows (bitOr seen (setOf (present rows (entry k x es))))) e
         grown k x es e f t u = rw (fitting-entry k x es rows distinct f, t, u)
@@ -372,44 +369,51 @@ module _ (leads s : List ℕ) (rows : Rows) where
         go l es e a c =
             let o = first-entry read l es e n a c pos in
             let j : i ≡ findRow (o .k) rows = found ∙ ap (λ (z : List ℕ). findRow z rows) (o .name) in
-            let w = passed (rowTest i rows (o .x)) (sym is ∙ here .says l (o .x) (o .end) (o .value)) in
+            let w = passed (rowTest i rows (o .x)) is (here .says l (o .x) (o .end) (o .value)) in
             let t : rowTest (findRow (o .k) rows) rows (o .x) ≡ true = ap (λ (z : ℕ). rowTest z rows (o .x)) (sym j) ∙ w .0 in
             let u : bitOr seen (setOf (present rows (entry (o .k) (o .x) (o .others)))) ≡ bitOr after (setOf (present rows (o .others))) = ap (λ (z : ℕ). bitOr seen z) (present-marked (o .k) (o .x) (o .others) rows distinct) ∙ or-marked (rowCount rows) seen (setOf (present rows (o .others))) (findRow (o .k) rows) ∙ ap (λ (z : ℕ). bitOr z (setOf (present rows (o .others)))) (ap (λ (z : ℕ). marked (rowCount rows) seen z) (sym j) ∙ sym set) in
             rest .says l (o .others) e (subst (λ (z : ℕ). AtEntries s z (o .others) e) (sym (w .1)) (o .rest)) (o .counts) ∙ grown (o .k) (o .x) (o .others) e (o .fresh) t u ∙ ap (λ (z : Entries). endsIf (fitting rows z && covered rows (bitOr seen (setOf (present rows z)))) e) (sym (o .is))
 
-    pub entries-wrong : v ≡ Typed.Wrong → EntriesSay leads s rows seen n p Typed.Wrong
+    pub entries-wrong : v ≡ 0 → EntriesSay leads s rows seen n p 0
     entries-wrong is = record { says = λ l es e a c. go l es e a c }
       where
-        go : leads ≡ leadTable → (es : Entries) (e : ℕ) → AtEntries s p es e → size es ≡ n → Typed.Wrong ≡ endsIf (fitting rows es && covered rows (bitOr seen (setOf (present rows es)))) e
+        go : leads ≡ leadTable → (es : Entries) (e : ℕ) → AtEntries s p es e → size es ≡ n → 0 ≡ endsIf (fitting rows es && covered rows (bitOr seen (setOf (present rows es)))) e
         go l es e a c =
             let o = first-entry read l es e n a c pos in
             let j : i ≡ findRow (o .k) rows = found ∙ ap (λ (z : List ℕ). findRow z rows) (o .name) in
-            let t : rowTest (findRow (o .k) rows) rows (o .x) ≡ false = ap (λ (z : ℕ). rowTest z rows (o .x)) (sym j) ∙ failed (rowTest i rows (o .x)) (o .end) (sym is ∙ here .says l (o .x) (o .end) (o .value)) in
+            let t : rowTest (findRow (o .k) rows) rows (o .x) ≡ false = ap (λ (z : ℕ). rowTest z rows (o .x)) (sym j) ∙ failed (rowTest i rows (o .x)) (o .value) is (here .says l (o .x) (o .end) (o .value)) in
             ap (λ (b : Bool). endsIf (b && covered rows (bitOr seen (setOf (present rows (entry (o .k) (o .x) (o .others)))))) e) (sym (fitting-entry (o .k) (o .x) (o .others) rows distinct (o .fresh) ∙ ap (λ (b : Bool). b && fitting rows (o .others)) t)) ∙ ap (λ (z : Entries). endsIf (fitting rows z && covered rows (bitOr seen (setOf (present rows z)))) e) (sym (o .is))
 
 -- what is said by a type is said by any that is equal
-pub value-as : {leads s : List ℕ} {at : ℕ} {v : Typed} (t u : FieldType) → t ≡ u → ValueSays leads s (typed u) at v → ValueSays leads s (typed t) at v
+pub value-as : {leads s : List ℕ} {at : ℕ} {v : ℕ} (t u : FieldType) → t ≡ u → ValueSays leads s (typed u) at v → ValueSays leads s (typed t) at v
 value-as {leads} {s} {at} {v} t u q h = subst (λ (z : FieldType). ValueSays leads s (typed z) at v) (sym q) h
 
-pub items-as : {leads s : List ℕ} {n at : ℕ} {v : Typed} (t u : FieldType) → t ≡ u → ItemsSay leads s (typed u) n at v → ItemsSay leads s (typed t) n at v
+pub items-as : {leads s : List ℕ} {n at : ℕ} {v : ℕ} (t u : FieldType) → t ≡ u → ItemsSay leads s (typed u) n at v → ItemsSay leads s (typed t) n at v
 items-as {leads} {s} {n} {at} {v} t u q h = subst (λ (z : FieldType). ItemsSay leads s (typed z) n at v) (sym q) h
 
+-- one value more is passed, and at first none is
+pub run-next : {s : List ℕ} {f : Document → Bool} {n at left p q : ℕ} → RunSays s f n at left p → 0 < left → ((leads : List ℕ) → ValueSays leads s f p q) → (q ≡ 0 → ⊥) → RunSays s f n at (left - 1) q
+run-next {s} {f} {left = left} {p = p} run pos here is = record { says = λ leads r h. run .says leads r (items-next leads s f left p pos (here leads) is h) }
+
+pub run-first : (s : List ℕ) (f : Document → Bool) (n at : ℕ) → RunSays s f n at n at
+run-first s f n at = record { says = λ leads r h. h }
+
 -- integers in their lead bytes, all at once
-pub low-items : (leads s : List ℕ) (n p : ℕ) → LowRun s p n → ItemsSay leads s (typed (plain 1)) n p (Typed.Ends (p + n))
-low-items leads s zero p l = subst (λ (q : ℕ). ItemsSay leads s (typed (plain 1)) 0 p (Typed.Ends q)) (sym (add-zero p)) (items-none leads s (typed (plain 1)) 0 p (omega arith))
+pub low-items : (leads s : List ℕ) (n p : ℕ) → LowRun s p n → ItemsSay leads s (typed (plain 1)) n p ((p + n))
+low-items leads s zero p l = subst (λ (q : ℕ). ItemsSay leads s (typed (plain 1)) 0 p (q)) (sym (add-zero p)) (items-none leads s (typed (plain 1)) 0 p (omega arith))
 low-items leads s (suc n) p l =
     let b = low-first l in
     let e : n ≡ suc n - 1 = omega arith in
     let f : p + 1 + n ≡ p + suc n = omega arith in
     let rest = low-items leads s n (p + 1) (low-rest l) in
-    items-next leads s (typed (plain 1)) (suc n) p (p + 1) (omega arith) (low-says s p (b .0) leads (b .1)) refl
-    (subst (λ (k : ℕ). ItemsSay leads s (typed (plain 1)) k (p + 1) (Typed.Ends (p + suc n))) e (subst (λ (q : ℕ). ItemsSay leads s (typed (plain 1)) n (p + 1) (Typed.Ends q)) f rest))
+    items-next leads s (typed (plain 1)) (suc n) p (omega arith) (low-says s p (b .0) leads (b .1)) (λ z. omega arith)
+    (subst (λ (k : ℕ). ItemsSay leads s (typed (plain 1)) k (p + 1) ((p + suc n))) e (subst (λ (q : ℕ). ItemsSay leads s (typed (plain 1)) n (p + 1) (q)) f rest))
 
 -- a value under a row, or under none, which is stepped over
 
 module _ (leads s : List ℕ) (f : ℕ → FieldType) (n r i : ℕ) {at : ℕ} where
-  pub row-says : {c : ℕ} {v : Typed} → i < n → c ≡ codeOf (r + i) → ValueSays leads s (typed (f c)) at v → ValueSays leads s (rowTest i (rowsFrom f n r)) at v
+  pub row-says : {c : ℕ} {v : ℕ} → i < n → c ≡ codeOf (r + i) → ValueSays leads s (typed (f c)) at v → ValueSays leads s (rowTest i (rowsFrom f n r)) at v
   row-says {c = c} lt q h = record { says = λ l x e a. h .says l x e a ∙ ap (λ (b : Bool). endsIf b e) (ap (λ (z : ℕ). typed (f z) x) q ∙ sym (row-typed f n r i x lt)) }
 
-  pub row-over : {q : ℕ} → n ≤ i → (leads ≡ leadTable → (e : ℕ) → Standing s 1 at e → q ≡ e) → ValueSays leads s (rowTest i (rowsFrom f n r)) at (Typed.Ends q)
-  row-over le h = record { says = λ l x e a. ap Typed.Ends (h l e (at-standing a)) ∙ ap (λ (b : Bool). endsIf b e) (sym (row-free f n r i x le)) }
+  pub row-over : {q : ℕ} → n ≤ i → (leads ≡ leadTable → (e : ℕ) → Standing s 1 at e → q ≡ e) → ValueSays leads s (rowTest i (rowsFrom f n r)) at (q)
+  row-over le h = record { says = λ l x e a. h l e (at-standing a) ∙ ap (λ (b : Bool). endsIf b e) (sym (row-free f n r i x le)) }
