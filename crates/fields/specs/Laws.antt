@@ -4,5 +4,6 @@ pub mod Fields
 pub mod Sets
 pub mod Rows
 pub mod Numbers
+pub mod Words
 pub mod Steps
 pub mod Notes

@@ -103,14 +103,18 @@ unfoldable pub rowsFrom : (ℕ → FieldType) → ℕ → ℕ → Rows
 rowsFrom f zero r = last
 rowsFrom f (suc n) r = row (nameOf r) (needOf r) (f (codeOf r)) (rowsFrom f n (r + 1))
 
+-- how many rows there are
+abbrev pub allRows : ℕ
+allRows = 55
+
 -- the hint of a name, by the first row of its map
 unfoldable pub hintOf : ℕ → List ℕ → ℕ
-hintOf first k = tableByte (rowAt 55 + hintPlace first k)
+hintOf first k = tableByte (rowAt allRows + hintPlace first k)
 
--- have the names of n rows from the first on their own rows as hints?
+-- are there n rows from the first on, and have their names their own rows as hints?
 unfoldable pub hinted : ℕ → ℕ → Bool
 hinted zero first = true
-hinted (suc n) first = eqb (hintOf first (nameOf (first + n))) n && hinted n first
+hinted (suc n) first = (ltb (first + n) allRows && eqb (hintOf first (nameOf (first + n))) n) && hinted n first
 
 -- a type by its three numbers, with the types inside by f
 abbrev pub build : (ℕ → FieldType) → ℕ → ℕ → ℕ → FieldType

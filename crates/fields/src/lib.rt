@@ -7,6 +7,7 @@ ghost use mathlib.Core.Bool.{true, false};
 ghost use mathlib.Core.List.{List};
 ghost use Prim.Native.Nat.{ℕ, _+_, _*_, _≤_, _<_};
 ghost use lib.ListN.{length, getD, take, drop, set};
+ghost use Rattle.numbers.specs.BigEndian.{unsignedAt};
 ghost use Rattle.text.specs.Equal.{equal};
 ghost use Rattle.values.specs.Walked.{Walked, WalkedEntries, WalkedBy};
 ghost use Rattle.fields.specs.Types.{FieldType, plain};
@@ -14,7 +15,7 @@ ghost use Rattle.fields.specs.Table.{fieldCount};
 ghost use Rattle.fields.specs.Tests.{typed};
 ghost use Rattle.fields.specs.Fields.{fieldTypeOf, isVersionOne, fieldsNumber, findRow};
 ghost use Rattle.fields.specs.Noted.{Noted, Spanned};
-ghost use Rattle.fields.specs.Numbers.{typeTable, nameOf, rowsFrom, typeOf, rowTest, build, covered, marked, lacking, distinctNames, tableByte, hintOf, hinted};
+ghost use Rattle.fields.specs.Numbers.{typeTable, nameOf, rowsFrom, typeOf, rowTest, build, covered, marked, lacking, distinctNames, tableByte, allRows, hintOf, hinted};
 ghost use Rattle.fields.specs.Steps.{headKind, hasBody, plainEnd, ValueSays, ItemsSay, RunSays, EntriesSay, RowSays, noPlaces};
 use heads::Head;
 use heads::Kind;
@@ -648,21 +649,43 @@ fn byte_of(file: &[u8], a: usize, m: usize, i: usize) -> usize
 
 // Are the m bytes from a on the name of a row?
 fn is_name(types: &[u8; TABLE_SIZE], file: &[u8], a: usize, m: usize, row: usize) -> bool
-    requires { ⌜ (now types ≡ typeTable) × ((a + m ≤ length (now file)) × (row < 512)) ⌝ }
+    requires { ⌜ (now types ≡ typeTable) × ((a + m ≤ length (now file)) × (row < allRows)) ⌝ }
     ensures { λ r. ⌜ r ≡ equal (take m (drop a (now (file .entry)))) (nameOf row) ⌝ }
 {
     let start = row * ROW_SIZE + ROWS_AT;
     if m != cell(types, start) {
         return false;
     }
+    let name = start + 3;
+    let table = &types[..];
+    same_words(&file[a..a + m], &table[name..name + m])
+}
+
+// Are two strings of four bytes or more and of one length the same? Four bytes are compared at a time, and the last four may overlap others.
+fn same_words(x: &[u8], y: &[u8]) -> bool
+    requires { ⌜ (length (now x) ≡ length (now y)) × (4 ≤ length (now x)) ⌝ }
+    ensures { λ r. ⌜ r ≡ equal (now (x .entry)) (now (y .entry)) ⌝ }
+{
+    let last = x.len() - 4;
     let mut i: usize = 0;
-    while i < m {
-        if numbers::u8_to_usize(file[a + i]) != cell(types, start + 3 + i) {
+    while i < last {
+        if word(x, i) != word(y, i) {
             return false;
         }
-        i += 1;
+        i += 4;
+    }
+    if word(x, last) != word(y, last) {
+        return false;
     }
     true
+}
+
+// The number in the four bytes from a place on.
+fn word(bytes: &[u8], at: usize) -> u32
+    requires { ⌜ at + 4 ≤ length (now bytes) ⌝ }
+    ensures { λ r. ⌜ r ≡ unsignedAt 4 (now (bytes .entry)) at ⌝ }
+{
+    numbers::read_u32(&bytes[at..at + 4], 0)
 }
 
 // Are the required ones of the n rows from first on all in a set?

@@ -1,68 +1,63 @@
--- The lengths are compared first; then what is left to compare decides.
-use mathlib.Core.Path.{_≡_, sym, refl, _∙_}
-use Prim.Native.Nat.{_-_, _≤_}
+-- The lengths are compared first; a name is a part of the table, and the two parts are compared.
+use mathlib.Core.Path.{_≡_, sym, ap, _∙_}
+use mathlib.Core.List.{List}
+use Prim.Native.Nat.{ℕ, _+_, _-_}
 use native.Mathlib.Omega.{arith}
-use lib.ListN.{take, drop}
-use Rattle.text.specs.Equal.{equal}
+use lib.ListN.{length, take, drop}
 use borrow.Author.Needs.{needs}
-use Rattle.fields.specs.Numbers.{rowAt, nameOf, tableByte}
-use Rattle.fields.specs.Laws.Numbers.{name-long, name-next, name-not, name-end}
+use Rattle.text.specs.Equal.{equal}
+use Rattle.heads.specs.Laws.Span.{part-length}
+use Rattle.fields.specs.Numbers.{typeTable, rowAt, tableByte}
+use Rattle.fields.specs.Laws.Numbers.{table-length, name-long, name-sized, name-part}
 use Rattle.fields.proofs.is_name.Tie as tie
 use Rattle.fields.proofs.is_name.Statement.{statement}
 
-abbrev Inv-loop : tie.InvT-loop
-Inv-loop types file a m row start i₀ i = (i ≤ m) × (equal (take m (drop a file)) (nameOf row) ≡ equal (drop i (take m (drop a file))) (drop i (nameOf row)))
-
-abbrev μ-loop : tie.MeasureT-loop
-μ-loop types file a m row start i₀ i = m - i
-
-returns : tie.Need-returns Inv-loop μ-loop
+returns : tie.Need-returns
 returns c =
     let a = c .before .before .before .args in
     sym (name-long (a .file .now) (a .a) (a .m) (a .row) (c .before .before .before .pre .1 .0) (λ e. c .if1 .taken (e ∙ sym (c .before .cell .ensures .0))))
 
-loop-holds : tie.Need-loop-holds Inv-loop μ-loop
-loop-holds c = (omega arith, refl)
-
-returns-2 : tie.Need-returns-2 Inv-loop μ-loop
-returns-2 c =
-    let a = c .before .before .before .before .before .before .before .before .before .args in
-    let i = c .before .before .before .before .before .loop .i in
-    let same : a .m ≡ tableByte (rowAt (a .row)) = c .before .before .before .before .before .before .if1 .left ∙ c .before .before .before .before .before .before .before .cell .ensures .0 in
-    sym (c .before .before .before .before .before .loop .inv .1 ∙ name-not (a .file .now) (a .a) (a .m) (a .row) (c .before .before .before .before .before .before .before .before .before .pre .1 .0) same i (c .before .before .before .before .loop-test .taken) (λ e. c .if2 .taken (c .before .before .u8-to-usize .ensures .0 ∙ e ∙ sym (c .before .cell2 .ensures .0))))
-
-loop-again : tie.Need-loop-again Inv-loop μ-loop
-loop-again c =
-    let a = c .before .before .before .before .before .before .before .before .before .args in
-    let i = c .before .before .before .before .before .loop .i in
-    let same : a .m ≡ tableByte (rowAt (a .row)) = c .before .before .before .before .before .before .if1 .left ∙ c .before .before .before .before .before .before .before .cell .ensures .0 in
-    (omega arith, c .before .before .before .before .before .loop .inv .1 ∙ name-next (a .file .now) (a .a) (a .m) (a .row) (c .before .before .before .before .before .before .before .before .before .pre .1 .0) same i (c .before .before .before .before .loop-test .taken) (sym (c .before .before .u8-to-usize .ensures .0) ∙ c .if2 .left ∙ c .before .cell2 .ensures .0))
-
-returns-3 : tie.Need-returns-3 Inv-loop μ-loop
-returns-3 c =
+part-end-2 : tie.Need-part-same-words-end-2
+part-end-2 c =
     let a = c .before .before .before .before .before .args in
-    let same : a .m ≡ tableByte (rowAt (a .row)) = c .before .before .if1 .left ∙ c .before .before .before .cell .ensures .0 in
-    sym (c .before .loop .inv .1 ∙ name-end (a .file .now) (a .a) (a .m) (a .row) (c .before .before .before .before .before .pre .1 .0) same (c .before .loop .i) (c .loop-test .left))
+    omega (arith, c .before .before .if1 .left, c .before .before .before .cell .ensures .0, name-sized (a .row) (c .before .before .before .before .before .pre .1 .1) .1)
+
+same-words-requires : tie.Need-same-words-requires
+same-words-requires c κs =
+    let a = c .before .before .before .before .before .before .args in
+    let name = rowAt (a .row) + 3 in
+    let sized = name-sized (a .row) (c .before .before .before .before .before .before .pre .1 .1) in
+    let same : a .m ≡ tableByte (rowAt (a .row)) = c .before .before .before .if1 .left ∙ c .before .before .before .before .cell .ensures .0 in
+    let long : length (a .types .now) ≡ 1389 = ap length (c .before .before .before .before .before .before .pre .0) ∙ table-length in
+    let x = part-length (a .file .now) (a .a) (a .a + a .m - a .a) (omega arith) in
+    let y = part-length (a .types .now) name (name + a .m - name) (omega (arith, sized .1)) in
+    (omega (arith, x, y), omega (arith, x, sized .0))
+
+returns-2 : tie.Need-returns-2
+returns-2 c =
+    let a = c .before .before .before .before .before .before .before .args in
+    let name = rowAt (a .row) + 3 in
+    let same : a .m ≡ tableByte (rowAt (a .row)) = c .before .before .before .before .if1 .left ∙ c .before .before .before .before .before .cell .ensures .0 in
+    let key : a .a + a .m - a .a ≡ a .m = omega arith in
+    let part : name + a .m - name ≡ a .m = omega arith in
+    (rw (key, part) at (c .same-words .ensures)) ∙ ap (λ (z : List ℕ). equal (take (a .m) (drop (a .a) (a .file .now))) z) (ap (λ (t : List ℕ). take (a .m) (drop name t)) (c .before .before .before .before .before .before .before .pre .0) ∙ ap (λ (n : ℕ). take n (drop name typeTable)) same ∙ name-part (a .row) (c .before .before .before .before .before .before .before .pre .1 .1))
 
 pub is-name-spec : {M : Type 1} → statement M
 is-name-spec =
     tie.close
     (tie.spec
-    Inv-loop
-    μ-loop
     (λ c. search needs)
     (λ c. search needs)
     (λ c κs. search needs)
     returns
-    loop-holds
     (λ c. search needs)
     (λ c. search needs)
-    (λ c κs. search needs)
     (λ c. search needs)
     (λ c. search needs)
-    (λ c κs. search needs)
-    returns-2
     (λ c. search needs)
     (λ c. search needs)
-    loop-again
-    returns-3)
+    (λ c. search needs)
+    (λ c. search needs)
+    part-end-2
+    same-words-requires
+    returns-2)

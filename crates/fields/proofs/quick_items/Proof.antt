@@ -1,5 +1,5 @@
 -- The kind is the one that is wanted; of another none is passed.
-use mathlib.Core.Path.{_≡_, sym, ap, subst}
+use mathlib.Core.Path.{sym, subst}
 use Prim.Native.Nat.{ℕ}
 use borrow.Author.Needs.{needs}
 use Rattle.fields.specs.Types.{plain}

@@ -8,10 +8,10 @@ use native.Mathlib.Omega.{arith}
 use native.Mathlib.Nat.{add-zero, sub-zero}
 use lib.Dec.{eqb, leb, ltb}
 use lib.ListN.{length, getD, take, drop}
-use lib.Seq.{getD-take, getD-drop}
+use lib.Seq.{ext-getD, getD-take, getD-drop}
 use Rattle.numbers.specs.Laws.Tests.{clash, and-left, and-right}
 use Rattle.text.specs.Equal.{equal}
-use Rattle.text.specs.Laws.Equal.{equal-true, false-equal, equal-lengths, equal-next, equal-not, equal-end}
+use Rattle.text.specs.Laws.Equal.{equal-true, false-equal, equal-lengths}
 use borrow.Author.Tests.{leb-true, eqb-true, eqb-false, ltb-true, ltb-false, lt-ltb, le-ltb}
 use Rattle.heads.specs.Laws.Table.{rows-at, values-length}
 use Rattle.heads.specs.Laws.Span.{part-length}
@@ -20,7 +20,7 @@ use Rattle.fields.specs.Types.{FieldType, Rows, plain, mapWith, last, ro
 use Rattle.fields.specs.Table.{groupRows, transformRows, assemblyRows, entityRows, named, fieldCount}
 use Rattle.fields.specs.Tests.{typed}
 use Rattle.fields.specs.Fields.{typeIn, findRow, rowCount}
-use Rattle.fields.specs.Numbers.{rowCells, hintPlace, rowHint, hintCells, hintOf, hinted, typeTable, tagOf, manyOf, insideOf, rowAt, nameOf, needOf, codeOf, rowsFrom, build, typeOf, codeCount, typeDepth, firstField, rowTest, covered, newName, distinctNames, lacking, tableByte}
+use Rattle.fields.specs.Numbers.{rowCells, hintPlace, rowHint, hintCells, allRows, hintOf, hinted, typeTable, tagOf, manyOf, insideOf, rowAt, nameOf, needOf, codeOf, rowsFrom, build, typeOf, codeCount, typeDepth, firstField, rowTest, covered, newName, distinctNames, lacking, tableByte}
 
 -- computed over the whole table
 pub named-is : rowsFrom (typeOf typeDepth) fieldCount firstField ≡ named
@@ -46,34 +46,8 @@ name-byte : (r i : ℕ) → i < tableByte (rowAt r) → getD (nameOf r) i 0 ≡ 
 unfolding nameOf
 name-byte r i lt = rows-at (λ j. tableByte (rowAt r + 3 + j)) (tableByte (rowAt r)) i lt
 
-module _ (s : List ℕ) (a m r : ℕ) (fits : a + m ≤ length s) where
-  part : List ℕ
-  part = take m (drop a s)
-
-  long : length part ≡ m
-  unfolding part
-  long = part-length s a m fits
-
-  byte : (i : ℕ) → i < m → getD part i 0 ≡ getD s (a + i) 0
-  unfolding part
-  byte i lt = getD-take m (drop a s) i 0 lt ∙ getD-drop a s i 0
-
-  pub name-long : (m ≡ tableByte (rowAt r) → ⊥) → equal (take m (drop a s)) (nameOf r) ≡ false
-  unfolding part
-  name-long h = equal-lengths part (nameOf r) (λ e. h (sym long ∙ e ∙ name-length r))
-
-  module _ (same : m ≡ tableByte (rowAt r)) where
-    pub name-next : (i : ℕ) → i < m → getD s (a + i) 0 ≡ tableByte (rowAt r + 3 + i) → equal (drop i (take m (drop a s))) (drop i (nameOf r)) ≡ equal (drop (i + 1) (take m (drop a s))) (drop (i + 1) (nameOf r))
-    unfolding part
-    name-next i lt e = equal-next part (nameOf r) i (omega (arith, long)) (omega (arith, name-length r)) (byte i lt ∙ e ∙ sym (name-byte r i (omega arith)))
-
-    pub name-not : (i : ℕ) → i < m → (getD s (a + i) 0 ≡ tableByte (rowAt r + 3 + i) → ⊥) → equal (drop i (take m (drop a s))) (drop i (nameOf r)) ≡ false
-    unfolding part
-    name-not i lt h = equal-not part (nameOf r) i (omega (arith, long)) (omega (arith, name-length r)) (λ e. h (sym (byte i lt) ∙ e ∙ name-byte r i (omega arith)))
-
-    pub name-end : (i : ℕ) → m ≤ i → equal (drop i (take m (drop a s))) (drop i (nameOf r)) ≡ true
-    unfolding part
-    name-end i le = equal-end part (nameOf r) i (omega (arith, long)) (omega (arith, name-length r))
+pub name-long : (s : List ℕ) (a m r : ℕ) → a + m ≤ length s → (m ≡ tableByte (rowAt r) → ⊥) → equal (take m (drop a s)) (nameOf r) ≡ false
+name-long s a m r fits h = equal-lengths (take m (drop a s)) (nameOf r) (λ e. h (sym (part-length s a m fits) ∙ e ∙ name-length r))
 
 -- the first of n rows, and those after it
 
@@ -205,17 +179,23 @@ module _ (k : List ℕ) (f : ℕ → FieldType) where
       go true later = omega arith
       go false later = omega arith
 
-hinted-at : (n first i : ℕ) → hinted n first ≡ true → i < n → hintOf first (nameOf (first + i)) ≡ i
+hinted-both : (n first i : ℕ) → hinted n first ≡ true → i < n → ltb (first + i) allRows && eqb (hintOf first (nameOf (first + i))) i ≡ true
 unfolding hinted
-hinted-at zero first i h lt = absurd (omega arith)
-hinted-at (suc n) first i h lt = go (eqb i n) refl (hinted-at n first i (and-right (eqb (hintOf first (nameOf (first + n))) n) (hinted n first) h))
+hinted-both zero first i h lt = absurd (omega arith)
+hinted-both (suc n) first i h lt = go (eqb i n) refl (hinted-both n first i (and-right (ltb (first + n) allRows && eqb (hintOf first (nameOf (first + n))) n) (hinted n first) h))
   where
-    go : (b : Bool) → eqb i n ≡ b → (i < n → hintOf first (nameOf (first + i)) ≡ i) → hintOf first (nameOf (first + i)) ≡ i
-    go true e earlier = rw (eqb-true i n e) (eqb-true (hintOf first (nameOf (first + n))) n (and-left (eqb (hintOf first (nameOf (first + n))) n) (hinted n first) h))
+    go : (b : Bool) → eqb i n ≡ b → (i < n → ltb (first + i) allRows && eqb (hintOf first (nameOf (first + i))) i ≡ true) → ltb (first + i) allRows && eqb (hintOf first (nameOf (first + i))) i ≡ true
+    go true e earlier = rw (eqb-true i n e) (and-left (ltb (first + n) allRows && eqb (hintOf first (nameOf (first + n))) n) (hinted n first) h)
     go false e earlier = let d = eqb-false i n e in earlier (omega arith)
 
+pub hinted-row : (n first i : ℕ) → hinted n first ≡ true → i < n → first + i < allRows
+hinted-row n first i h lt = ltb-true (first + i) allRows (and-left (ltb (first + i) allRows) (eqb (hintOf first (nameOf (first + i))) i) (hinted-both n first i h lt))
+
+hinted-at : (n first i : ℕ) → hinted n first ≡ true → i < n → hintOf first (nameOf (first + i)) ≡ i
+hinted-at n first i h lt = eqb-true (hintOf first (nameOf (first + i))) i (and-right (ltb (first + i) allRows) (eqb (hintOf first (nameOf (first + i))) i) (hinted-both n first i h lt))
+
 -- the hint of the m bytes from a on, by two of them
-pub hint-is : (s : List ℕ) (a m first : ℕ) {early late : ℕ} → a + m ≤ length s → early ≡ getD (take m (drop a s)) 0 0 → late ≡ getD (take m (drop a s)) 3 0 → tableByte (rowAt 55 + (early * 24 + late * 10 + m % 128 + first * 31) % 128) ≡ hintOf first (take m (drop a s))
+pub hint-is : (s : List ℕ) (a m first : ℕ) {early late : ℕ} → a + m ≤ length s → early ≡ getD (take m (drop a s)) 0 0 → late ≡ getD (take m (drop a s)) 3 0 → tableByte (rowAt allRows + (early * 24 + late * 10 + m % 128 + first * 31) % 128) ≡ hintOf first (take m (drop a s))
 unfolding hintOf hintPlace
 hint-is s a m first fits e l = rw (e, l, part-length s a m fits)
 
@@ -261,6 +241,30 @@ every-at t (suc n) h c lt = go (eqb c n) refl (every-at t n (and-right (t n) (ev
     go : (b : Bool) → eqb c n ≡ b → (c < n → t c ≡ true) → t c ≡ true
     go true e rest = rw (eqb-true c n e) (and-left (t n) (every t n) h)
     go false e rest = let d = eqb-false c n e in rest (omega arith)
+
+-- computed over all rows: a name has 4 bytes or more, and at most 19
+sized : ℕ → Bool
+sized r = leb 4 (tableByte (rowAt r)) && leb (tableByte (rowAt r)) 19
+
+every-sized : every sized allRows ≡ true
+unfolding every sized tableByte typeTable rowCells named groupRows transformRows assemblyRows entityRows
+every-sized = refl
+
+pub name-sized : (r : ℕ) → r < allRows → (4 ≤ tableByte (rowAt r)) × (tableByte (rowAt r) ≤ 19)
+unfolding sized
+name-sized r lt =
+    let h = every-at sized allRows every-sized r lt in
+    (leb-true 4 (tableByte (rowAt r)) (and-left (leb 4 (tableByte (rowAt r))) (leb (tableByte (rowAt r)) 19) h), leb-true (tableByte (rowAt r)) 19 (and-right (leb 4 (tableByte (rowAt r))) (leb (tableByte (rowAt r)) 19) h))
+
+-- a row's name as a part of the table
+pub name-part : (r : ℕ) → r < allRows → take (tableByte (rowAt r)) (drop (rowAt r + 3) typeTable) ≡ nameOf r
+unfolding tableByte
+name-part r lt =
+    let m = getD typeTable (rowAt r) 0 in
+    let z = name-sized r lt in
+    let fits : rowAt r + 3 + m ≤ length typeTable = omega (arith, table-length, z .1) in
+    let long = part-length typeTable (rowAt r + 3) m fits in
+    ext-getD 0 (take m (drop (rowAt r + 3) typeTable)) (nameOf r) (long ∙ sym (name-length r)) (λ i h. getD-take m (drop (rowAt r + 3) typeTable) i 0 (omega (arith, long)) ∙ getD-drop (rowAt r + 3) typeTable i 0 ∙ sym (name-byte r i (omega (arith, long))))
 
 -- computed over all types
 every-simple : every simple codeCount ≡ true
