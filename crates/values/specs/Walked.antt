@@ -18,7 +18,7 @@
 --   values::lists::all_between     whether the integers of the array at a place lie between two numbers
 --   values::lists::inside          whether the integers of the array at a place are indices of a table of n entries
 --   values::lists::length_at       whether an array stands at a place, and how many values it has
---   fields::note                   where the named fields of a map's entries stand, which are there, and whether each has its type
+--   fields::note                   where the named fields of a map's entries stand and end, which are there, and whether each has its type
 --   fields::refusal_of             the refusal 12, 13 or 24 by what `fields::note` noted, or 0
 --   fields::is_typed               whether the value at a place has the type of a named field
 --   file_columns::columns_refusal  the refusal of the first column that has one, 14 to 19, or 0
@@ -28,6 +28,7 @@
 --   file_columns::totals           the sums of two tables over the cells of the column at a place, which decodes
 --   counts::counts_at              the five num fields at their places, where the required fields are there and the columns decode
 --   counts::refusal_of             the refusal by the eleven rules, 20 to 23, or 0, where the required fields are there and the columns decode
+--   structure::document_refusal    the refusal of a file by what `fields::note` noted, 12 to 24, or 0, in a file within the limit
 --
 -- No lemma stands here. Assumes nothing.
 use mathlib.Core.Path.{_≡_}
