@@ -1,5 +1,5 @@
--- A file opened: its verdict and, of an accepted file, the set of its named fields and the part of each, which is that of its view. No reader and
--- no lemma stands here: the laws are in Laws/Opening.antt. Assumes nothing.
+-- A file opened: its verdict and, of an accepted file, the set of its named fields and the part of each, which is that of its view. No lemma
+-- stands here: the laws are in Laws/Opening.antt. Assumes nothing.
 use mathlib.Core.Bool.{cond, _&&_}
 use mathlib.Core.List.{List, map, _++_}
 use Prim.Native.Nat.{ℕ}

@@ -102,7 +102,7 @@ row-name i last es lt = absurd (omega arith)
 row-name zero (row k q t rows) es lt = refl
 row-name (suc i) (row k q t rows) es lt = row-name i rows es (omega arith)
 
-pub field-name : (i : ℕ) (es : Entries) → i < fieldCount → fieldAt i es ≡ look (getD fieldNames i []) es
+field-name : (i : ℕ) (es : Entries) → i < fieldCount → fieldAt i es ≡ look (getD fieldNames i []) es
 unfolding fieldAt fieldNames
 field-name i es lt = row-name i named es (omega (arith, named-count))
 
