@@ -4,3 +4,4 @@ pub mod Steps
 pub mod Cells
 pub mod Field
 pub mod Passing
+pub mod Around

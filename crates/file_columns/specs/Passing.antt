@@ -4,10 +4,12 @@ use mathlib.Core.Path.{_≡_}
 use mathlib.Core.Bool.{Bool, true, false, cond, _&&_}
 use mathlib.Core.Option.{Option, none, some}
 use mathlib.Core.List.{List}
-use Prim.Native.Nat.{ℕ, _+_, _*_, _≤_}
+use Prim.Native.Nat.{ℕ, _+_, _-_, _*_, _%_, _^_, _≤_}
 use lib.ListN.{length, replicate}
 use lib.IntN.{ℤ, pos}
 use lib.Dec.{eqb}
+use mir.Syntax.{w32}
+use mir.Val.{ofZ}
 use Rattle.numbers.specs.Ranges.{allPass, allBelow}
 use Rattle.steps.specs.Delta.{resultsFrom, lastFrom, sumsIf}
 use Rattle.columns.specs.Table.{lengthLimit}
@@ -28,6 +30,10 @@ heldPass test c d (some l) = eqb (length l) c && allPass test (sumsIf d l)
 abbrev pub Reaches : (ℤ → Bool) → List ℤ → ℤ → Last → Type 0
 Reaches test ys z (Within x) = (allPass test ys ≡ true) × (x ≡ z)
 Reaches test ys z Outside = allPass test ys ≡ false
+
+-- how far b is ahead of a, upwards and modulo 2 ^ 32
+abbrev pub aheadOf : ℤ → ℤ → ℕ
+aheadOf a b = (ofZ w32 b + (2 ^ 32 - ofZ w32 a)) % 2 ^ 32
 
 -- the sums of two tables over the results of c values that are held; none where there are not so many
 abbrev pub heldSums : ℕ → List ℕ → List ℕ → ℕ → Bool → Option (List ℤ) → Sums

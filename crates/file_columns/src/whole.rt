@@ -2,16 +2,19 @@
 // numbers, and sums over tables by its cells.
 ghost use mathlib.Core.Path.{_≡_};
 ghost use mathlib.Core.Bool.{true, false};
-ghost use Prim.Native.Nat.{ℕ, _+_, _-_, _*_, _≤_};
+ghost use Prim.Native.Nat.{ℕ, _+_, _-_, _*_, _≤_, _<_};
 ghost use lib.ListN.{replicate};
-ghost use Rattle.numbers.specs.Ranges.{between};
+ghost use lib.Dec.{leb};
+ghost use mir.Syntax.{w32};
+ghost use mir.Val.{ofZ};
+ghost use Rattle.numbers.specs.Ranges.{between, allBetween};
 ghost use Rattle.steps.specs.Delta.{resultsFrom, lastFrom};
 ghost use Rattle.steps.specs.Payload.{readIn, heldIn};
 ghost use Rattle.columns.specs.Table.{elements, lengthLimit};
 ghost use Rattle.columns.specs.Decode.{decode};
 ghost use Rattle.file_columns.specs.Field.{otherSize, otherNames, fieldColumn, checkedOf};
 ghost use Rattle.file_columns.specs.Cells.{typeLimit, cellsPass, noSums, sumsOf};
-ghost use Rattle.file_columns.specs.Passing.{heldPass, Reaches, heldSums, toCome, sumsIn, Sound, Adds, AddsRun};
+ghost use Rattle.file_columns.specs.Passing.{heldPass, Reaches, aheadOf, heldSums, toCome, sumsIn, Sound, Adds, AddsRun};
 use columns::Codec;
 use columns::HEADER_SIZE;
 use columns::Header;
@@ -243,9 +246,6 @@ fn run_between(sum: i32, value: i32, count: usize, delta: bool, low: i32, high: 
     ensures { λ r. ⌜ Reaches (between low high) (resultsFrom delta sum (replicate count value)) (lastFrom delta sum (replicate count value)) r ⌝ }
 {
     if delta {
-        if value == 0 {
-            return same_between(sum, low, high);
-        }
         return sums_between(sum, value, count, low, high);
     }
     same_between(value, low, high)
@@ -261,20 +261,90 @@ fn same_between(result: i32, low: i32, high: i32) -> Last
     Last::Outside
 }
 
-// Whether the sums of a run lie between two numbers, one after the other.
+// Whether the sums of a run lie between two numbers: the first and those that are left after it.
 fn sums_between(sum: i32, value: i32, count: usize, low: i32, high: i32) -> Last
+    requires { ⌜ 1 ≤ count ⌝ }
     ensures { λ r. ⌜ Reaches (between low high) (resultsFrom true sum (replicate count value)) (lastFrom true sum (replicate count value)) r ⌝ }
+{
+    let first = steps::add_delta(sum, value);
+    if !numbers::is_between(first, low, high) {
+        return Last::Outside;
+    }
+    if !stays_between(first, value, count - 1, low, high) {
+        return Last::Outside;
+    }
+    Last::Within(payloads::after_run(sum, value, count, true))
+}
+
+// Whether `count` sums after one that lies between two numbers do too. A step, upwards or downwards, that is no longer than the way around
+// outside cannot pass over it, so that the room on the way inside decides.
+fn stays_between(sum: i32, value: i32, count: usize, low: i32, high: i32) -> bool
+    requires { ⌜ between low high sum ≡ true ⌝ }
+    ensures { λ r. ⌜ r ≡ allBetween low high (resultsFrom true sum (replicate count value)) ⌝ }
+{
+    let above = ahead(sum, high);
+    let below = ahead(low, sum);
+    let outside = 4294967295 - above - below;
+    let up = numbers::to_u32(value) as usize;
+    let down = 4294967296 - up;
+    if up <= outside {
+        return has_room(count, up, above);
+    }
+    if down <= outside {
+        return has_room(count, down, below);
+    }
+    if up == down {
+        return turns_between(sum, value, count, low, high);
+    }
+    each_between(sum, value, count, low, high)
+}
+
+// How far a number is ahead of another, upwards and modulo 2^32.
+fn ahead(from: i32, to: i32) -> usize
+    ensures { λ r. ⌜ r ≡ aheadOf from to ⌝ }
+{
+    std::num::wrapping_sub_u32(numbers::to_u32(to), numbers::to_u32(from)) as usize
+}
+
+// Whether there is room for so many steps.
+fn has_room(count: usize, step: usize, room: usize) -> bool
+    requires { ⌜ (step ≤ 4294967296) × (room < 4294967296) ⌝ }
+    ensures { λ r. ⌜ r ≡ leb (count * step) room ⌝ }
+{
+    if step == 0 {
+        return true;
+    }
+    if room < count {
+        return false;
+    }
+    count * step <= room
+}
+
+// Whether sums by steps of 2^31, which are two numbers by turns, lie between two numbers, where the one before them does.
+fn turns_between(sum: i32, value: i32, count: usize, low: i32, high: i32) -> bool
+    requires { ⌜ (ofZ w32 value ≡ 2147483648) × (between low high sum ≡ true) ⌝ }
+    ensures { λ r. ⌜ r ≡ allBetween low high (resultsFrom true sum (replicate count value)) ⌝ }
+{
+    if count == 0 {
+        return true;
+    }
+    numbers::is_between(steps::add_delta(sum, value), low, high)
+}
+
+// Whether the sums of a run lie between two numbers, one after the other.
+fn each_between(sum: i32, value: i32, count: usize, low: i32, high: i32) -> bool
+    ensures { λ r. ⌜ r ≡ allBetween low high (resultsFrom true sum (replicate count value)) ⌝ }
 {
     let mut x = sum;
     let mut left = count;
     while 0 < left {
         x = steps::add_delta(x, value);
         if !numbers::is_between(x, low, high) {
-            return Last::Outside;
+            return false;
         }
         left -= 1;
     }
-    Last::Within(x)
+    true
 }
 
 // The tally before the first of n cells.
@@ -422,7 +492,8 @@ fn add_run(
     add_cells(tally, value, count, types, atoms, bonds)
 }
 
-// The tally with a run of sums more, one after the other.
+// The tally with a run of sums more, one after the other up to the first that is no index: each adds an entry of its own. Where the value is
+// not 0 there are at most as many indices in a run as there are types.
 fn add_sums(
     tally: Tally,
     value: i32,

@@ -27,7 +27,7 @@ use Rattle.steps.specs.Laws.Numbers.{numbers-step, numbers-end, length-numbers}
 use Rattle.steps.specs.Payload.{readIn, heldIn}
 use Rattle.steps.specs.Laws.Names.{names-length}
 use Rattle.steps.specs.Laws.PayloadBack.{heldIn-read}
-use Rattle.steps.specs.Laws.Delta.{results-plain, results-append, length-results, results-first, last-first}
+use Rattle.steps.specs.Laws.Delta.{results-plain, results-append, length-results, results-first}
 use Rattle.columns.specs.declared.Kind.{Kind}
 use Rattle.columns.specs.Table.{elements, isNames}
 use Rattle.columns.specs.Decode.{Decoding, refused, column, judgedValues}
@@ -166,32 +166,27 @@ rest-end test c d x left e = ap (restPass test c d x) e ∙ by (eqb c 0) refl
     by true q = let z = eqb-true c 0 q in rw (eq-eqb 0 c (sym z))
     by false q = let z = eqb-false c 0 q in rw (ne-eqb 0 c (λ y. z (sym y)))
 
--- of a run of sums from a on, those that are left decide
-abbrev Decide : (ℤ → Bool) → List ℤ → List ℤ → Type 0
-Decide test xs ys = allPass test xs ≡ allPass test ys
-
--- the k sums that are left after x decide of those of a run from a on, and have its last
+-- the k sums that are left after x decide of those of a run from a on
 abbrev pub RunLeft : (ℤ → Bool) → ℤ → ℤ → ℕ → ℤ → ℕ → Type 0
-RunLeft test v a n x k =
-    Decide test (resultsFrom true a (replicate n v)) (resultsFrom true x (replicate k v)) × (lastFrom true a (replicate n v) ≡ lastFrom true x (replicate k v))
+RunLeft test v a n x k = allPass test (resultsFrom true a (replicate n v)) ≡ allPass test (resultsFrom true x (replicate k v))
 
 module _ (test : ℤ → Bool) (v a : ℤ) (n : ℕ) (x : ℤ) (k : ℕ) (w : RunLeft test v a n x k) where
   module _ (h : 0 < k) (y : ℤ) (e : y ≡ plusDelta x v) where
     first : allPass test (resultsFrom true a (replicate n v)) ≡ (test y && allPass test (resultsFrom true y (replicate (k - 1) v)))
     unfolding allPass
-    first = w .0 ∙ ap (allPass test) (results-first true x v k h) ∙ rw e
+    first = w ∙ ap (allPass test) (results-first true x v k h) ∙ rw e
 
     -- the next sum passes, or does not
     pub run-left-on : test y ≡ true → RunLeft test v a n y (k - 1)
-    run-left-on t = (first ∙ rw t, w .1 ∙ last-first true x v k h ∙ rw e)
+    run-left-on t = first ∙ rw t
 
     pub run-left-off : test y ≡ false → allPass test (resultsFrom true a (replicate n v)) ≡ false
     run-left-off t = first ∙ rw t
 
   -- none are left
-  pub run-left-end : k ≡ 0 → (allPass test (resultsFrom true a (replicate n v)) ≡ true) × (x ≡ lastFrom true a (replicate n v))
-  unfolding allPass resultsFrom lastFrom
-  run-left-end e = let z = rw e at w in (z .0, sym (z .1))
+  pub run-left-end : k ≡ 0 → allPass test (resultsFrom true a (replicate n v)) ≡ true
+  unfolding allPass resultsFrom
+  run-left-end e = rw e at w
 
 -- of c plain numbers of a payload those from a place on decide, where `fine` says whether there are so many, and those before pass
 abbrev pub Passing : (ℤ → Bool) → ℕ → Size → List ℕ → ℕ → Bool → Type 0

@@ -1,64 +1,72 @@
--- The results that are left of the run decide, and have its last (`results-first`, `last-first`).
-use mathlib.Core.Path.{_≡_, refl, sym, _∙_}
+-- The first sum and those that are left after it decide (`results-first`), and the last is that of the whole run (`run-last`).
+use mathlib.Core.Path.{_≡_, sym, ap, _∙_}
+use mathlib.Core.Bool.{true, _&&_}
 use Prim.Native.Nat.{_-_}
-use native.Mathlib.Omega.{arith}
+use lib.ListN.{replicate}
+use lib.IntN.{ℤ}
 use mir.Syntax.{w32}
-use mir.Val.{toZ, ofZ}
 use mir.Facts.{toZ-ofZ}
-use Rattle.numbers.specs.Ranges.{between}
 use borrow.Author.Needs.{needs}
 use borrow.Author.Tests.{not-true, not-false}
-use Rattle.steps.specs.Delta.{plusDelta}
-use Rattle.file_columns.specs.Laws.Passing.{RunLeft, run-left-on, run-left-off, run-left-end}
+use Rattle.numbers.specs.Ranges.{allPass, between, allBetween}
+use Rattle.steps.specs.Delta.{plusDelta, resultsFrom}
+use Rattle.steps.specs.Laws.Delta.{results-first, run-last}
 use Rattle.file_columns.proofs.whole.sums_between.Statement.{statement}
 use Rattle.file_columns.proofs.whole.sums_between.Tie as tie
 
-abbrev Inv-loop : tie.InvT-loop
-Inv-loop sum value count low high x₀ left₀ x left = RunLeft (between (toZ w32 low) (toZ w32 high)) (toZ w32 value) (toZ w32 sum) count (toZ w32 x) left
+-- the first decides with the others
+first : (c : tie.Start)
+    → allBetween (c .args .low) (c .args .high) (resultsFrom true (c .args .sum) (replicate (c .args .count) (c .args .value)))
+    ≡ (between (c .args .low) (c .args .high) (plusDelta (c .args .sum) (c .args .value)) && allBetween (c .args .low) (c .args .high) (resultsFrom true (plusDelta (c .args .sum) (c .args .value)) (replicate (c .args .count - 1) (c .args .value))))
+unfolding allPass
+first c = ap (allBetween (c .args .low) (c .args .high)) (results-first true (c .args .sum) (c .args .value) (c .args .count) (c .pre))
 
-abbrev μ-loop : tie.MeasureT-loop
-μ-loop sum value count low high x₀ left₀ x left = left
-
-loop-holds : tie.Need-loop-holds Inv-loop μ-loop
-loop-holds c = (refl, refl)
-
--- the next sum
-next : (c : tie.After-add-delta Inv-loop μ-loop) → toZ w32 (ofZ w32 (c .add-delta .result)) ≡ plusDelta (toZ w32 (c .before .before .loop .x)) (toZ w32 (ofZ w32 (c .before .before .before .args .value)))
-next c = toZ-ofZ {w = w32} (record { sfits = c .add-delta .ok }) ∙ c .add-delta .ensures
-
-returns : tie.Need-returns Inv-loop μ-loop
-returns c =
-    let a = c .before .before .before .before .before in
-    let p = c .before .before .before .before .loop in
-    let e = run-left-off (between (toZ w32 (ofZ w32 (a .args .low))) (toZ w32 (ofZ w32 (a .args .high)))) (toZ w32 (ofZ w32 (a .args .value))) (toZ w32 (ofZ w32 (a .args .sum))) (a .args .count) (toZ w32 (p .x)) (p .left) (p .inv) (omega arith)
-    (toZ w32 (ofZ w32 (c .before .before .add-delta .result))) (next (c .before .before)) (sym (c .before .is-between .ensures) ∙ not-true _ (c .if1 .taken)) in
-    rw (toZ-ofZ {w = w32} (a .fits .low), toZ-ofZ {w = w32} (a .fits .high), toZ-ofZ {w = w32} (a .fits .value), toZ-ofZ {w = w32} (a .fits .sum)) at e
-
-loop-again : tie.Need-loop-again Inv-loop μ-loop
-loop-again c =
-    let a = c .before .before .before .before .before in
-    let p = c .before .before .before .before .loop in
-    run-left-on (between (toZ w32 (ofZ w32 (a .args .low))) (toZ w32 (ofZ w32 (a .args .high)))) (toZ w32 (ofZ w32 (a .args .value))) (toZ w32 (ofZ w32 (a .args .sum))) (a .args .count) (toZ w32 (p .x)) (p .left) (p .inv) (omega arith)
-    (toZ w32 (ofZ w32 (c .before .before .add-delta .result))) (next (c .before .before)) (sym (c .before .is-between .ensures) ∙ not-false _ (c .if1 .left))
-
-returns-2 : tie.Need-returns-2 Inv-loop μ-loop
-returns-2 c =
+-- what the test of the first says
+tested : (c : tie.After-is-between) → c .is-between .result ≡ between (c .before .before .args .low) (c .before .before .args .high) (plusDelta (c .before .before .args .sum) (c .before .before .args .value))
+tested c =
     let a = c .before .before in
-    let p = c .before .loop in
-    let e = run-left-end (between (toZ w32 (ofZ w32 (a .args .low))) (toZ w32 (ofZ w32 (a .args .high)))) (toZ w32 (ofZ w32 (a .args .value))) (toZ w32 (ofZ w32 (a .args .sum))) (a .args .count) (toZ w32 (p .x)) (p .left) (p .inv) (omega arith) in
-    rw (toZ-ofZ {w = w32} (a .fits .low), toZ-ofZ {w = w32} (a .fits .high), toZ-ofZ {w = w32} (a .fits .value), toZ-ofZ {w = w32} (a .fits .sum)) at e
+    let d = rw (toZ-ofZ {w = w32} (a .fits .sum), toZ-ofZ {w = w32} (a .fits .value)) at (c .before .add-delta .ensures) in
+    let e = rw (toZ-ofZ {w = w32} (a .fits .low), toZ-ofZ {w = w32} (a .fits .high), toZ-ofZ {w = w32} (record { sfits = c .before .add-delta .ok })) at (c .is-between .ensures) in
+    e ∙ ap (between (a .args .low) (a .args .high)) d
+
+returns : tie.Need-returns
+returns c = first (c .before .before .before) ∙ rw (sym (tested (c .before)) ∙ not-true _ (c .if1 .taken))
+
+stays-between-requires : tie.Need-stays-between-requires
+stays-between-requires c κs = sym (c .before .is-between .ensures) ∙ not-false _ (c .if1 .left)
+
+-- what is said of those that are left
+others : (c : tie.After-stays-between)
+    → c .stays-between .result
+    ≡ allBetween (c .before .before .before .before .args .low) (c .before .before .before .before .args .high) (resultsFrom true (plusDelta (c .before .before .before .before .args .sum) (c .before .before .before .before .args .value)) (replicate (c .before .before .before .before .args .count - 1) (c .before .before .before .before .args .value)))
+others c =
+    let a = c .before .before .before .before in
+    let d = rw (toZ-ofZ {w = w32} (a .fits .sum), toZ-ofZ {w = w32} (a .fits .value)) at (c .before .before .before .add-delta .ensures) in
+    let e = rw (toZ-ofZ {w = w32} (a .fits .low), toZ-ofZ {w = w32} (a .fits .high), toZ-ofZ {w = w32} (a .fits .value), toZ-ofZ {w = w32} (record { sfits = c .before .before .before .add-delta .ok })) at (c .stays-between .ensures) in
+    e ∙ ap (λ (x : ℤ). allBetween (a .args .low) (a .args .high) (resultsFrom true x (replicate (a .args .count - 1) (a .args .value)))) d
+
+returns-2 : tie.Need-returns-2
+returns-2 c =
+    first (c .before .before .before .before .before)
+    ∙ rw (sym (tested (c .before .before .before)) ∙ not-false _ (c .before .before .if1 .left)) (sym (others (c .before)) ∙ not-true _ (c .if2 .taken))
+
+returns-3 : tie.Need-returns-3
+returns-3 c =
+    let a = c .before .before .before .before .before .before in
+    let r = rw (toZ-ofZ {w = w32} (a .fits .sum), toZ-ofZ {w = w32} (a .fits .value)) at (c .after-run .ensures) in (
+      first a ∙ rw (sym (tested (c .before .before .before .before)) ∙ not-false _ (c .before .before .before .if1 .left)) (sym (others (c .before .before)) ∙ not-false _ (c .before .if2 .left)),
+      toZ-ofZ {w = w32} (record { sfits = c .after-run .ok }) ∙ r ∙ sym (run-last true (a .args .sum) (a .args .value) (a .args .count) (a .pre)),
+    )
 
 pub sums-between-spec : {M : Type 1} → statement M
 sums-between-spec =
     tie.close
     (tie.spec
-    Inv-loop
-    μ-loop
-    loop-holds
     (λ c κs. search needs)
     (λ c κs. search needs)
     returns
-    (λ c. omega arith)
-    (λ c. omega arith)
-    loop-again
-    returns-2)
+    (λ c. search needs)
+    stays-between-requires
+    returns-2
+    (λ c κs. search needs)
+    returns-3)
