@@ -11,6 +11,8 @@ ghost use lib.ListN.{length};
 ghost use Rattle.values.specs.Parts.{integerOf};
 ghost use Rattle.values.specs.Walked.{Walked};
 ghost use Rattle.file_columns.specs.Cells.{typeLimit};
+ghost use Rattle.file_columns.specs.Passing.{Hold};
+ghost use Rattle.messagepack.specs.Document.{count};
 ghost use Rattle.counts.specs.Group.{atomsOf, bondsOf, groupsNumber};
 ghost use Rattle.counts.specs.Counts.{countLimit, countsNumber, outerInside, outerRight, valuesRight, indicesInside};
 ghost use Rattle.counts.specs.Steps.{WalkedCounted, WalkedCounts, WalkedTypes, asCount, CountsIn, Small, countsFit, chainsFit, chainsPart};
@@ -23,6 +25,9 @@ use values::lists::Sum;
 
 // The most models, chains, groups, atoms or bonds.
 pub const COUNT_LIMIT: usize = 16_777_216;
+
+// So many group types, which most files have at most, have smaller tables: to clear the large ones would cost more than all else of a small file.
+const FEW_TYPES: usize = 128;
 
 // The five num fields; one that is out of range is one above the limit.
 pub struct Counts {
@@ -162,7 +167,7 @@ fn chains_agree(counts: Counts, models: usize, chains: u64, ends: usize, groups:
     groups == numbers::usize_to_u64(counts.groups)
 }
 
-// Rules 5 to 8: each group type, the groups that are of them, and the atoms and bonds that these add up to.
+// Rules 5 to 8: each group type, the groups that are of them, and the atoms and bonds that these add up to. A table for few types is smaller.
 fn groups_refusal(
     leads: &[u8; 256],
     file: &[u8],
@@ -171,14 +176,37 @@ fn groups_refusal(
 ) -> u8
     ensures { λ r. ⌜ WalkedCounts (now (leads .entry)) (now (file .entry)) (now (places .entry)) counts (λ f. FewTypes f → r ≡ groupsPart f) ⌝ }
 {
-    let list = values::items_at(leads, file, places[fields::GROUP_LIST]);
-    let n = list.count;
-    if file_columns::whole::TYPE_LIMIT < n {
-        return refusal::TOO_MANY_GROUP_TYPES;
+    let types = values::lists::length_at(leads, file, places[fields::GROUP_LIST]).count;
+    if types <= FEW_TYPES {
+        let mut atoms = few_entries();
+        let mut bonds = few_entries();
+        return types_refusal(leads, file, places, counts, &mut atoms, &mut bonds);
     }
     let mut atoms = no_entries();
     let mut bonds = no_entries();
-    let number = fill_tables(leads, file, n, list.at, &mut atoms, &mut bonds);
+    types_refusal(leads, file, places, counts, &mut atoms, &mut bonds)
+}
+
+// Rules 5 to 8 by tables that have an entry for each type.
+fn types_refusal(
+    leads: &[u8; 256],
+    file: &[u8],
+    places: &[usize; fields::FIELD_COUNT],
+    counts: Counts,
+    atoms: &mut [u32],
+    bonds: &mut [u32],
+) -> u8
+    ensures { λ r. ⌜ WalkedCounts (now (leads .entry)) (now (file .entry)) (now (places .entry)) counts (λ f. Hold (count (f .groupList)) (now (atoms .entry)) (now (bonds .entry)) → r ≡ groupsPart f) ⌝ }
+{
+    let list = values::items_at(leads, file, places[fields::GROUP_LIST]);
+    let n = list.count;
+    if atoms.len() < n {
+        return refusal::TOO_MANY_GROUP_TYPES;
+    }
+    if bonds.len() < n {
+        return refusal::TOO_MANY_GROUP_TYPES;
+    }
+    let number = fill_tables(leads, file, n, list.at, atoms, bonds);
     if number != refusal::ACCEPTED {
         return number;
     }
@@ -188,8 +216,8 @@ fn groups_refusal(
         file,
         places[fields::GROUP_TYPE_LIST],
         n,
-        &atoms,
-        &bonds,
+        atoms,
+        bonds,
     );
     let outer = file_columns::length_at(leads, file, places[fields::BOND_ATOM_LIST], int32);
     let orders = file_columns::length_at(
@@ -207,10 +235,10 @@ fn fill_tables(
     file: &[u8],
     n: usize,
     at: usize,
-    atoms: &mut [u32; file_columns::whole::TYPE_LIMIT],
-    bonds: &mut [u32; file_columns::whole::TYPE_LIMIT],
+    atoms: &mut [u32],
+    bonds: &mut [u32],
 ) -> u8
-    requires { ⌜ (n ≤ typeLimit) × (length (now atoms) ≡ typeLimit) × (length (now bonds) ≡ typeLimit) ⌝ }
+    requires { ⌜ Hold n (now atoms) (now bonds) ⌝ }
     ensures number { λ r. ⌜ WalkedTypes (now (leads .entry)) (now (file .entry)) n at (λ ts. r ≡ groupsNumber ts) ⌝ }
     ensures atoms { λ r. ⌜ WalkedTypes (now (leads .entry)) (now (file .entry)) n at (λ ts. now (atoms .exit) ≡ tableOf atomsOf ts (now (atoms .entry))) ⌝ }
     ensures bonds { λ r. ⌜ WalkedTypes (now (leads .entry)) (now (file .entry)) n at (λ ts. now (bonds .exit) ≡ tableOf bondsOf ts (now (bonds .entry))) ⌝ }
@@ -228,6 +256,13 @@ fn fill_tables(
         i += 1;
     }
     refusal::ACCEPTED
+}
+
+// Rules 7 and 8: a table of few group types with nothing in it.
+fn few_entries() -> [u32; FEW_TYPES]
+    ensures { λ r. ⌜ length r ≡ 128 ⌝ }
+{
+    [0u32; FEW_TYPES]
 }
 
 // Rules 7 and 8: a table of group types with nothing in it.

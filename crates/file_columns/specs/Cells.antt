@@ -1,8 +1,8 @@
 -- The cells of a column taken together: whether all pass a test, and sums over tables by them. No lemma stands here: the laws are in Laws/Cells.antt. Assumes nothing.
-use mathlib.Core.Bool.{Bool, true, false, cond}
+use mathlib.Core.Bool.{Bool, true, false, cond, _&&_}
 use mathlib.Core.List.{List, [], _∷_}
 use Prim.Native.Nat.{ℕ, _+_}
-use lib.ListN.{getD}
+use lib.ListN.{length, getD}
 use lib.IntN.{ℤ, natAbs}
 use lib.Dec.{leb}
 use Rattle.numbers.specs.Ranges.{allPass, allBelow}
@@ -31,7 +31,11 @@ noSums = record { inside = false; atoms = 0; bonds = 0 }
 abbrev pub sumsOver : ℕ → List ℕ → List ℕ → List ℤ → Sums
 sumsOver n atoms bonds xs = cond (allBelow n xs) (record { inside = true; atoms = total atoms xs; bonds = total bonds xs }) noSums
 
--- the sums over the cells of a column that decodes, where n is at most the most group types; else none
+-- whether two tables have n entries each
+abbrev pub holds : ℕ → List ℕ → List ℕ → Bool
+holds n atoms bonds = leb n (length atoms) && leb n (length bonds)
+
+-- the sums over the cells of a column that decodes, where the tables have n entries; else none
 abbrev pub sumsOf : ℕ → List ℕ → List ℕ → Decoding → Sums
 sumsOf n atoms bonds (refused r) = noSums
-sumsOf n atoms bonds (column k m xs) = cond (leb n typeLimit) (sumsOver n atoms bonds xs) noSums
+sumsOf n atoms bonds (column k m xs) = cond (holds n atoms bonds) (sumsOver n atoms bonds xs) noSums

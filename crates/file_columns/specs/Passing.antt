@@ -48,6 +48,10 @@ toCome c = record { left = c; atoms = 0; bonds = 0; last = pos 0 }
 abbrev pub sumsIn : Tally → Sums
 sumsIn t = cond (eqb (t .left) 0) (record { inside = true; atoms = t .atoms; bonds = t .bonds }) noSums
 
+-- two tables have n entries each
+abbrev pub Hold : ℕ → List ℕ → List ℕ → Type 0
+Hold n atoms bonds = (n ≤ length atoms) × (n ≤ length bonds)
+
 -- a tally's sums have room for the cells to come: those of as many 32-bit numbers as a column has cells have 64 bits
 abbrev pub Sound : Tally → Type 0
 Sound t = (t .atoms + t .left * 4294967295 ≤ lengthLimit * 4294967295) × (t .bonds + t .left * 4294967295 ≤ lengthLimit * 4294967295)

@@ -4,7 +4,7 @@ use mathlib.Core.Path.{_≡_}
 use mathlib.Core.Bool.{cond}
 use mathlib.Core.List.{List, map}
 use mathlib.Core.Option.{Option}
-use Prim.Native.Nat.{ℕ, _≤_}
+use Prim.Native.Nat.{ℕ}
 use lib.Dec.{eqb}
 use lib.ListN.{getD}
 use Rattle.messagepack.specs.Document.{Document, Entries}
@@ -16,7 +16,8 @@ use Rattle.columns.specs.declared.Wanted.{Wanted}
 use Rattle.columns.specs.declared.Wanted.the-variants.{Only, Real, Any}
 use Rattle.columns.specs.declared.Kind.the-variants.{Int8, Int32, Strings, Chars}
 use Rattle.columns.specs.Table.{kindTag}
-use Rattle.file_columns.specs.Cells.{typeLimit, sumsOver}
+use Rattle.file_columns.specs.Cells.{sumsOver}
+use Rattle.file_columns.specs.Passing.{Hold}
 use Rattle.file_columns.specs.declared.whole.Sums.{Sums}
 use Rattle.file_columns.specs.Columns.{Column, Level, atom, group, chain, bond, columns, columnOf, ColumnRight, AllRight, cellsIn}
 
@@ -69,7 +70,7 @@ levelFrom n = cond (eqb n 0) atom (cond (eqb n 1) group (cond (eqb n 2) chain bo
 abbrev pub columnAt : ℕ → Column
 columnAt i = getD columns i (columnOf "" Real bond)
 
--- the sums of two tables over the cells of the int32 column at a place, where it is there and decodes, and the types are not too many
+-- the sums of two tables over the cells of the int32 column at a place, where it is there and decodes, and the tables have an entry for each type
 abbrev pub TotalsIn : ℕ → ℕ → List ℕ → List ℕ → Option Document → Sums → Type 0
 TotalsIn at types atoms bonds o r =
-    (at ≡ 0 → ⊥) → ColumnRight (Only Int32) o → types ≤ typeLimit → r ≡ sumsOver types atoms bonds (listIn (cellsIn (Only Int32) o))
+    (at ≡ 0 → ⊥) → ColumnRight (Only Int32) o → Hold types atoms bonds → r ≡ sumsOver types atoms bonds (listIn (cellsIn (Only Int32) o))

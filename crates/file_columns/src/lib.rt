@@ -177,8 +177,8 @@ pub fn totals(
     file: &[u8],
     at: usize,
     types: usize,
-    atoms: &[u32; crate::whole::TYPE_LIMIT],
-    bonds: &[u32; crate::whole::TYPE_LIMIT],
+    atoms: &[u32],
+    bonds: &[u32],
 ) -> Sums
     ensures { λ r. ⌜ WalkedPlace (now (leads .entry)) (now (file .entry)) at (λ o. TotalsIn at types (now (atoms .entry)) (now (bonds .entry)) o r) ⌝ }
 {

@@ -1,7 +1,7 @@
 // A column of a named field judged all at once, with nothing copied: its refusal and its length, whether its cells lie between two
 // numbers, and sums over tables by its cells.
 ghost use mathlib.Core.Path.{_≡_};
-ghost use mathlib.Core.Bool.{true, false};
+ghost use mathlib.Core.Bool.{true, false, _&&_};
 ghost use Prim.Native.Nat.{ℕ, _+_, _-_, _*_, _≤_, _<_};
 ghost use lib.ListN.{replicate};
 ghost use lib.Dec.{leb};
@@ -13,8 +13,8 @@ ghost use Rattle.steps.specs.Payload.{readIn, heldIn};
 ghost use Rattle.columns.specs.Table.{elements, lengthLimit};
 ghost use Rattle.columns.specs.Decode.{decode};
 ghost use Rattle.file_columns.specs.Field.{otherSize, otherNames, fieldColumn, checkedOf};
-ghost use Rattle.file_columns.specs.Cells.{typeLimit, cellsPass, noSums, sumsOf};
-ghost use Rattle.file_columns.specs.Passing.{heldPass, Reaches, aheadOf, heldSums, toCome, sumsIn, Sound, Adds, AddsRun};
+ghost use Rattle.file_columns.specs.Cells.{cellsPass, noSums, sumsOf};
+ghost use Rattle.file_columns.specs.Passing.{heldPass, Reaches, aheadOf, heldSums, toCome, sumsIn, Hold, Sound, Adds, AddsRun};
 use columns::Codec;
 use columns::HEADER_SIZE;
 use columns::Header;
@@ -101,17 +101,12 @@ pub fn all_between(column: &[u8], wanted: Wanted, low: i32, high: i32) -> bool
     }
 }
 
-// The sums of the entries of two tables over the cells of an int32 column, where it decodes and all its cells are indices of the first
-// `types` entries; else none.
-pub fn totals(
-    column: &[u8],
-    types: usize,
-    atoms: &[u32; TYPE_LIMIT],
-    bonds: &[u32; TYPE_LIMIT],
-) -> Sums
+// The sums of the entries of two tables over the cells of an int32 column, where it decodes, the tables have `types` entries and all its cells
+// are indices of these; else none.
+pub fn totals(column: &[u8], types: usize, atoms: &[u32], bonds: &[u32]) -> Sums
     ensures { λ r. ⌜ r ≡ sumsOf types (now (atoms .entry)) (now (bonds .entry)) (decode (Wanted.Only Kind.Int32) (now (column .entry))) ⌝ }
 {
-    if TYPE_LIMIT < types {
+    if !hold(types, atoms.len(), bonds.len()) {
         return no_sums();
     }
     match columns::read_header(column, Wanted::Only(Kind::Int32)) {
@@ -120,6 +115,16 @@ pub fn totals(
             sums_of(&column[HEADER_SIZE..], form, delta, n, types, atoms, bonds)
         }
     }
+}
+
+// Whether two tables have so many entries.
+fn hold(types: usize, atoms: usize, bonds: usize) -> bool
+    ensures { λ r. ⌜ r ≡ (leb types atoms && leb types bonds) ⌝ }
+{
+    if atoms < types {
+        return false;
+    }
+    types <= bonds
 }
 
 // Whether a column has names of another size than a named field has.
@@ -391,10 +396,10 @@ fn sums_of(
     delta: bool,
     n: usize,
     types: usize,
-    atoms: &[u32; TYPE_LIMIT],
-    bonds: &[u32; TYPE_LIMIT],
+    atoms: &[u32],
+    bonds: &[u32],
 ) -> Sums
-    requires { ⌜ (types ≤ typeLimit) × (n ≤ lengthLimit) ⌝ }
+    requires { ⌜ Hold types (now atoms) (now bonds) × (n ≤ lengthLimit) ⌝ }
     ensures { λ r. ⌜ r ≡ heldSums types (now (atoms .entry)) (now (bonds .entry)) n delta (readIn form (now (payload .entry))) ⌝ }
 {
     if delta {
@@ -416,10 +421,10 @@ fn sum_plain(
     size: Size,
     n: usize,
     types: usize,
-    atoms: &[u32; TYPE_LIMIT],
-    bonds: &[u32; TYPE_LIMIT],
+    atoms: &[u32],
+    bonds: &[u32],
 ) -> Sums
-    requires { ⌜ (types ≤ typeLimit) × (n ≤ lengthLimit) ⌝ }
+    requires { ⌜ Hold types (now atoms) (now bonds) × (n ≤ lengthLimit) ⌝ }
     ensures { λ r. ⌜ r ≡ heldSums types (now (atoms .entry)) (now (bonds .entry)) n false (readIn (Form.Plain size) (now (payload .entry))) ⌝ }
 {
     let k = steps::bytes(size);
@@ -443,10 +448,10 @@ fn sum_items(
     delta: bool,
     n: usize,
     types: usize,
-    atoms: &[u32; TYPE_LIMIT],
-    bonds: &[u32; TYPE_LIMIT],
+    atoms: &[u32],
+    bonds: &[u32],
 ) -> Sums
-    requires { ⌜ (types ≤ typeLimit) × (n ≤ lengthLimit) ⌝ }
+    requires { ⌜ Hold types (now atoms) (now bonds) × (n ≤ lengthLimit) ⌝ }
     ensures { λ r. ⌜ r ≡ heldSums types (now (atoms .entry)) (now (bonds .entry)) n delta (readIn form (now (payload .entry))) ⌝ }
 {
     let mut at: usize = 0;
@@ -477,10 +482,10 @@ fn add_run(
     count: usize,
     delta: bool,
     types: usize,
-    atoms: &[u32; TYPE_LIMIT],
-    bonds: &[u32; TYPE_LIMIT],
+    atoms: &[u32],
+    bonds: &[u32],
 ) -> Step
-    requires { ⌜ (1 ≤ count) × (types ≤ typeLimit) × Sound tally ⌝ }
+    requires { ⌜ (1 ≤ count) × Hold types (now atoms) (now bonds) × Sound tally ⌝ }
     ensures { λ r. ⌜ AddsRun types (now (atoms .entry)) (now (bonds .entry)) tally delta value count r ⌝ }
 {
     if delta {
@@ -499,10 +504,10 @@ fn add_sums(
     value: i32,
     count: usize,
     types: usize,
-    atoms: &[u32; TYPE_LIMIT],
-    bonds: &[u32; TYPE_LIMIT],
+    atoms: &[u32],
+    bonds: &[u32],
 ) -> Step
-    requires { ⌜ (types ≤ typeLimit) × Sound tally ⌝ }
+    requires { ⌜ Hold types (now atoms) (now bonds) × Sound tally ⌝ }
     ensures { λ r. ⌜ AddsRun types (now (atoms .entry)) (now (bonds .entry)) tally true value count r ⌝ }
 {
     let mut t = tally;
@@ -524,10 +529,10 @@ fn add_cells(
     cell: i32,
     count: usize,
     types: usize,
-    atoms: &[u32; TYPE_LIMIT],
-    bonds: &[u32; TYPE_LIMIT],
+    atoms: &[u32],
+    bonds: &[u32],
 ) -> Step
-    requires { ⌜ (1 ≤ count) × (types ≤ typeLimit) × Sound tally ⌝ }
+    requires { ⌜ (1 ≤ count) × Hold types (now atoms) (now bonds) × Sound tally ⌝ }
     ensures { λ r. ⌜ Adds types (now (atoms .entry)) (now (bonds .entry)) tally (replicate count cell) cell r ⌝ }
 {
     if cell < 0 {

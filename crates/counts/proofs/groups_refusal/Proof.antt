@@ -1,19 +1,10 @@
--- The types are judged and counted; then their sums over the groups.
-use mathlib.Core.Path.{_≡_, refl, sym, ap, ap₂, _∙_}
-use Prim.Native.Nat.{_-_, _/_}
+-- Few types fit into the small tables, and types within their limit into the large ones.
+use mathlib.Core.Path.{refl}
 use native.Mathlib.Omega.{arith}
-use Rattle.messagepack.specs.Document.{count}
-use Rattle.values.specs.Parts.{itemsOf, itemsIn}
-use Rattle.values.specs.declared.lists.Length as list
 use Rattle.text.specs.Equal.{equal}
 use Rattle.fields.specs.Table.{named}
-use Rattle.fields.specs.Fields.{field, findRow, isRequired}
-use Rattle.file_columns.specs.Laws.Columns.{right-named}
-use Rattle.counts.specs.Group.{atomsOf, bondsOf}
-use Rattle.counts.specs.GroupPlaces.{agrees}
-use Rattle.counts.specs.Counts.{countedOf}
-use Rattle.counts.specs.Laws.Tables.{filled-each}
-use Rattle.counts.specs.Laws.Steps.{says-named, here-named, stands-named, groups-refused, groups-fine, totals-are, pairs-cells, agree-cells}
+use Rattle.fields.specs.Fields.{findRow, isRequired}
+use Rattle.counts.specs.Laws.Steps.{count-named}
 use borrow.Author.Needs.{needs}
 use Rattle.counts.proofs.groups_refusal.Statement.{statement}
 use Rattle.counts.proofs.groups_refusal.Tie as tie
@@ -22,43 +13,15 @@ returns : tie.Need-returns
 unfolding findRow isRequired equal named
 returns c =
     λ t es f k few.
-    let g = stands-named f "groupList" refl refl refl in
-    let i : itemsOf (g .x) ≡ countedOf es .groupList = ap itemsIn (sym (g .is)) in
-    let m = c .before .items-at .ensures .1 .1 t (g .x) (g .end) (g .at) in
-    absurd (omega (arith, c .if1 .taken, few, m .counts, ap count i))
+    let n = count-named f "groupList" refl refl (λ o p. c .before .before .before .before .before .before .before .before .length-at .ensures .1 t o p) in
+    let l = c .before .before .before .before .before .before .before .if1 .taken in
+    c .before .before .types-refusal .ensures t es f k (omega (arith, n, l, c .before .before .before .before .before .before .few-entries .ensures), omega (arith, n, l, c .before .before .before .before .before .few-entries2 .ensures))
 
 returns-2 : tie.Need-returns-2
 unfolding findRow isRequired equal named
 returns-2 c =
     λ t es f k few.
-    let g = stands-named f "groupList" refl refl refl in
-    let i : itemsOf (g .x) ≡ countedOf es .groupList = ap itemsIn (sym (g .is)) in
-    let m = c .before .before .before .before .before .before .before .items-at .ensures .1 .1 t (g .x) (g .end) (g .at) in
-    groups-refused (countedOf es) _ (c .if2 .taken) (rw i at (c .before .fill-tables .ensures .0 (f .short) t (itemsOf (g .x)) (m .end) (m .all) (m .counts)))
-
-returns-3 : tie.Need-returns-3
-unfolding findRow isRequired equal named
-returns-3 c =
-    λ t es f k few.
-    let g = stands-named f "groupList" refl refl refl in
-    let i : itemsOf (g .x) ≡ countedOf es .groupList = ap itemsIn (sym (g .is)) in
-    let m = c .before .before .before .before .before .before .before .before .before .before .before .before .before .before .before .before .items-at .ensures .1 .1 t (g .x) (g .end) (g .at) in
-    let ty = sym (m .counts) ∙ ap count i in
-    let s = c .before .before .before .before .before .before .before .before .before .before .fill-tables .ensures in
-    let no = c .before .before .before .before .before .before .before .before .before .before .before .before .before .before .no-entries .ensures in
-    let no2 = c .before .before .before .before .before .before .before .before .before .before .before .before .before .no-entries2 .ensures in
-    let most = c .before .before .before .before .before .before .before .before .before .before .before .before .before .before .before .if1 .left in
-    let z = sym (s .0 (f .short) t (itemsOf (g .x)) (m .end) (m .all) (m .counts)) ∙ c .before .before .before .before .before .before .before .before .before .if2 .left in
-    let atoms = filled-each atomsOf (itemsOf (g .x)) (c .before .before .before .before .before .before .before .before .before .before .before .before .before .before .no-entries .result) (s .1 .0 (f .short) t (itemsOf (g .x)) (m .end) (m .all) (m .counts)) z (omega (arith, m .counts, no, most)) in
-    let bonds = filled-each bondsOf (itemsOf (g .x)) (c .before .before .before .before .before .before .before .before .before .before .before .before .before .no-entries2 .result) (s .1 .1 (f .short) t (itemsOf (g .x)) (m .end) (m .all) (m .counts)) z (omega (arith, m .counts, no2, most)) in
-    let here = here-named f "groupTypeList" refl refl refl in
-    let sums = c .before .before .before .before .before .totals .ensures t (field "groupTypeList" es) (says-named f "groupTypeList" refl refl) here (right-named es (f .right) "groupTypeList" refl) most in
-    let outer = c .before .before .before .length-at .ensures t (field "bondAtomList" es) (says-named f "bondAtomList" refl refl) (right-named es (f .right) "bondAtomList" refl) in
-    let orders = c .before .length-at2 .ensures t (field "bondOrderList" es) (says-named f "bondOrderList" refl refl) (right-named es (f .right) "bondOrderList" refl) in
-    let p = ap (λ (v : list.Length). v .count / 2) outer ∙ pairs-cells (field "bondAtomList" es) (right-named es (f .right) "bondAtomList" refl) in
-    let b = ap₂ (λ (u v : list.Length). agrees (u .there) (u .count) (v .there) (v .count)) outer orders ∙ agree-cells (field "bondAtomList" es) (field "bondOrderList" es) (right-named es (f .right) "bondAtomList" refl) (right-named es (f .right) "bondOrderList" refl) in
-    let a = totals-are (countedOf es) (c .before .before .before .before .before .before .before .before .before .before .before .before .before .before .before .before .before .before .before .args .counts) (c .before .before .before .before .before .totals .result) (c .before .before .before .length-at .result) (c .before .length-at2 .result) _ _ k (rw ty at sums) (rw i at atoms) (rw i at bonds) p b in
-    c .totals-refusal .ensures ∙ a ∙ groups-fine (countedOf es) (rw i at z)
+    c .before .before .types-refusal2 .ensures t es f k (omega (arith, c .before .before .before .before .before .before .no-entries .ensures, few), omega (arith, c .before .before .before .before .before .no-entries2 .ensures, few))
 
 pub groups-refusal-spec : {M : Type 1} → statement M
 groups-refusal-spec =
@@ -66,16 +29,15 @@ groups-refusal-spec =
     (tie.spec
     (λ c. search needs)
     (λ c κs. search needs)
+    (λ c κs. search needs)
+    (λ c κs. search needs)
+    (λ c. search needs)
+    (λ c. search needs)
+    (λ c κs. search needs)
     returns
     (λ c κs. search needs)
     (λ c κs. search needs)
-    (λ c κs. search needs)
-    returns-2
+    (λ c. search needs)
     (λ c. search needs)
     (λ c κs. search needs)
-    (λ c. search needs)
-    (λ c κs. search needs)
-    (λ c. search needs)
-    (λ c κs. search needs)
-    (λ c κs. search needs)
-    returns-3)
+    returns-2)

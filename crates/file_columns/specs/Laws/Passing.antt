@@ -11,7 +11,7 @@ use lib.Dec.{eqb, leb}
 use mir.Syntax.{w32}
 use mir.Val.{toZ, ofZ, SFits}
 use mir.Facts.{toZ-ofZ}
-use borrow.Author.Tests.{lt-leb, eq-eqb, ne-eqb, eqb-true, eqb-false}
+use borrow.Author.Tests.{leb-true, eq-eqb, ne-eqb, eqb-true, eqb-false}
 use Rattle.refusal.specs.Table.{lengthDiffers}
 use Rattle.refusal.specs.First.{unless}
 use Rattle.numbers.specs.BigEndian.{signedAt}
@@ -37,8 +37,8 @@ use Rattle.decoding.specs.Laws.Names.{names-read}
 use Rattle.file_columns.specs.declared.whole.Sums.{Sums}
 use Rattle.file_columns.specs.declared.whole.Tally.{Tally}
 use Rattle.file_columns.specs.declared.whole.Step.the-variants.{On, Off}
-use Rattle.file_columns.specs.Cells.{cellsPass, total, typeLimit, noSums, sumsOver, sumsOf}
-use Rattle.file_columns.specs.Passing.{heldPass, heldSums, toCome, sumsIn, Sound, Adds}
+use Rattle.file_columns.specs.Cells.{cellsPass, total, noSums, holds, sumsOver, sumsOf}
+use Rattle.file_columns.specs.Passing.{heldPass, heldSums, toCome, sumsIn, Hold, Sound, Adds}
 use Rattle.file_columns.specs.Laws.Cells.{total-append}
 
 -- a number whose bits are 0 is 0
@@ -55,7 +55,7 @@ pass-judged test c m k d (some l) = by (eqb (length l) c)
     by true = refl
     by false = refl
 
-pub sums-judged : (n : ℕ) (atoms bonds : List ℕ) (c m : ℕ) (k : Kind) (d : Bool) (o : Option (List ℤ)) → leb n typeLimit ≡ true → sumsOf n atoms bonds (judgedValues c m k d o) ≡ heldSums n atoms bonds c d o
+pub sums-judged : (n : ℕ) (atoms bonds : List ℕ) (c m : ℕ) (k : Kind) (d : Bool) (o : Option (List ℤ)) → holds n atoms bonds ≡ true → sumsOf n atoms bonds (judgedValues c m k d o) ≡ heldSums n atoms bonds c d o
 sums-judged n atoms bonds c m k d none h = refl
 sums-judged n atoms bonds c m k d (some l) h = by (eqb (length l) c)
   where
@@ -63,10 +63,19 @@ sums-judged n atoms bonds c m k d (some l) h = by (eqb (length l) c)
     by true = rw h
     by false = refl
 
--- tables with more entries than there may be group types have no sums
-pub sums-many : (n : ℕ) (atoms bonds : List ℕ) (x : Decoding) → typeLimit < n → sumsOf n atoms bonds x ≡ noSums
-sums-many n atoms bonds (refused r) h = refl
-sums-many n atoms bonds (column k m xs) h = rw (lt-leb n typeLimit h)
+-- tables that are too short have no sums
+pub sums-short : (n : ℕ) (atoms bonds : List ℕ) (x : Decoding) → holds n atoms bonds ≡ false → sumsOf n atoms bonds x ≡ noSums
+sums-short n atoms bonds (refused r) h = refl
+sums-short n atoms bonds (column k m xs) h = rw h
+
+-- tables that have n entries each, by the test
+pub hold-true : (n : ℕ) (atoms bonds : List ℕ) → holds n atoms bonds ≡ true → Hold n atoms bonds
+hold-true n atoms bonds e = by (leb n (length atoms)) (leb n (length bonds)) refl refl e
+  where
+    by : (s t : Bool) → leb n (length atoms) ≡ s → leb n (length bonds) ≡ t → (s && t) ≡ true → Hold n atoms bonds
+    by true true p q r = (leb-true n (length atoms) p, leb-true n (length bonds) q)
+    by true false p q r = let z : _≡_ {A = ℕ} 0 1 = cc in absurd (omega arith)
+    by false t p q r = let z : _≡_ {A = ℕ} 0 1 = cc in absurd (omega arith)
 
 -- what is read of a form other than names is what is held
 pub pass-as : (test : ℤ → Bool) (f g : Form) (m n : ℕ) (d : Bool) (s : List ℕ) (r : Bool) → isNames f ≡ false → g ≡ f → r ≡ heldPass test n d (readIn f s)

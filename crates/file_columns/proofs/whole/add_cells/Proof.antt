@@ -24,34 +24,34 @@ decides : (c : tie.Start) → allBelow (c .args .types) (replicate (c .args .cou
 decides c = allPass-same (below (c .args .types)) (c .args .count) (c .args .cell) (c .pre .0)
 
 -- it is not negative
-positive : (c : tie.Else1) → ltZ (c .before .args .cell) (pos 0) ≡ false
-positive c = ap (λ (z : ℤ). ltZ z (pos 0)) (sym (toZ-ofZ {w = w32} (c .before .fits .cell))) ∙ c .if1 .left
+positive : (c : tie.Else1) → ltZ (c .before .before .before .args .cell) (pos 0) ≡ false
+positive c = ap (λ (z : ℤ). ltZ z (pos 0)) (sym (toZ-ofZ {w = w32} (c .before .before .before .fits .cell))) ∙ c .if1 .left
 
 -- its index
-index : (c : tie.After-to-u32) → c .to-u32 .result ≡ natAbs (c .before .before .args .cell)
-index c = c .to-u32 .ensures ∙ ap (ofZ w32) (toZ-ofZ {w = w32} (c .before .before .fits .cell)) ∙ index-bits (c .before .before .args .cell) (positive (c .before))
+index : (c : tie.After-to-u32) → c .to-u32 .result ≡ natAbs (c .before .before .before .before .args .cell)
+index c = c .to-u32 .ensures ∙ ap (ofZ w32) (toZ-ofZ {w = w32} (c .before .before .before .before .fits .cell)) ∙ index-bits (c .before .before .before .before .args .cell) (positive (c .before))
 
 returns : tie.Need-returns
 returns c h =
-    let a = c .before in
+    let a = c .before .before .before in
     decides a ∙ below-negative (a .args .types) (a .args .cell) (ap (λ (z : ℤ). ltZ z (pos 0)) (sym (toZ-ofZ {w = w32} (a .fits .cell))) ∙ c .if1 .taken)
 
 returns-2 : tie.Need-returns-2
 returns-2 c h =
-    let a = c .before .before .before in
+    let a = c .before .before .before .before .before in
     let i = index (c .before) in
     decides a ∙ below-index (a .args .types) (a .args .cell) (positive (c .before .before)) ∙ le-ltb (natAbs (a .args .cell)) (a .args .types) (omega arith)
 
 returns-3 : tie.Need-returns-3
 returns-3 c h =
-    let a = c .before .before .before .before .before .args in
+    let a = c .before .before .before .before .before .before .before .args in
     let l = length-replicate (a .count) (a .cell) in
     absurd (omega arith)
 
 returns-4 : tie.Need-returns-4
 returns-4 c =
     let b = c .before .before .before .before .before .before .before .before in
-    let a = b .before .before in
+    let a = b .before .before .before .before in
     let i = index b in
     let l = length-replicate (a .args .count) (a .args .cell) in
     let entries : (table : List ℕ) → getD table (b .to-u32 .result) 0 * a .args .count ≡ total table (replicate (a .args .count) (a .args .cell)) =

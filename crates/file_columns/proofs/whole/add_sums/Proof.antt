@@ -25,18 +25,18 @@ abbrev μ-loop : tie.MeasureT-loop
 μ-loop value count types atoms bonds t₀ left₀ t left = left
 
 loop-holds : tie.Need-loop-holds Inv-loop μ-loop
-loop-holds c = let a = c .args in (c .pre .1, onward-start (a .types) (a .atoms .now) (a .bonds .now) (a .tally) (resultsFrom true (a .tally .last) (replicate (a .count) (toZ w32 (ofZ w32 (a .value))))), refl)
+loop-holds c = let a = c .before .before .args in (c .before .before .pre .1, onward-start (a .types) (a .atoms .now) (a .bonds .now) (a .tally) (resultsFrom true (a .tally .last) (replicate (a .count) (toZ w32 (ofZ w32 (a .value))))), refl)
 
 -- the next sum
 next : (c : tie.After-add-delta Inv-loop μ-loop)
-    → toZ w32 (ofZ w32 (c .add-delta .result)) ≡ plusDelta (c .before .before .before .loop .t .last) (toZ w32 (ofZ w32 (c .before .before .before .before .args .value)))
+    → toZ w32 (ofZ w32 (c .add-delta .result)) ≡ plusDelta (c .before .before .before .loop .t .last) (toZ w32 (ofZ w32 (c .before .before .before .before .before .before .args .value)))
 next c =
     toZ-ofZ {w = w32} (record { sfits = c .add-delta .ok }) ∙ c .add-delta .ensures
-    ∙ ap (λ (x : ℤ). plusDelta x (toZ w32 (ofZ w32 (c .before .before .before .before .args .value)))) (toZ-ofZ {w = w32} {z = c .before .before .before .loop .t .last} (record { sfits = c .before .struct-told .given .1 .1 .1 .0 .1 }))
+    ∙ ap (λ (x : ℤ). plusDelta x (toZ w32 (ofZ w32 (c .before .before .before .before .before .before .args .value)))) (toZ-ofZ {w = w32} {z = c .before .before .before .loop .t .last} (record { sfits = c .before .struct-told .given .1 .1 .1 .0 .1 }))
 
 returns : tie.Need-returns Inv-loop μ-loop
 returns c =
-    let a = c .before .before .before .before .before .before .before in
+    let a = c .before .before .before .before .before .before .before .before .before in
     let p = c .before .before .before .before .before .before .loop in
     let b = c .before .before .before in
     let v = toZ-ofZ {w = w32} (a .fits .value) in
@@ -45,7 +45,7 @@ returns c =
 
 loop-again : tie.Need-loop-again Inv-loop μ-loop
 loop-again c =
-    let a = c .before .before .before .before .before .before .before .before in
+    let a = c .before .before .before .before .before .before .before .before .before .before in
     let p = c .before .before .before .before .before .before .before .loop in
     let b = c .before .before .before .before in
     let u = c .before .u .given .0 .0 in
@@ -57,7 +57,7 @@ loop-again c =
 
 returns-2 : tie.Need-returns-2 Inv-loop μ-loop
 returns-2 c =
-    let a = c .before .before in
+    let a = c .before .before .before .before in
     let p = c .before .loop in
     let v = toZ-ofZ {w = w32} (a .fits .value) in
     let z : p .left ≡ 0 = omega arith in
@@ -72,7 +72,7 @@ add-sums-spec =
     μ-loop
     loop-holds
     (λ c κs. search needs)
-    (λ c κs. (omega arith, c .before .before .before .before .pre .0, c .before .before .before .loop .inv .0))
+    (λ c κs. (omega arith, c .before .before .before .before .before .before .pre .0, c .before .before .before .loop .inv .0))
     (λ c. search needs)
     (λ c. search needs)
     returns

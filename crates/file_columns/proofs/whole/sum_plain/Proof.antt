@@ -28,7 +28,7 @@ abbrev μ-loop : tie.MeasureT-loop
 
 loop-holds : tie.Need-loop-holds Inv-loop μ-loop
 loop-holds c =
-    let a = c .before .before .before in
+    let a = c .before .before .before .before .before in
     let l = a .pre .1 in
     rw (c .to-come .ensures) (omega arith, (omega arith, omega arith), numbers-all (a .args .types) (a .args .atoms .now) (a .args .bonds .now) (a .args .n) (a .args .size) (a .args .payload .now))
 
@@ -36,16 +36,16 @@ sub-loop : tie.Need-sub-loop Inv-loop μ-loop
 sub-loop c = omega arith
 
 add-cells-requires : tie.Need-add-cells-requires Inv-loop μ-loop
-add-cells-requires c κs = (omega arith, c .before .before .before .before .before .before .pre .0, c .before .before .loop .inv .1)
+add-cells-requires c κs = (omega arith, c .before .before .before .before .before .before .before .before .pre .0, c .before .before .loop .inv .1)
 
 -- what is added of the number that was read
 added : (c : tie.After-add-cells Inv-loop μ-loop)
-    → Adds (c .before .before .before .before .before .before .before .args .types) (c .before .before .before .before .before .before .before .args .atoms .now) (c .before .before .before .before .before .before .before .args .bonds .now) (c .before .before .before .loop .tally) (replicate 1 (signedAt (widthOf (c .before .before .before .before .before .before .before .args .size)) (c .before .before .before .before .before .before .before .args .payload .now) (c .before .before .before .loop .at))) (signedAt (widthOf (c .before .before .before .before .before .before .before .args .size)) (c .before .before .before .before .before .before .before .args .payload .now) (c .before .before .before .loop .at)) (c .add-cells .result)
+    → Adds (c .before .before .before .before .before .before .before .before .before .args .types) (c .before .before .before .before .before .before .before .before .before .args .atoms .now) (c .before .before .before .before .before .before .before .before .before .args .bonds .now) (c .before .before .before .loop .tally) (replicate 1 (signedAt (widthOf (c .before .before .before .before .before .before .before .before .before .args .size)) (c .before .before .before .before .before .before .before .before .before .args .payload .now) (c .before .before .before .loop .at))) (signedAt (widthOf (c .before .before .before .before .before .before .before .before .before .args .size)) (c .before .before .before .before .before .before .before .before .before .args .payload .now) (c .before .before .before .loop .at)) (c .add-cells .result)
 added c = rw (toZ-ofZ {w = w32} (record { sfits = c .before .number-at .ok }), c .before .number-at .ensures) at (c .add-cells .ensures)
 
 returns : tie.Need-returns Inv-loop μ-loop
 returns c =
-    let a = c .before .before .before .before .before .before .before .before .before .before .args in
+    let a = c .before .before .before .before .before .before .before .before .before .before .before .before .args in
     let p = c .before .before .before .before .before .before .loop in
     let h = subst (Adds (a .types) (a .atoms .now) (a .bonds .now) (p .tally) _ _) (c .before .enum-told .given .1) (added (c .before .before .before)) in
     c .no-sums .ensures ∙ sym (p .inv .2 ∙ numbers-off (a .types) (a .atoms .now) (a .bonds .now) (a .size) (a .payload .now) (p .at) (p .tally) (omega (arith, c .before .before .before .before .before .before .before .before .bytes .ensures)) h)
@@ -54,11 +54,11 @@ add-at : tie.Need-add-at Inv-loop μ-loop
 add-at c = omega arith
 
 loop-less : tie.Need-loop-less Inv-loop μ-loop
-loop-less c = let o = size-pos (c .before .before .before .before .before .before .before .before .before .before .args .size) in omega (arith, c .before .before .before .before .before .before .before .before .bytes .ensures)
+loop-less c = let o = size-pos (c .before .before .before .before .before .before .before .before .before .before .before .before .args .size) in omega (arith, c .before .before .before .before .before .before .before .before .bytes .ensures)
 
 loop-again : tie.Need-loop-again Inv-loop μ-loop
 loop-again c =
-    let a = c .before .before .before .before .before .before .before .before .before .before .args in
+    let a = c .before .before .before .before .before .before .before .before .before .before .before .before .args in
     let p = c .before .before .before .before .before .before .loop in
     let h = subst (Adds (a .types) (a .atoms .now) (a .bonds .now) (p .tally) _ _) (c .before .t .given .1) (added (c .before .before .before)) in
     let e = c .before .before .before .before .before .before .before .before .bytes .ensures in
@@ -66,7 +66,7 @@ loop-again c =
 
 returns-2 : tie.Need-returns-2 Inv-loop μ-loop
 returns-2 c =
-    let a = c .before .before .before .before .before .before .args in
+    let a = c .before .before .before .before .before .before .before .before .args in
     let p = c .before .before .loop in
     c .sums-in .ensures ∙ sym (p .inv .2 ∙ numbers-none (a .types) (a .atoms .now) (a .bonds .now) (a .size) (a .payload .now) (p .at) (p .tally) (omega (arith, c .before .before .before .before .bytes .ensures)))
 

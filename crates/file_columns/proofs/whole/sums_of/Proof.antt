@@ -21,13 +21,13 @@ plain : (c : tie.Start) (r : Sums) (z : Size) → c .args .form ≡ Plain z → 
 plain c r z e d h = h ∙ ap₂ (By c) (sym e) (sym d)
 
 returns-2 : tie.Need-returns-2
-returns-2 c = plain (c .before .before .before .before .before .before .before .before) (c .sum-plain .result) One (c .before .before .before .before .form .given .1 ∙ ap Plain (c .before .enum-told .given .1)) (c .before .before .before .before .before .before .if1 .left) (c .sum-plain .ensures)
+returns-2 c = plain (c .before .before .before .before .before .before .before .before .before .before) (c .sum-plain .result) One (c .before .before .before .before .form .given .1 ∙ ap Plain (c .before .enum-told .given .1)) (c .before .before .before .before .before .before .if1 .left) (c .sum-plain .ensures)
 
 returns-3 : tie.Need-returns-3
-returns-3 c = plain (c .before .before .before .before .before .before .before .before) (c .sum-plain2 .result) Two (c .before .before .before .before .form .given .1 ∙ ap Plain (c .before .enum-told2 .given .1)) (c .before .before .before .before .before .before .if1 .left) (c .sum-plain2 .ensures)
+returns-3 c = plain (c .before .before .before .before .before .before .before .before .before .before) (c .sum-plain2 .result) Two (c .before .before .before .before .form .given .1 ∙ ap Plain (c .before .enum-told2 .given .1)) (c .before .before .before .before .before .before .if1 .left) (c .sum-plain2 .ensures)
 
 returns-4 : tie.Need-returns-4
-returns-4 c = plain (c .before .before .before .before .before .before .before .before) (c .sum-plain3 .result) Four (c .before .before .before .before .form .given .1 ∙ ap Plain (c .before .enum-told3 .given .1)) (c .before .before .before .before .before .before .if1 .left) (c .sum-plain3 .ensures)
+returns-4 c = plain (c .before .before .before .before .before .before .before .before .before .before) (c .sum-plain3 .result) Four (c .before .before .before .before .form .given .1 ∙ ap Plain (c .before .enum-told3 .given .1)) (c .before .before .before .before .before .before .if1 .left) (c .sum-plain3 .ensures)
 
 pub sums-of-spec : {M : Type 1} → statement M
 sums-of-spec =
