@@ -86,13 +86,14 @@ pub fn decode_strings(column: &[u8], buffer: &mut [u8]) -> Answer
     }
 }
 
-// The integers of a column that has no names.
+// The integers of a column that has no names. The header is read from the part that is all of the column: a slice that is handed on as it
+// stands is copied through memory first.
 fn decode_integers(column: &[u8], wanted: Wanted, buffer: &mut [i32]) -> Answer
     requires { ⌜ suits wanted Kind.Strings ≡ false ⌝ }
     ensures answer { λ r. ⌜ r ≡ decodedAnswer (decode wanted (now (column .entry))) (length (now (buffer .entry))) ⌝ }
     ensures buffer { λ r. ⌜ now (buffer .exit) ≡ numberBuffer (decode wanted (now (column .entry))) (now (buffer .entry)) ⌝ }
 {
-    match columns::read_header(column, wanted) {
+    match columns::read_header(&column[0..], wanted) {
         Header::Refused(r) => Answer::Refused(r),
         Header::Good(n, m, kind, form, delta) => integers_in(
             &column[HEADER_SIZE..],

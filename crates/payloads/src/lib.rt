@@ -51,19 +51,20 @@ pub fn scan(payload: &[u8], form: Form, size: usize, delta: bool, length: usize)
     }
 }
 
-// The refusal of a payload that should have `length` results, or 0. Names have `size` bytes each; other forms have no use for it.
+// The refusal of a payload that should have `length` results, or 0. Names have `size` bytes each; other forms have no use for it. Calls get
+// the part that is all of the payload: a slice that is handed on as it stands is copied through memory first, for every form.
 pub fn refusal_of(payload: &[u8], form: Form, size: usize, length: usize) -> u8
     ensures { λ r. ⌜ r ≡ refusalOf (elements form length size) (heldIn form size (now (payload .entry))) ⌝ }
 {
     match form {
         Form::Packed(width) => match width {
-            Size::One => refusal_in(scan_packed(payload, Size::One, false, length)),
-            Size::Two => count_two(payload, length),
-            Size::Four => refusal_in(scan_packed(payload, Size::Four, false, length)),
+            Size::One => refusal_in(scan_packed(&payload[0..], Size::One, false, length)),
+            Size::Two => count_two(&payload[0..], length),
+            Size::Four => refusal_in(scan_packed(&payload[0..], Size::Four, false, length)),
         },
         Form::Runs(range) => runs_refusal(payload, range, length),
         Form::Plain(width) => refusal_in(scan_plain(payload, width, false, length)),
-        Form::Names => names_refusal(payload, size, length),
+        Form::Names => names_refusal(&payload[0..], size, length),
     }
 }
 

@@ -5,7 +5,8 @@ use mathlib.Core.Option.{Option, none, some, Option·map}
 use mathlib.Core.List.{List, [], _∷_, _++_, append-nil, append-assoc}
 use Prim.Native.Nat.{ℕ, zero, suc, _+_, _-_, _<_, _≤_}
 use native.Mathlib.Omega.{arith}
-use lib.ListN.{length, drop, getD, replicate, length-append, length-replicate}
+use lib.ListN.{length, take, drop, getD, replicate, length-append, length-replicate}
+use lib.Seq.{take-all}
 use lib.IntN.{ℤ, pos}
 use lib.Dec.{eqb, ltb}
 use borrow.Author.Tests.{eq-eqb, ne-eqb, eqb-true, eqb-false, lt-ltb, le-ltb, ltb-true, ltb-false}
@@ -23,6 +24,10 @@ use Rattle.payloads.specs.declared.Outcome.the-variants.{Fine, Refused}
 use Rattle.payloads.specs.Exact.{exact, allExact}
 use Rattle.payloads.specs.Scan.{scanOf}
 use Rattle.payloads.specs.Laws.Exact.{exact-append, exact-same}
+
+-- a list as the part of it that has all of it
+pub part-whole : (s : List ℕ) → take (length s - 0) (drop 0 s) ≡ s
+part-whole s = take-all (length s - 0) s (omega arith)
 
 -- Places in two lists
 
