@@ -2,12 +2,12 @@
  * libmmtf.a: an MMTF reader whose calls are proved to meet their contracts.
  *
  * Today: the check of a whole file and of its container alone, a file opened with the places of all its fields, views by
- * name, columns: decoded, encoded, and one cell alone, the matrices of transforms, and receipts: written for a file, and
- * read. For x86-64 Linux.
+ * name, columns: decoded, encoded, and one cell alone, the matrices of transforms, receipts: written for a file, and read,
+ * and the meaning of each refusal number in words. For x86-64 Linux.
  *
  * Every call takes whatever bytes and numbers it is given, and always ends with an answer. It keeps nothing between calls,
  * allocates nothing and writes to nothing but its buffer and its out parameters, so threads may call at the same time. The
- * answer is a refusal number, 0 for none. On refusal no buffer and no out parameter changes.
+ * answer is a refusal number, 0 for none, but for mmtf_version. On refusal no buffer and no out parameter changes.
  *
  * What the caller keeps, since no call can test it:
  * - A pointer with a length is valid for that many elements, and nothing else writes to them while the call runs. Where the
@@ -33,39 +33,75 @@
 extern "C" {
 #endif
 
+/* The version of this header, as numbers, as one number that a later version is above, and as text. */
+#define MMTF_VERSION_MAJOR 0
+#define MMTF_VERSION_MINOR 8
+#define MMTF_VERSION_PATCH 0
+#define MMTF_VERSION_NUMBER (MMTF_VERSION_MAJOR * 10000 + MMTF_VERSION_MINOR * 100 + MMTF_VERSION_PATCH)
+#define MMTF_VERSION "0.8.0"
+
+/* Answers the version of the library: MMTF_VERSION_NUMBER where the library and this header belong together. */
+uint32_t mmtf_version(void);
+
+/* The limits. What is over one is refused, as each call says. */
+#define MMTF_FILE_LIMIT 67108864   /* bytes of a file */
+#define MMTF_NESTING_LIMIT 12      /* levels of arrays and maps, the outer map among them */
+#define MMTF_ENTRY_LIMIT 256       /* entries of a map */
+#define MMTF_LENGTH_LIMIT 16777216 /* results of a column */
+#define MMTF_NAME_LIMIT 255        /* bytes of a name in a column of strings */
+#define MMTF_EXACT_LIMIT 16777216  /* size of an integer or a divisor that is exact in single precision */
+#define MMTF_COUNT_LIMIT 16777216  /* models, chains, groups, atoms and bonds, of each */
+#define MMTF_TYPE_LIMIT 4096       /* group types */
+#define MMTF_STATION_LIMIT 99      /* stations, counted from 1 */
+#define MMTF_JOB_LIMIT 999999      /* jobs, counted from 1 */
+
 /* The refusal numbers. A number has the same meaning in every call; each call says which ones it gives. */
 enum mmtf_refusal {
     MMTF_ACCEPTED = 0,              /* accepted */
-    MMTF_FILE_OVER_LIMIT = 1,       /* file over the limit, 67,108,864 bytes */
-    MMTF_CUT_SHORT = 2,             /* cut short */
-    MMTF_LEAD_BYTE_UNKNOWN = 3,     /* lead byte not in the subset */
-    MMTF_UNSIGNED_TOO_LARGE = 4,    /* unsigned above 2,147,483,647 */
-    MMTF_STRING_NOT_UTF8 = 5,       /* string not UTF-8 */
-    MMTF_NESTED_TOO_DEEP = 6,       /* nested too deep: more than 12 levels */
-    MMTF_TOO_MANY_ENTRIES = 7,      /* too many map entries: more than 256 */
-    MMTF_KEY_NOT_STRING = 8,        /* key not a string */
-    MMTF_KEY_REPEATED = 9,          /* key repeated */
-    MMTF_OUTER_NOT_MAP = 10,        /* outer value not a map */
-    MMTF_BYTES_AFTER = 11,          /* bytes after the outer map */
-    MMTF_FIELD_MISSING = 12,        /* required field missing */
-    MMTF_FIELD_TYPE = 13,           /* field of the wrong type */
-    MMTF_COLUMN_SHORT = 14,         /* column under 12 bytes */
-    MMTF_CODEC_UNKNOWN = 15,        /* codec unknown, or not of this kind */
-    MMTF_HEADER_RANGE = 16,         /* header length or parameter out of range */
-    MMTF_PAYLOAD_SIZE = 17,         /* payload size wrong */
-    MMTF_NUMBER_NOT_ALLOWED = 18,   /* payload or column number not allowed */
-    MMTF_LENGTH_DIFFERS = 19,       /* produced length differs from the header */
+    MMTF_FILE_OVER_LIMIT = 1,       /* the file is over the limit of 67,108,864 bytes */
+    MMTF_CUT_SHORT = 2,             /* the file is cut short */
+    MMTF_LEAD_BYTE_UNKNOWN = 3,     /* a lead byte is not in the subset */
+    MMTF_UNSIGNED_TOO_LARGE = 4,    /* an unsigned integer is above 2,147,483,647 */
+    MMTF_STRING_NOT_UTF8 = 5,       /* a string is not UTF-8 */
+    MMTF_NESTED_TOO_DEEP = 6,       /* arrays and maps are nested too deep */
+    MMTF_TOO_MANY_ENTRIES = 7,      /* a map has too many entries */
+    MMTF_KEY_NOT_STRING = 8,        /* a key is not a string */
+    MMTF_KEY_REPEATED = 9,          /* a key is repeated */
+    MMTF_OUTER_NOT_MAP = 10,        /* the outer value is not a map */
+    MMTF_BYTES_AFTER = 11,          /* there are bytes after the outer map */
+    MMTF_FIELD_MISSING = 12,        /* a required field is missing */
+    MMTF_FIELD_TYPE = 13,           /* a field is of the wrong type */
+    MMTF_COLUMN_SHORT = 14,         /* a column is under 12 bytes */
+    MMTF_CODEC_UNKNOWN = 15,        /* a column's codec is unknown, or not of this kind */
+    MMTF_HEADER_RANGE = 16,         /* a column's length or parameter is out of range */
+    MMTF_PAYLOAD_SIZE = 17,         /* a column's payload has the wrong size */
+    MMTF_NUMBER_NOT_ALLOWED = 18,   /* a number in a column is not allowed */
+    MMTF_LENGTH_DIFFERS = 19,       /* a column's results are not as many as its header says */
     MMTF_COUNTS_DISAGREE = 20,      /* counts disagree */
-    MMTF_INDEX_OUTSIDE = 21,        /* index outside its table */
-    MMTF_VALUE_OUTSIDE = 22,        /* value outside its list */
-    MMTF_TOO_MANY_GROUP_TYPES = 23, /* too many group types */
-    MMTF_VERSION_NOT_1 = 24,        /* major version not 1 */
-    MMTF_BUFFER_TOO_SMALL = 25,     /* lent output too small */
-    MMTF_NO_SUCH_FIELD = 26,        /* no such field */
-    MMTF_NOT_EXACT = 27,            /* not exact in single precision */
-    MMTF_NO_SUCH_ENTRY = 28,        /* no such entry */
-    MMTF_RECEIPT_MALFORMED = 29     /* receipt malformed */
+    MMTF_INDEX_OUTSIDE = 21,        /* an index is outside its table */
+    MMTF_VALUE_OUTSIDE = 22,        /* a value is outside its list */
+    MMTF_TOO_MANY_GROUP_TYPES = 23, /* there are too many group types */
+    MMTF_VERSION_NOT_1 = 24,        /* the major version is not 1 */
+    MMTF_BUFFER_TOO_SMALL = 25,     /* the buffer is too small */
+    MMTF_NO_SUCH_FIELD = 26,        /* there is no such field */
+    MMTF_NOT_EXACT = 27,            /* a number is not exact in single precision */
+    MMTF_NO_SUCH_ENTRY = 28,        /* there is no such entry */
+    MMTF_RECEIPT_MALFORMED = 29     /* the receipt is malformed */
 };
+
+/* The bytes of the longest meaning, rounded up. A buffer with this room is never too small for one. */
+#define MMTF_MEANING_ROOM 64
+
+/*
+ * Hands over the meaning of a refusal number in words, as they stand beside the numbers above: in ASCII, without a full stop.
+ *
+ * Answers MMTF_ACCEPTED with the words at the buffer's start and the number of their bytes in *written; every byte of the
+ * buffer beyond is as it was, and no end mark is written. Every number above has its words, MMTF_ACCEPTED too. Else the
+ * buffer and *written are as they were, and the answer is the first of these that applies:
+ * - MMTF_NO_SUCH_ENTRY: there is no such refusal number.
+ * - MMTF_BUFFER_TOO_SMALL: there are more bytes than the buffer has room for.
+ */
+uint8_t mmtf_meaning(uint8_t number, uint8_t *buffer, size_t room, uint64_t *written);
 
 /*
  * Checks the container of the file of n bytes.
@@ -232,6 +268,19 @@ uint8_t mmtf_view(const uint8_t *file, size_t n, const uint8_t *name, size_t m, 
  * buffer beyond them is as it was. On refusal the buffer and the out parameters are as they were.
  */
 
+/* The bytes of a column's header; the payload follows. */
+#define MMTF_HEADER_SIZE 12
+
+/*
+ * Reads the header of a column of any kind, so that a program knows which decoder to call and how much room to lend.
+ *
+ * Answers MMTF_ACCEPTED with the codec, 1 to 16, the length, 0 to 16,777,216, and the parameter: the divisor of codecs 9 to
+ * 13, the size of names of codec 5, and 0 of every other codec, whatever stands there. Else the answer is MMTF_COLUMN_SHORT,
+ * MMTF_CODEC_UNKNOWN (none of the sixteen), MMTF_HEADER_RANGE or MMTF_PAYLOAD_SIZE, in the order above, and the out
+ * parameters are as they were. The numbers of the payload are not looked at.
+ */
+uint8_t mmtf_header(const uint8_t *column, size_t n, int32_t *codec, int32_t *length, int32_t *parameter);
+
 /* Decodes an int32 column, by codec 4, 7, 8, 14 or 15. The sums of codec 8 wrap modulo 2^32. Room is for so many integers. */
 uint8_t mmtf_decode_int32(const uint8_t *column, size_t n, int32_t *buffer, size_t room, uint64_t *count);
 
@@ -247,7 +296,7 @@ uint8_t mmtf_decode_chars(const uint8_t *column, size_t n, uint8_t *buffer, size
 /*
  * Decodes a column of strings, by codec 5: the bytes of the names, one name after the other, each with its 0 bytes at the
  * end. The elements are bytes, so that room and *count are in bytes; *count divided by the size is the number of names. The
- * size is the column's parameter, its bytes 8 to 11 counted from 0.
+ * size is the column's parameter, as mmtf_header gives it.
  */
 uint8_t mmtf_decode_strings(const uint8_t *column, size_t n, uint8_t *buffer, size_t room, uint64_t *count);
 
@@ -383,6 +432,9 @@ enum mmtf_receipt_number {
     MMTF_RECEIPT_UNITS = 9
 };
 
+/* How many numbers these are. */
+#define MMTF_RECEIPT_NUMBERS 10
+
 /* The bytes of the longest receipt. A buffer with this room is never too small. */
 #define MMTF_RECEIPT_ROOM 128
 
@@ -406,7 +458,7 @@ uint8_t mmtf_write_receipt(uint32_t station, uint32_t job, const uint8_t *file, 
  * above. Else it answers MMTF_RECEIPT_MALFORMED, and the numbers are as they were. No file is looked at: whether there is one
  * with these counts is not asked.
  */
-uint8_t mmtf_read_receipt(const uint8_t *bytes, size_t n, uint32_t numbers[10]);
+uint8_t mmtf_read_receipt(const uint8_t *bytes, size_t n, uint32_t numbers[MMTF_RECEIPT_NUMBERS]);
 
 #ifdef __cplusplus
 }

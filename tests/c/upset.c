@@ -21,11 +21,16 @@ static uint64_t mixed(uint64_t sum, const uint8_t *bytes, size_t n) {
     return sum ^ sum >> 29;
 }
 
+/* Whether the call is the one that is broken. */
+static int is_broken(const char *call) {
+    const char *broken = getenv("UPSET");
+    return broken != NULL && strcmp(broken, call) == 0;
+}
+
 /* Whether the call is the one that is broken, and these bytes are among those for which it is. */
 static int is_upset(const char *call, const void *input, size_t n) {
     const uint8_t *bytes = input;
-    const char *broken = getenv("UPSET");
-    if (broken == NULL || strcmp(broken, call) != 0) {
+    if (!is_broken(call)) {
         return 0;
     }
     size_t part = n < LOOKED_AT ? n : LOOKED_AT;
@@ -120,6 +125,19 @@ uint8_t mmtf_cell(const uint8_t *column, size_t n, uint64_t index, uint8_t *kind
     return 0;
 }
 
+uint8_t kept_mmtf_header(const uint8_t *column, size_t n, int32_t *codec, int32_t *length, int32_t *parameter);
+uint8_t mmtf_header(const uint8_t *column, size_t n, int32_t *codec, int32_t *length, int32_t *parameter) {
+    uint8_t number = kept_mmtf_header(column, n, codec, length, parameter);
+    if (!is_upset("mmtf_header", column, n)) {
+        return number;
+    }
+    if (number != 0) {
+        return number ^ 1;
+    }
+    *parameter ^= 1;
+    return 0;
+}
+
 /* What an encoder wrote, with its last bit changed. */
 static uint8_t upset_column(uint8_t number, uint8_t *buffer, const uint64_t *written) {
     if (number != 0) {
@@ -171,6 +189,19 @@ uint8_t mmtf_write_receipt(uint32_t station, uint32_t job, const uint8_t *file, 
     uint8_t number = kept_mmtf_write_receipt(station, job, file, n, buffer, room, written);
     int upset = is_upset("mmtf_write_receipt", file, n);
     return upset ? upset_column(number, buffer, written) : number;
+}
+
+/* A number and a room are few inputs, so that one number of all is upset, at every room; and the version is always. */
+uint8_t kept_mmtf_meaning(uint8_t number, uint8_t *buffer, size_t room, uint64_t *written);
+uint8_t mmtf_meaning(uint8_t number, uint8_t *buffer, size_t room, uint64_t *written) {
+    uint8_t answer = kept_mmtf_meaning(number, buffer, room, written);
+    int upset = is_broken("mmtf_meaning") && number == MMTF_NOT_EXACT;
+    return upset ? upset_column(answer, buffer, written) : answer;
+}
+
+uint32_t kept_mmtf_version(void);
+uint32_t mmtf_version(void) {
+    return kept_mmtf_version() ^ (uint32_t)is_broken("mmtf_version");
 }
 
 uint8_t kept_mmtf_read_receipt(const uint8_t *bytes, size_t n, uint32_t numbers[10]);

@@ -1,8 +1,10 @@
 //! The C calls of libmmtf.a, with safe wrappers.
 
 pub mod columns;
+pub mod header;
 pub mod matrix;
 pub mod opening;
+pub mod meaning;
 pub mod receipt;
 
 extern "C" {

@@ -155,3 +155,21 @@ fn cut_at_the_edge() {
         }
     }
 }
+
+/// The header of a column at the edge, and of each of its beginnings.
+#[test]
+fn headers_at_the_edge() {
+    let mut pages = Pages::new();
+    let mut rng = Rng::new(0x6865_6164);
+    for (kind, _) in COLUMN_KINDS {
+        for _ in 0..500 {
+            let column = column_case(kind, &mut rng).column;
+            for size in (0..column.len().min(16)).chain([column.len()]) {
+                for side in [Side::Before, Side::After] {
+                    let placed = pages.input.place(&column[..size], side);
+                    agree_on_header(placed).expect("both alike");
+                }
+            }
+        }
+    }
+}

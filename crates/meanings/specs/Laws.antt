@@ -1,2 +1,3 @@
 -- What is proved of the definitions of `meanings`.
 pub mod Meanings
+pub mod Steps

@@ -1,62 +1,98 @@
-// The meanings of the refusal numbers in words, for sentences that a person reads.
+// The meanings of the refusal numbers in words: written for a caller who has a number, and put into the sentences of the program.
 ghost use mathlib.Core.Path.{_≡_};
+ghost use lib.ListN.{length};
 ghost use Rattle.text.specs.Put.{Put};
-ghost use Rattle.meanings.specs.Meanings.{meaningOf, meaningTable};
+ghost use Rattle.meanings.specs.Meanings.{meaningOf, meaningAnswer, meaningBuffer};
+ghost use Rattle.meanings.specs.Steps.{rows, lineEnd};
+use refusal::Answer;
 
-// The bytes of the table.
-const TABLE_SIZE: usize = 989;
+// Room for the longest meaning.
+const ROOM: usize = 64;
 
-// For each refusal its number, the length of its meaning and its meaning.
-const TABLE: [u8; TABLE_SIZE] = *b"\x01\x2ethe file is over the limit of 67,108,864 bytes\
-    \x02\x15the file is cut short\
-    \x03\x20a lead byte is not in the subset\
-    \x04\x2aan unsigned integer is above 2,147,483,647\
-    \x05\x15a string is not UTF-8\
-    \x06\x23arrays and maps are nested too deep\
-    \x07\x1aa map has too many entries\
-    \x08\x15a key is not a string\
-    \x09\x11a key is repeated\
-    \x0a\x1cthe outer value is not a map\
-    \x0b\x23there are bytes after the outer map\
-    \x0c\x1ba required field is missing\
-    \x0d\x1ca field is of the wrong type\
-    \x0e\x1aa column is under 12 bytes\
-    \x0f\x37a column's codec is unknown, or not of the field's kind\
-    \x10\x2ea column's length or parameter is out of range\
-    \x11\x25a column's payload has the wrong size\
-    \x12\x23a number in a column is not allowed\
-    \x13\x35a column's results are not as many as its header says\
-    \x14\x0fcounts disagree\
-    \x15\x1dan index is outside its table\
-    \x16\x1ba value is outside its list\
-    \x17\x1ethere are too many group types\
-    \x18\x1athe major version is not 1\
-    \x19\x2cthere are more values than are shown, 65,536\
-    \x1a\x16there is no such field\
-    \x1b\x29a number is not exact in single precision\
-    \x1c\x16there is no such entry\
-    \x1d\x2ca station is 1 to 99, and a job 1 to 999,999";
+// Writes the meaning of a number into the buffer: 28 for a number that the table does not have, then 25.
+pub fn write(number: u8, buffer: &mut [u8]) -> Answer
+    ensures answer { λ r. ⌜ r ≡ meaningAnswer number (length (now (buffer .entry))) ⌝ }
+    ensures buffer { λ r. ⌜ now (buffer .exit) ≡ meaningBuffer number (now (buffer .entry)) ⌝ }
+{
+    let mut page = [0u8; ROOM];
+    let end = put_meaning(&mut page, 0, number);
+    if end == 0 {
+        return Answer::Refused(refusal::NO_SUCH_ENTRY);
+    }
+    if buffer.len() < end {
+        return Answer::Refused(refusal::BUFFER_TOO_SMALL);
+    }
+    text::put(buffer, 0, &page[..end]);
+    Answer::Count(end)
+}
 
-// Puts the meaning of a refusal number at a place, and gives the place after it; nothing for a number that is no refusal's.
+// Puts the meaning of a number at a place, and gives the place after it; nothing for a number that the table does not have. The table has for each
+// number a byte with the number, its meaning, and a line feed.
 pub fn put_meaning(buffer: &mut [u8], at: usize, number: u8) -> usize
     ensures { λ r. ⌜ Put (now (buffer .entry)) at (meaningOf number) (now (buffer .exit)) r ⌝ }
 {
-    let table = table();
-    let mut row: usize = 0;
-    while row < TABLE_SIZE {
-        let start = row + 2;
-        let end = start + numbers::u8_to_usize(table[row + 1]);
-        if table[row] == number {
-            return text::put(buffer, at, &table[start..end]);
-        }
-        row = end;
-    }
-    at
+    let words = words_in(
+        b"\x00accepted\n\
+        \x01the file is over the limit of 67,108,864 bytes\n\
+        \x02the file is cut short\n\
+        \x03a lead byte is not in the subset\n\
+        \x04an unsigned integer is above 2,147,483,647\n\
+        \x05a string is not UTF-8\n\
+        \x06arrays and maps are nested too deep\n\
+        \x07a map has too many entries\n\
+        \x08a key is not a string\n\
+        \x09a key is repeated\n\
+        \x0athe outer value is not a map\n\
+        \x0bthere are bytes after the outer map\n\
+        \x0ca required field is missing\n\
+        \x0da field is of the wrong type\n\
+        \x0ea column is under 12 bytes\n\
+        \x0fa column's codec is unknown, or not of this kind\n\
+        \x10a column's length or parameter is out of range\n\
+        \x11a column's payload has the wrong size\n\
+        \x12a number in a column is not allowed\n\
+        \x13a column's results are not as many as its header says\n\
+        \x14counts disagree\n\
+        \x15an index is outside its table\n\
+        \x16a value is outside its list\n\
+        \x17there are too many group types\n\
+        \x18the major version is not 1\n\
+        \x19the buffer is too small\n\
+        \x1athere is no such field\n\
+        \x1ba number is not exact in single precision\n\
+        \x1cthere is no such entry\n\
+        \x1dthe receipt is malformed\n",
+        number,
+    );
+    text::put(buffer, at, words)
 }
 
-// The table of meanings.
-fn table() -> [u8; TABLE_SIZE]
-    ensures { λ r. ⌜ r ≡ meaningTable ⌝ }
+// The words after a number in the table; none where no row has it.
+fn words_in<'a>(table: &'a [u8], number: u8) -> &'a [u8]
+    requires { ⌜ now table ≡ rows ⌝ }
+    ensures { λ r. ⌜ now r ≡ meaningOf number ⌝ }
 {
-    TABLE
+    let mut row: usize = 0;
+    while row < table.len() {
+        let end = line_end(table, row + 1);
+        if table[row] == number {
+            return &table[row + 1..end];
+        }
+        row = end + 1;
+    }
+    &table[0..0]
+}
+
+// Where the line of a place ends: at its line feed, or where the bytes end.
+fn line_end(bytes: &[u8], at: usize) -> usize
+    ensures { λ r. ⌜ r ≡ lineEnd (now (bytes .entry)) at ⌝ }
+{
+    let mut i = at;
+    while i < bytes.len() {
+        if bytes[i] == b'\n' {
+            return i;
+        }
+        i += 1;
+    }
+    i
 }

@@ -7,7 +7,7 @@ use lib.Dec.{eqb}
 use lib.IntN.{ℤ, pos}
 use lib.Ieee.{Float}
 use mir.Syntax.{w32}
-use mir.Val.{ofZ}
+use mir.Val.{ofZ, toZ}
 use Rattle.refusal.specs.declared.Answer.{Answer}
 use Rattle.refusal.specs.declared.Answer.the-variants as answer
 use Rattle.refusal.specs.Table.{accepted}
@@ -17,6 +17,8 @@ use Rattle.views.specs.declared.Place.the-variants as place
 use Rattle.opening.specs.declared.Opening.{Opening}
 use Rattle.opening.specs.declared.Opening.the-variants as opening
 use Rattle.transforms.specs.Matrix.{matrixNumber, matrixOf}
+use Rattle.columns.specs.declared.Header.{Header}
+use Rattle.columns.specs.declared.Header.the-variants as header
 use Rattle.columns.specs.declared.Kind.{Kind}
 use Rattle.columns.specs.declared.Kind.the-variants as kind
 use Rattle.columns.specs.declared.Wanted.{Wanted}
@@ -29,6 +31,7 @@ use Rattle.decoding.specs.declared.Fixed.{Fixed}
 use Rattle.decoding.specs.declared.Fixed.the-variants as fixed
 use Rattle.cells.specs.declared.Cell.{Cell}
 use Rattle.cells.specs.declared.Cell.the-variants as cell
+use Rattle.meanings.specs.Meanings.{meaningAnswer}
 use Rattle.encoding.specs.Demand.{Element, encoderSays, encoderLeaves}
 use Rattle.receipt.specs.Receipt.{numbersOf}
 use Rattle.receipt.specs.File.{receiptAnswer}
@@ -88,6 +91,20 @@ abbrev pub fixedDivisor : Fixed → ℤ → ℤ
 fixedDivisor (fixed.Column n d) old = d
 fixedDivisor (fixed.Refused r) old = old
 
+-- a header as it is judged: its number; a field of it afterwards, which is a number where the header passes; and the parameter afterwards, 0
+-- where the codec uses none
+abbrev pub headerNumber : Header → ℕ
+headerNumber (header.Good n m k f d) = accepted
+headerNumber (header.Refused r) = r
+
+abbrev pub headerNow : Header → ℤ → ℤ → ℤ
+headerNow (header.Good n m k f d) z old = z
+headerNow (header.Refused r) z old = old
+
+abbrev pub headerParameter : Header → ℤ → ℤ
+headerParameter (header.Good n m k f d) old = toZ w32 m
+headerParameter (header.Refused r) old = old
+
 -- a cell: its number; and kind (1 an integer, 2 a character, 3 a float), integer and float afterwards
 abbrev pub cellNumber : Cell → ℕ
 cellNumber (cell.Int x) = accepted
@@ -129,6 +146,13 @@ receiptNumber station job file buffer = answerNumber (receiptAnswer station job 
 
 abbrev pub receiptCount : ℕ → ℕ → List ℕ → List ℕ → ℕ → ℕ
 receiptCount station job file buffer old = answerCount (receiptAnswer station job file (length buffer)) old
+
+-- the meaning of a number written: its number, and the bytes written afterwards
+abbrev pub meaningNumber : ℕ → List ℕ → ℕ
+meaningNumber n buffer = answerNumber (meaningAnswer n (length buffer))
+
+abbrev pub meaningCount : ℕ → List ℕ → ℕ → ℕ
+meaningCount n buffer old = answerCount (meaningAnswer n (length buffer)) old
 
 -- a receipt read: its number, and the numbers of its lines in their order afterwards
 abbrev pub readNumber : Reading → ℕ

@@ -4,6 +4,7 @@ ghost use mathlib.Core.Path.{_≡_};
 ghost use mathlib.Core.Logic.{_↔_};
 ghost use lib.ListN.{length, take};
 ghost use lib.IntN.{pos};
+ghost use mir.Syntax.{w32};
 ghost use Rattle.refusal.specs.Answer.{answerNumber, answerCount};
 ghost use Rattle.messagepack.specs.Rules.{Container};
 ghost use Rattle.messagepack.specs.Walk.{containerNumber};
@@ -13,19 +14,25 @@ ghost use Rattle.views.specs.Place.{placeOf};
 ghost use Rattle.fields.specs.Table.{fieldCount};
 ghost use Rattle.opening.specs.Opening.{startsOf, lengthsOf, openingOf, openedBuffer};
 ghost use Rattle.transforms.specs.Matrix.{matrixNumber};
+ghost use Rattle.numbers.specs.BigEndian.{signedAt};
+ghost use Rattle.columns.specs.Header.{headerOf};
 ghost use Rattle.columns.specs.Decode.{decode};
 ghost use Rattle.columns.specs.Buffer.{decodedBuffer};
 ghost use Rattle.decoding.specs.Calls.{numberBuffer, byteBuffer};
 ghost use Rattle.floats.specs.Calls.{exactly, floatBits};
 ghost use Rattle.cells.specs.Calls.{cellOf};
+ghost use Rattle.meanings.specs.Meanings.{meaningBuffer};
 ghost use Rattle.receipt.specs.Receipt.{numbersOf};
 ghost use Rattle.receipt.specs.Reading.{readingOf};
 ghost use Rattle.receipt.specs.File.{Receipted, receiptBuffer};
 ghost use Rattle.mmtf.specs.Calls.{viewStart, viewLength, openedNumber, openedPresence, matrixRows, decodedNumber, decodedCount};
 ghost use Rattle.mmtf.specs.Calls.{floatsNumber, floatsCount, fixedOf, fixedNumber, fixedCount, fixedDivisor};
+ghost use Rattle.mmtf.specs.Version.{versionNumber};
+ghost use Rattle.mmtf.specs.Calls.{headerNumber, headerNow, headerParameter, meaningNumber, meaningCount};
 ghost use Rattle.mmtf.specs.Calls.{cellNumber, cellKind, cellInteger, cellReal, encodedNumber, encodedCount, encodedLeaves};
 ghost use Rattle.mmtf.specs.Calls.{receiptNumber, receiptCount, readNumber, readNumbers};
 use cells::Cell;
+use columns::Header;
 use columns::Kind;
 use columns::Wanted;
 use decoding::Fixed;
@@ -34,6 +41,13 @@ use receipt::Reading;
 use receipt::Receipt;
 use refusal::Answer;
 use views::Place;
+
+// The version, as in specs/Version.antt.
+const MAJOR: u32 = 0;
+
+const MINOR: u32 = 8;
+
+const PATCH: u32 = 0;
 
 // The refusal of a file as a container, 1 to 11, or 0.
 #[no_mangle]
@@ -196,6 +210,30 @@ pub extern "C" fn mmtf_decode_float32(column: &[u8], buffer: &mut [u32], count: 
     ensures buffer { λ r. ⌜ now (buffer .exit) ≡ decodedBuffer floatBits (exactly (decode Wanted.Real (now (column .entry)))) (now (buffer .entry)) ⌝ }
 {
     hand_count(floats::decode_float32(column, buffer), count)
+}
+
+// The codec, the length and the parameter of a column of any kind, the parameter 0 where the codec uses none; or the refusal, 14 to 17.
+#[no_mangle]
+pub extern "C" fn mmtf_header(
+    column: &[u8],
+    codec: &mut i32,
+    length: &mut i32,
+    parameter: &mut i32,
+) -> u8
+    ensures answer { λ r. ⌜ r ≡ headerNumber (headerOf Wanted.Any (now (column .entry))) ⌝ }
+    ensures codec { λ r. ⌜ now (codec .exit) ≡ headerNow (headerOf Wanted.Any (now (column .entry))) (signedAt w32 (now (column .entry)) 0) (now (codec .entry)) ⌝ }
+    ensures length { λ r. ⌜ now (length .exit) ≡ headerNow (headerOf Wanted.Any (now (column .entry))) (signedAt w32 (now (column .entry)) 4) (now (length .entry)) ⌝ }
+    ensures parameter { λ r. ⌜ now (parameter .exit) ≡ headerParameter (headerOf Wanted.Any (now (column .entry))) (now (parameter .entry)) ⌝ }
+{
+    match columns::read_header(column, Wanted::Any) {
+        Header::Refused(r) => r,
+        Header::Good(_, used, _, _, _) => {
+            *codec = numbers::read_i32(column, 0);
+            *length = numbers::read_i32(column, 4);
+            *parameter = numbers::to_i32(used);
+            refusal::ACCEPTED
+        }
+    }
 }
 
 // One cell of a column: its kind (1 an integer, 2 a character, 3 a float), and its value in the out parameter of that kind.
@@ -400,6 +438,24 @@ fn in_order(receipt: Receipt) -> [u32; 10]
         receipt.fields,
         receipt.units,
     ]
+}
+
+// The words of a refusal number; or the refusal, 28 for a number that the table does not have, then 25.
+#[no_mangle]
+pub extern "C" fn mmtf_meaning(number: u8, buffer: &mut [u8], written: &mut u64) -> u8
+    ensures answer { λ r. ⌜ r ≡ meaningNumber number (now (buffer .entry)) ⌝ }
+    ensures written { λ r. ⌜ now (written .exit) ≡ meaningCount number (now (buffer .entry)) (now (written .entry)) ⌝ }
+    ensures buffer { λ r. ⌜ now (buffer .exit) ≡ meaningBuffer number (now (buffer .entry)) ⌝ }
+{
+    hand_count(meanings::write(number, buffer), written)
+}
+
+// The version of this library.
+#[no_mangle]
+pub extern "C" fn mmtf_version() -> u32
+    ensures { λ r. ⌜ r ≡ versionNumber ⌝ }
+{
+    MAJOR * 10000 + MINOR * 100 + PATCH
 }
 
 // Hands on the answer of a call that fills a buffer: the count where it succeeded.

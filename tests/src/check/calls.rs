@@ -207,6 +207,16 @@ impl Write for Shortened {
     }
 }
 
+/// Compares both on the header of a column.
+pub fn agree_on_header(column: &[u8]) -> Result<Outcome<[i32; 3]>, String> {
+    let answer = crate::library::header::header(column);
+    let expected = match own::header(column) {
+        Ok(fields) => Outcome::Done(fields),
+        Err(refusal) => Outcome::Refused(refusal.number()),
+    };
+    alike(answer, expected, || "header".to_string())
+}
+
 /// What both give for a cell.
 pub fn agree_on_cell(column: &[u8], index: u64) -> Result<Outcome<Cell>, String> {
     let expected = match own::cell(column, index) {

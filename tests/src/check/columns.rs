@@ -1,5 +1,5 @@
-//! Runs a column through both implementations: each decoder, cells at several
-//! indices, and the encoder back.
+//! Runs a column through both implementations: each decoder, its header, cells
+//! at several indices, and the encoder back.
 
 use super::calls::*;
 use super::watch::{Element, Output};
@@ -51,8 +51,8 @@ pub struct Numbers {
 /// Larger buffers are not lent to generated columns.
 const LARGEST_ROOM: usize = 1 << 13;
 
-/// Runs a column through every decoder, cells at several indices, and if it has
-/// a result through its encoder.
+/// Runs a column through every decoder, for its header, for cells at several
+/// indices, and if it has a result through its encoder.
 pub fn agree(column: &[u8], index: u64, tally: &mut Tally) -> Result<Numbers, String> {
     let asked = Trial {
         column,
@@ -73,6 +73,7 @@ pub fn agree(column: &[u8], index: u64, tally: &mut Tally) -> Result<Numbers, St
     let back = bits_kept.then_some(&TO_FLOAT32);
     let float32 = asked.decode(Asked::Float32, &FLOAT32, back, tally)?;
     let past_end = asked.cells(index, tally)?;
+    agree_on_header(column)?;
     let own = match (strings, past_end) {
         (15, 28) => 0,
         (15, number) => number,

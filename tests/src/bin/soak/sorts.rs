@@ -4,6 +4,7 @@
 use mmtf_tests::check::columns;
 use mmtf_tests::check::files::{agree_on_matrix, agree_on_verdict};
 use mmtf_tests::check::opening::agree_on_opening;
+use mmtf_tests::check::meanings::{agree_on_meaning, agree_on_version};
 use mmtf_tests::check::receipts::{agree_on_reading, agree_on_receipt, agree_on_receipts};
 use mmtf_tests::check::values::{agree_on_values, VALUE_KINDS};
 use mmtf_tests::check::{agree, hex};
@@ -53,7 +54,11 @@ pub const SORTS: [(Sort, u64, &str); 8] = [
         50,
         "receipts of a file: stations, jobs, rooms",
     ),
-    (Sort::Read, 79, "a text read as a receipt"),
+    (
+        Sort::Read,
+        79,
+        "a text read as a receipt; the meaning of a number",
+    ),
     (Sort::Large, 5, "large files and columns"),
 ];
 
@@ -211,5 +216,15 @@ fn read(rng: &mut Rng, tally: &mut Tally) -> Result<(), String> {
         Outcome::Refused(number) | Outcome::Wrote(number, _) => number,
     };
     tally.note(Sort::Read, number);
-    Ok(())
+    meaning(rng)
+}
+
+/// The meaning of a number, most often one of the table, and the version.
+fn meaning(rng: &mut Rng) -> Result<(), String> {
+    let number = match rng.chance(1, 4) {
+        true => rng.below(256),
+        false => rng.below(32),
+    };
+    agree_on_meaning(number as u8, rng.below(72))?;
+    agree_on_version()
 }

@@ -30,6 +30,19 @@ pub fn payload(column: &Column) -> Result<(), Refusal> {
     }
 }
 
+/// The size of the payload alone (17).
+pub fn size(column: &Column) -> Result<(), Refusal> {
+    match column.codec.layout {
+        Layout::Plain8 => fills(column, 1),
+        Layout::Plain16 => fills(column, 2),
+        Layout::Plain32 => fills(column, 4),
+        Layout::Strings => fills(column, column.string_size()),
+        Layout::Runs => multiple(column.payload, 8),
+        Layout::Packed8 => Ok(()),
+        Layout::Packed16 => multiple(column.payload, 2),
+    }
+}
+
 fn fills(column: &Column, size: usize) -> Result<(), Refusal> {
     match column.payload.len() == column.length * size {
         true => Ok(()),

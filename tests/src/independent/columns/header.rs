@@ -20,6 +20,19 @@ pub struct Column<'a> {
     pub payload: &'a [u8],
 }
 
+/// The codec, the length and the parameter of a column of any kind: 14, 15, 16,
+/// 17. A parameter that the codec does not use is 0.
+pub fn header(bytes: &[u8]) -> Result<[i32; 3], Refusal> {
+    let column = Column::open(bytes, |_| true)?;
+    check::size(&column)?;
+    let codec = i32::read(&bytes[..4]);
+    let parameter = match column.codec.kind {
+        Kind::FixedPoint | Kind::Strings => column.parameter,
+        _ => 0,
+    };
+    Ok([codec, column.length as i32, parameter])
+}
+
 impl<'a> Column<'a> {
     /// A column whose payload has no fault, of a kind that is asked for.
     pub fn checked(bytes: &'a [u8], asked: impl Fn(Kind) -> bool) -> Result<Self, Refusal> {

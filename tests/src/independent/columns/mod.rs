@@ -23,7 +23,7 @@ pub use encode::{
     encode_chars, encode_fixed_point, encode_float32, encode_int16, encode_int32, encode_int8,
     encode_strings,
 };
-pub use header::{Column, HEADER, LENGTH_LIMIT};
+pub use header::{header, Column, HEADER, LENGTH_LIMIT};
 
 /// The largest size of an integer or a divisor that a float is made from.
 pub const EXACT_LIMIT: u32 = 16_777_216;
