@@ -11,6 +11,7 @@ use mmtf_tests::corpus;
 use mmtf_tests::independent::columns::{self as own, Codec, Kind};
 use mmtf_tests::independent::outer_binaries;
 use mmtf_tests::library::columns::{self as library, Answer, Outcome};
+use mmtf_tests::library::header::header;
 
 use crate::table::Workloads;
 use crate::timing::{alone, compare, Times};
@@ -118,6 +119,20 @@ pub fn one_cell(
         },
         independent: move || {
             let _ = black_box(own::cell(black_box(column), black_box(index)));
+        },
+    }
+}
+
+/// Both read the header of the same column, which has no fault.
+fn one_header(column: &[u8]) -> Work<impl FnMut() + '_, impl FnMut() + '_> {
+    assert_eq!(number(agree_on_header(column)), 0, "as it is made");
+    Work {
+        call: "header",
+        library: move || {
+            black_box(header(black_box(column)));
+        },
+        independent: move || {
+            let _ = black_box(own::header(black_box(column)));
         },
     }
 }
@@ -303,12 +318,14 @@ fn whole_file(table: &Workloads) {
     let mut bytes = 0;
     let mut decoded = Times::NONE;
     let mut encoded = Times::NONE;
+    let mut headers = Times::NONE;
     for (_, column) in outer_binaries(file).expect("an accepted file") {
         let column = given(column);
         bytes += column.bytes().len();
         let as_floats = column.floats();
         decoded += as_floats.unwrap_or_else(|| column.decoding()).times();
         encoded += column.encoding().times();
+        headers += one_header(column.bytes()).times();
     }
     table.row(
         "decode all columns",
@@ -322,4 +339,5 @@ fn whole_file(table: &Workloads) {
         bytes,
         encoded,
     );
+    table.row("headers of all columns", "4V5A", bytes, headers);
 }

@@ -56,10 +56,20 @@ fn declared(code: &'static str) -> impl Iterator<Item = &'static str> {
     })
 }
 
-/// Whether a call is on a column, which the part `codecs` measures. Those on
-/// files and receipts are measured by `workloads`.
+/// Whether a call is on the cells of a column, which the part `codecs` measures.
+/// Those on files, receipts and headers are measured by `workloads`.
 pub fn is_on_column(call: &str) -> bool {
     call.starts_with("decode_") || call.starts_with("encode_") || call == "cell"
+}
+
+/// The calls whose time is not measured: the words of a number, which a program
+/// asks for once before it says a sentence, and the version, which is a
+/// constant.
+const APART: [&str; 2] = ["meaning", "version"];
+
+/// Whether the time of a call is measured by `workloads`.
+pub fn is_on_file(call: &str) -> bool {
+    !is_on_column(call) && !APART.contains(&call)
 }
 
 /// The calls that were measured so far.

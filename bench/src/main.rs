@@ -74,6 +74,5 @@ fn workloads() -> ExitCode {
     columns::rows(&table);
     check::rows(&table);
     receipts::rows(&table);
-    let on_files = |call: &str| !coverage::is_on_column(call);
-    coverage::judged("workloads", &coverage::unmeasured(on_files))
+    coverage::judged("workloads", &coverage::unmeasured(coverage::is_on_file))
 }

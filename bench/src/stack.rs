@@ -13,7 +13,9 @@ use mmtf_tests::corpus;
 use mmtf_tests::generate::files::Value::Written;
 use mmtf_tests::independent::{outer_binaries, outer_keys};
 use mmtf_tests::library::columns::cell;
+use mmtf_tests::library::header::header;
 use mmtf_tests::library::matrix::matrix;
+use mmtf_tests::library::meaning::{meaning, version};
 use mmtf_tests::library::receipt::{read_receipt, write_receipt};
 use mmtf_tests::library::{container, verdict, view};
 
@@ -87,6 +89,12 @@ fn measure() -> Stack {
         })
     });
     stack.row("cell", cells.max().unwrap_or(0));
+    let headers = columns.iter().map(|column| {
+        used(&mut || {
+            black_box(header(column));
+        })
+    });
+    stack.row("header", headers.max().unwrap_or(0));
     encoder(&mut stack, &TO_INT32, &INT32, &columns);
     encoder(&mut stack, &TO_INT8, &INT8, &columns);
     encoder(&mut stack, &TO_INT16, &INT16, &columns);
@@ -160,6 +168,16 @@ fn of_files(stack: &mut Stack) {
         black_box(read_receipt(&buffer));
     });
     stack.row("read_receipt", read);
+    let meanings = (0..=u8::MAX).map(|number| {
+        used(&mut || {
+            black_box(meaning(number, &mut buffer));
+        })
+    });
+    stack.row("meaning", meanings.max().unwrap_or(0));
+    let versions = used(&mut || {
+        black_box(version());
+    });
+    stack.row("version", versions);
 }
 
 fn last_key(file: &[u8]) -> Vec<u8> {

@@ -54,7 +54,8 @@ def of_matrices(data: Any) -> Iterator[str]:
 
 def of_column(column: Any) -> Iterator[str]:
     """All that is asked of a column."""
-    own, length, parameter = mmtf.header(column) if len(column) >= 12 else (0, 0, 0)
+    yield "header" + answered(lambda fields: "".join(f" {field}" for field in fields), mmtf.header, column)
+    own, length, parameter = struct.unpack(">iii", column[:12]) if len(column) >= 12 else (0, 0, 0)
     for kind in ("int32", "int16", "int8"):
         yield from there_and_back(column, own, kind, integers)
     yield from there_and_back(column, own, "fixed_point", fixed_point)

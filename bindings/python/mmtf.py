@@ -10,7 +10,7 @@ the order of its refusals, is said in include/mmtf.h.
 >>> view(empty_map, "title")
 Traceback (most recent call last):
     ...
-mmtf.Refused: The view of "title" is refused with 26, there is no such field.
+mmtf.Refused: The view of "title" is refused with 26: there is no such field.
 
 Bytes. Files, columns and receipts are bytes, a bytearray, a memoryview, or anything else that lends its memory. bytes
 are never copied, and while the library reads them other threads run on. Nor is writable memory copied, as a bytearray's;
@@ -46,40 +46,6 @@ __all__ = [
     "view",
 ]
 
-# The refusal numbers and their meanings. A number is the row's name: a row that is added moves no other.
-MEANINGS = {
-    0: "accepted",
-    1: "the file is over the limit of 67,108,864 bytes",
-    2: "the file is cut short",
-    3: "a lead byte is not in the subset",
-    4: "an unsigned integer is above 2,147,483,647",
-    5: "a string is not UTF-8",
-    6: "arrays and maps are nested too deep",
-    7: "a map has too many entries",
-    8: "a key is not a string",
-    9: "a key is repeated",
-    10: "the outer value is not a map",
-    11: "there are bytes after the outer map",
-    12: "a required field is missing",
-    13: "a field is of the wrong type",
-    14: "a column is under 12 bytes",
-    15: "a column's codec is unknown, or not of the field's kind",
-    16: "a column's length or parameter is out of range",
-    17: "a column's payload has the wrong size",
-    18: "a number in a column is not allowed",
-    19: "a column's results are not as many as its header says",
-    20: "counts disagree",
-    21: "an index is outside its table",
-    22: "a value is outside its list",
-    23: "there are too many group types",
-    24: "the major version is not 1",
-    25: "the buffer is too small",
-    26: "there is no such field",
-    27: "a number is not exact in single precision",
-    28: "there is no such entry",
-    29: "the receipt is malformed",
-}
-
 # The kind of each codec, as it is decoded with nothing lost.
 CODECS = {
     1: "float32", 2: "int8", 3: "int16", 4: "int32", 5: "strings", 6: "chars", 7: "int32", 8: "int32",
@@ -106,12 +72,13 @@ NAMES = (
     "bioAssemblyList", "entityList",
 )
 
-_COLUMN_SHORT, _NO_SUCH_FIELD, _NUMBER_NOT_ALLOWED, _BUFFER_TOO_SMALL = 14, 26, 18, 25
+_NO_SUCH_FIELD, _NUMBER_NOT_ALLOWED, _BUFFER_TOO_SMALL = 26, 18, 25
 _MOST_FILE = 67_108_864
 _MOST_RESULTS = 16_777_216
 _HEADER_SIZE = 12
 _RUN_SIZE = 8
 _RECEIPT_ROOM = 128
+_MEANING_ROOM = 64
 _CELL_CHARACTER, _CELL_FLOAT = 2, 3
 
 Column = Union["array.array[int]", "array.array[float]", "FixedPoint", str, "list[str]"]
@@ -126,7 +93,7 @@ class Verdict:
     """The library's answer about a whole file. It is true exactly if the file is accepted.
 
     >>> str(Verdict(0)), str(Verdict(3))
-    ('accepted', 'refused with 3, a lead byte is not in the subset')
+    ('accepted', 'refused with 3: a lead byte is not in the subset')
     """
 
     number: int
@@ -140,7 +107,7 @@ class Verdict:
         return self.number == 0
 
     def __str__(self) -> str:
-        return self.meaning if self else f"refused with {self.number}, {self.meaning}"
+        return self.meaning if self else f"refused with {self.number}: {self.meaning}"
 
 
 class Refused(ValueError):
@@ -157,7 +124,7 @@ class Refused(ValueError):
         return _meaning(self.number)
 
     def __str__(self) -> str:
-        return f"{self.subject} is refused with {self.number}, {self.meaning}."
+        return f"{self.subject} is refused with {self.number}: {self.meaning}."
 
 
 class Receipt(NamedTuple):
@@ -183,7 +150,7 @@ class Part(NamedTuple):
 
 
 class Header(NamedTuple):
-    """The first twelve bytes of a column: codec, number of results, and the codec's parameter."""
+    """What the first twelve bytes of a column say: codec, number of results, and the codec's parameter."""
 
     codec: int
     length: int
@@ -201,7 +168,7 @@ def verdict(data: Any) -> Verdict:
     """The verdict on a whole file: container, fields, columns and counts.
 
     >>> print(verdict(bytes([0xc0])))
-    refused with 3, a lead byte is not in the subset
+    refused with 3: a lead byte is not in the subset
     """
     with _Lent(data) as file:
         return Verdict(file.library.mmtf_verdict(file.address, file.size))
@@ -347,15 +314,18 @@ def column(data: Any, name: str | bytes, kind: str | None = None) -> Column:
 
 
 def header(column: Any) -> Header:
-    """The header of a column, as it stands there; only that it is whole is asked (14).
+    """The header of a column of any kind. A parameter that the codec does not use is 0.
 
     >>> header(encode(["A", "B"], 5))
     Header(codec=5, length=2, parameter=4)
+
+    Refused with 14 to 17; the payload's numbers are not looked at.
     """
+    codec, length, parameter = ctypes.c_int32(), ctypes.c_int32(), ctypes.c_int32()
     with _Lent(column) as lent:
-        if lent.size < _HEADER_SIZE:
-            raise Refused(_COLUMN_SHORT, "The column")
-        return lent.header()
+        refusal = lent.library.mmtf_header(lent.address, lent.size, codec, length, parameter)
+    _refuse(refusal, "The column")
+    return Header(codec.value, length.value, parameter.value)
 
 
 def decode(column: Any, kind: str | None = None) -> Column:
@@ -405,7 +375,7 @@ def encode(values: Any, codec: int, *, size: int = 4) -> bytes:
     >>> encode([128], 2)
     Traceback (most recent call last):
         ...
-    mmtf.Refused: The column is refused with 18, a number in a column is not allowed.
+    mmtf.Refused: The column is refused with 18: a number in a column is not allowed.
 
     Refused with 15 for a codec that there is not; 16 for more than 16,777,216 results, a divisor or a size out of range;
     18 for an element that the codec cannot hold, also a name longer than the size; 25 as said at the top.
@@ -705,7 +675,7 @@ _COUNT, _INTEGER = ctypes.POINTER(ctypes.c_uint64), ctypes.c_int32
 _DECODER = (_BYTES, _SIZE, _BYTES, _SIZE, _COUNT)
 _ELEMENTS = (_BYTES, _SIZE, _BYTES, _SIZE, _COUNT)
 
-# The parameters of every call of include/mmtf.h. Each answers a refusal number.
+# The parameters of every call of include/mmtf.h that answers a refusal number, which is every call but that of the version.
 _CALLS = {
     "mmtf_container": (_BYTES, _SIZE),
     "mmtf_verdict": (_BYTES, _SIZE),
@@ -718,6 +688,7 @@ _CALLS = {
     "mmtf_decode_strings": _DECODER,
     "mmtf_decode_fixed_point": (*_DECODER, ctypes.POINTER(_INTEGER)),
     "mmtf_decode_float32": _DECODER,
+    "mmtf_header": (_BYTES, _SIZE, ctypes.POINTER(_INTEGER), ctypes.POINTER(_INTEGER), ctypes.POINTER(_INTEGER)),
     "mmtf_cell": (_BYTES, _SIZE, ctypes.c_uint64, ctypes.POINTER(ctypes.c_uint8), ctypes.POINTER(_INTEGER),
                   ctypes.POINTER(ctypes.c_float)),
     "mmtf_encode_int32": (_INTEGER, *_ELEMENTS),
@@ -730,6 +701,7 @@ _CALLS = {
     "mmtf_matrix": (_BYTES, _SIZE, ctypes.c_uint64, ctypes.c_uint64, ctypes.POINTER(ctypes.c_float * 4)),
     "mmtf_write_receipt": (ctypes.c_uint32, ctypes.c_uint32, _BYTES, _SIZE, _BYTES, _SIZE, _COUNT),
     "mmtf_read_receipt": (_BYTES, _SIZE, ctypes.POINTER(ctypes.c_uint32)),
+    "mmtf_meaning": (ctypes.c_uint8, _BYTES, _SIZE, _COUNT),
 }
 
 
@@ -757,6 +729,18 @@ def _load(loader: type[ctypes.CDLL]) -> ctypes.CDLL:
 # The same library twice: other threads run on while the first is called, and wait while the second is.
 _library = _load(ctypes.CDLL)
 _library_with_lock = _load(ctypes.PyDLL)
+
+
+def _meanings() -> dict[int, str]:
+    """The meaning of every refusal number, in the library's words."""
+    buffer, written, found = ctypes.create_string_buffer(_MEANING_ROOM), ctypes.c_uint64(), {}
+    for number in range(256):
+        if _library.mmtf_meaning(number, buffer, _MEANING_ROOM, written) == 0:
+            found[number] = buffer.raw[:written.value].decode("ascii")
+    return found
+
+
+MEANINGS = _meanings()
 
 
 def _main(words: list[str]) -> int:

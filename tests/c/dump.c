@@ -1,17 +1,17 @@
 /*
  * dump FILE...: writes what the library answers about each file, as text, for a comparison with another way to call it.
  *
- * Of each file: its verdicts, its receipt by station 7 and job 12, its fields, its matrices, and its views by name. Each view, and the
- * file itself, is taken as a column too: decoded to every kind, asked for cells, and what was decoded encoded again.
+ * Of each file: its verdicts, its receipt by station 7 and job 12, its fields, its matrices, and its views by name. Each
+ * view, and the file itself, is taken as a column too: asked for its header, decoded to every kind, asked for cells, and what
+ * was decoded encoded again.
  */
 #include <stdio.h>
 #include <string.h>
 
-#include "file.h"
-#include "mmtf.h"
+#include "../../examples/common.h"
 
 /* One byte more than a file may have; results of a column; bytes of the longest column of runs. */
-enum { ROOM = 67108864 + 1, RESULTS = 16777216, LONGEST = 12 + 8 * RESULTS };
+enum { ROOM = MMTF_FILE_LIMIT + 1, RESULTS = MMTF_LENGTH_LIMIT, LONGEST = MMTF_HEADER_SIZE + 8 * RESULTS };
 
 /* A column is encoded by every codec of its kind if it has at most so many results, none larger than this. */
 enum { FEW = 100, SMALL = 100000 };
@@ -47,7 +47,7 @@ static int32_t number_at(const uint8_t *bytes) {
 
 static struct column column_of(const uint8_t *bytes, size_t n) {
     struct column column = {bytes, n, 0, 0, 0};
-    if (n >= 12) {
+    if (n >= MMTF_HEADER_SIZE) {
         column.codec = number_at(bytes);
         column.length = number_at(bytes + 4);
         column.parameter = number_at(bytes + 8);
@@ -204,6 +204,20 @@ static void write_cell(const struct column *column, uint64_t index) {
     }
 }
 
+/* The header, as the library gives it. */
+static void write_header(const struct column *column) {
+    int32_t codec = 0;
+    int32_t length = 0;
+    int32_t parameter = 0;
+    const uint8_t refusal = mmtf_header(column->bytes, column->n, &codec, &length, &parameter);
+    printf("header");
+    if (refusal == MMTF_ACCEPTED) {
+        printf(" %d %d %d\n", codec, length, parameter);
+    } else {
+        end_line(refusal, NULL, 0);
+    }
+}
+
 /* All that is asked of a column. */
 static void write_column(const uint8_t *bytes, size_t n) {
     static const int32_t int32_codecs[] = {4, 7, 8, 14, 15, 0};
@@ -211,6 +225,7 @@ static void write_column(const uint8_t *bytes, size_t n) {
     static const int32_t int8_codecs[] = {2, 16, 0};
     const struct column column = column_of(bytes, n);
     const uint64_t length = column.length < 0 ? 0 : (uint64_t)column.length;
+    write_header(&column);
     write_integers(&column, "int32", mmtf_decode_int32, mmtf_encode_int32, int32_codecs);
     write_integers(&column, "int16", mmtf_decode_int16, mmtf_encode_int16, int16_codecs);
     write_integers(&column, "int8", mmtf_decode_int8, mmtf_encode_int8, int8_codecs);

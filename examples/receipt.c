@@ -1,0 +1,93 @@
+/*
+ * receipt STATION JOB FILE: checks a file and writes its receipt to standard output.
+ *
+ * Shows mmtf_write_receipt, mmtf_read_receipt and mmtf_meaning. A refused file has a receipt too, with status 1; the sentence on
+ * standard error says the verdict. A file of more than 65,536 bytes, the most that a station holds, gets no receipt; the
+ * library's calls take any length.
+ *
+ * To compile it, at the top of the repository, after rt staticlib mmtf:
+ *
+ *     gcc -std=c11 -Wall -Wextra -Iinclude -o target/receipt examples/receipt.c target/staticlib/libmmtf.a
+ */
+#include "common.h"
+
+/* The most bytes of a file. */
+enum { MOST = 65536 };
+
+/* Whether a word has digits and nothing else, and their number; one of more than 32 bits becomes 0, which is no station. */
+static int read_number(const char *word, uint32_t *number) {
+    uint64_t value = 0;
+    for (const char *digit = word; *digit != '\0'; digit++) {
+        if (*digit < '0' || *digit > '9') {
+            return 0;
+        }
+        value = value > UINT32_MAX ? value : 10 * value + (uint64_t)(*digit - '0');
+    }
+    *number = value > UINT32_MAX ? 0 : (uint32_t)value;
+    return *word != '\0';
+}
+
+/* The number that a word says, if it is 1 to the most; or 0, after a sentence. */
+static uint32_t number_of(const char *name, const char *word, uint32_t most, const char *range) {
+    uint32_t number;
+    if (!read_number(word, &number)) {
+        fprintf(stderr, "\"%s\" is not a number.\n", word);
+        return 0;
+    }
+    if (number < 1 || number > most) {
+        fprintf(stderr, "%s %s is not %s.\n", name, word, range);
+        return 0;
+    }
+    return number;
+}
+
+/* The receipt on standard output, and then the verdict that stands in it on standard error. */
+static int write_out(const char *name, const uint8_t *receipt, size_t n) {
+    uint32_t numbers[MMTF_RECEIPT_NUMBERS];
+    fwrite(receipt, 1, n, stdout);
+    if (end_output(STATUS_DONE) != STATUS_DONE || mmtf_read_receipt(receipt, n, numbers) != MMTF_ACCEPTED) {
+        return STATUS_NOTHING;
+    }
+    const uint8_t verdict = (uint8_t)numbers[MMTF_RECEIPT_VERDICT];
+    if (verdict != MMTF_ACCEPTED) {
+        fputs(name, stderr);
+        return say_refused(verdict);
+    }
+    fprintf(stderr, "%s is accepted.\n", name);
+    return STATUS_DONE;
+}
+
+/* The receipt of a file by a station and its job, which are in range, so that only the room could be refused. */
+static int write_receipt(uint32_t station, uint32_t job, const char *name, const uint8_t *file, size_t n) {
+    uint8_t receipt[MMTF_RECEIPT_ROOM];
+    uint64_t written;
+    const uint8_t refusal = mmtf_write_receipt(station, job, file, n, receipt, sizeof receipt, &written);
+    if (refusal != MMTF_ACCEPTED) {
+        fprintf(stderr, "The receipt of %s", name);
+        say_refused(refusal);
+        return STATUS_NOTHING;
+    }
+    return write_out(name, receipt, written);
+}
+
+int main(int count, char **words) {
+    if (count != 4) {
+        fprintf(stderr, "usage: receipt STATION JOB FILE\n");
+        return STATUS_NOTHING;
+    }
+    const uint32_t station = number_of("station", words[1], MMTF_STATION_LIMIT, "1 to 99");
+    const uint32_t job = station == 0 ? 0 : number_of("job", words[2], MMTF_JOB_LIMIT, "1 to 999,999");
+    size_t n;
+    uint8_t *file = job == 0 ? NULL : read_file(words[3], MOST + 1, &n);
+    if (file == NULL) {
+        return STATUS_NOTHING;
+    }
+    int status = STATUS_NOTHING;
+    if (n > MOST) {
+        fprintf(stderr, "%s has more than 65,536 bytes, the most that are read.\n", words[3]);
+    } else {
+        status = write_receipt(station, job, words[3], file, n);
+    }
+    free(file);
+    return status;
+}
