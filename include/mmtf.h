@@ -7,7 +7,8 @@
  *
  * Every call takes whatever bytes and numbers it is given, and always ends with an answer. It keeps nothing between calls,
  * allocates nothing and writes to nothing but its buffer and its out parameters, so threads may call at the same time. The
- * answer is a refusal number, 0 for none, but for mmtf_version. On refusal no buffer and no out parameter changes.
+ * answer is a refusal number, 0 for none, but for mmtf_version; mmtf_meaning says a number in words. On refusal no buffer and
+ * no out parameter changes.
  *
  * What the caller keeps, since no call can test it:
  * - A pointer with a length is valid for that many elements, and nothing else writes to them while the call runs. Where the
