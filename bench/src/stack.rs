@@ -15,8 +15,8 @@ use mmtf_tests::independent::{outer_binaries, outer_keys};
 use mmtf_tests::library::columns::cell;
 use mmtf_tests::library::header::header;
 use mmtf_tests::library::matrix::matrix;
-use mmtf_tests::library::meaning::{meaning, version};
 use mmtf_tests::library::receipt::{read_receipt, write_receipt};
+use mmtf_tests::library::words::{meaning, version};
 use mmtf_tests::library::{container, verdict, view};
 
 use crate::check_data::structure;

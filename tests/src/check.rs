@@ -1,19 +1,19 @@
 //! Runs one file through the library and through the independent
 //! implementation, the container and views by name; columns stand in `columns`,
 //! values and their encoders in `values`, the whole check and matrices in
-//! `files`, files opened in `opening`, receipts in `receipts`, the meanings of
-//! numbers in `meanings`.
+//! `files`, files opened in `opening`, receipts in `receipts`, the words of
+//! numbers and the version in `words`.
 
 pub mod calls;
 pub mod columns;
 pub mod files;
 pub mod made;
-pub mod meanings;
 pub mod opening;
 pub mod receipts;
 pub mod sample;
 pub mod values;
 pub mod watch;
+pub mod words;
 
 use crate::independent;
 use crate::library::{self, View};

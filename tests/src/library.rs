@@ -4,8 +4,8 @@ pub mod columns;
 pub mod header;
 pub mod matrix;
 pub mod opening;
-pub mod meaning;
 pub mod receipt;
+pub mod words;
 
 extern "C" {
     fn mmtf_container(file: *const u8, n: usize) -> u8;

@@ -2,10 +2,10 @@
 //! write outside them ends the test.
 #![cfg(all(target_os = "linux", target_arch = "x86_64"))]
 
-use mmtf_tests::check::meanings::words;
+use mmtf_tests::check::words::words;
 use mmtf_tests::guard::{Guarded, Side};
 use mmtf_tests::library::columns::Outcome;
-use mmtf_tests::library::meaning::meaning;
+use mmtf_tests::library::words::meaning;
 
 #[test]
 fn buffers_at_the_edge() {

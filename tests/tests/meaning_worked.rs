@@ -1,7 +1,7 @@
 //! The meanings of all numbers, with rooms around their lengths; the version; and
 //! the header's limits, as the independent implementation has them.
 
-use mmtf_tests::check::meanings::{
+use mmtf_tests::check::words::{
     agree_on_meaning, agree_on_version, defined, defined_text, header_version, words,
 };
 use mmtf_tests::independent::columns::{EXACT_LIMIT, HEADER, LENGTH_LIMIT};
@@ -65,7 +65,7 @@ fn words_fit() {
         let plain = |byte: u8| (b' '..=b'~').contains(&byte);
         assert!(words.bytes().all(plain), "{number}");
         assert!(!words.ends_with(['.', ' ']) && !words.starts_with(' '));
-        let others = (0..number).filter_map(mmtf_tests::check::meanings::words);
+        let others = (0..number).filter_map(mmtf_tests::check::words::words);
         assert!(others.into_iter().all(|other| other != words), "{number}");
     }
 }

@@ -4,9 +4,9 @@
 use mmtf_tests::check::columns;
 use mmtf_tests::check::files::{agree_on_matrix, agree_on_verdict};
 use mmtf_tests::check::opening::agree_on_opening;
-use mmtf_tests::check::meanings::{agree_on_meaning, agree_on_version};
 use mmtf_tests::check::receipts::{agree_on_reading, agree_on_receipt, agree_on_receipts};
 use mmtf_tests::check::values::{agree_on_values, VALUE_KINDS};
+use mmtf_tests::check::words::{agree_on_meaning, agree_on_version};
 use mmtf_tests::check::{agree, hex};
 use mmtf_tests::generate::columns::{column_case, COLUMN_KINDS};
 use mmtf_tests::generate::files::{file_case, matrix_numbers, FILE_KINDS};

@@ -5,7 +5,7 @@ use super::calls::alike;
 use super::watch::{watched, Output};
 use crate::independent::Refusal;
 use crate::library::columns::{Answer, Outcome};
-use crate::library::meaning;
+use crate::library::words as library;
 
 const HEADER: &str = include_str!("../../../include/mmtf.h");
 
@@ -57,7 +57,7 @@ fn expected(number: u8, buffer: &mut [u8]) -> Outcome<Answer> {
 /// The words of a number into a buffer of so many bytes, or how the library
 /// differs from the header.
 pub fn agree_on_meaning(number: u8, room: usize) -> Result<Outcome<Output<u8>>, String> {
-    let answer = watched(room, |buffer| meaning::meaning(number, buffer));
+    let answer = watched(room, |buffer| library::meaning(number, buffer));
     let right = watched(room, |buffer| expected(number, buffer));
     alike(answer, right, || {
         format!("meaning of {number}, room {room}")
@@ -73,7 +73,7 @@ pub fn header_version() -> Option<u64> {
 
 /// The library's version is the header's.
 pub fn agree_on_version() -> Result<(), String> {
-    let (answer, right) = (meaning::version(), header_version());
+    let (answer, right) = (library::version(), header_version());
     match Some(u64::from(answer)) == right {
         true => Ok(()),
         false => Err(format!("version: library {answer}, expected {right:?}")),
