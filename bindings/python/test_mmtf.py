@@ -84,6 +84,14 @@ class Tables(Case):
         self.assertEqual(mmtf.MEANINGS, MEANINGS)
         self.assertEqual((MEANINGS[0], MEANINGS[25]), ("accepted", "the buffer is too small"))
 
+    def test_limits(self) -> None:
+        """The module's limits and sizes are those of the header."""
+        macros = {name: int(number) for name, number in re.findall(r"#define MMTF_(\w+) (\d+)", header_text())}
+        ours = {"FILE_LIMIT": mmtf._MOST_FILE, "LENGTH_LIMIT": mmtf._MOST_RESULTS, "HEADER_SIZE": mmtf._HEADER_SIZE,
+                "RECEIPT_ROOM": mmtf._RECEIPT_ROOM, "MEANING_ROOM": mmtf._MEANING_ROOM,
+                "RECEIPT_NUMBERS": len(mmtf.Receipt._fields)}
+        self.assertEqual({name: macros.get(name) for name in ours}, ours)
+
     def test_codecs(self) -> None:
         rows = re.findall(r"^ \* {1,2}(\d+) {5}(\w+(?: point)?) ", header_text(), re.MULTILINE)
         self.assertEqual(mmtf.CODECS, {int(codec): kind.replace(" ", "_") for codec, kind in rows})

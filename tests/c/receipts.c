@@ -75,7 +75,7 @@ static void refuses_to_write(void) {
 
 /* Read: the ten numbers by their places. */
 static void reads(void) {
-    uint32_t numbers[10];
+    uint32_t numbers[MMTF_RECEIPT_NUMBERS];
     expect(mmtf_read_receipt((const uint8_t *)longest, sizeof longest - 1, numbers) == MMTF_ACCEPTED,
            "The longest receipt is not read.");
     expect(sizeof longest - 1 == MMTF_RECEIPT_ROOM, "The longest receipt has not the bytes that the header says.");
@@ -94,7 +94,7 @@ static void reads(void) {
 
 /* Refused: bytes that are no receipt. */
 static void refuses_to_read(void) {
-    uint32_t numbers[10];
+    uint32_t numbers[MMTF_RECEIPT_NUMBERS];
     uint32_t before[10];
     memset(numbers, 7, sizeof numbers);
     memset(before, 7, sizeof before);

@@ -204,8 +204,8 @@ uint32_t mmtf_version(void) {
     return kept_mmtf_version() ^ (uint32_t)is_broken("mmtf_version");
 }
 
-uint8_t kept_mmtf_read_receipt(const uint8_t *bytes, size_t n, uint32_t numbers[10]);
-uint8_t mmtf_read_receipt(const uint8_t *bytes, size_t n, uint32_t numbers[10]) {
+uint8_t kept_mmtf_read_receipt(const uint8_t *bytes, size_t n, uint32_t numbers[MMTF_RECEIPT_NUMBERS]);
+uint8_t mmtf_read_receipt(const uint8_t *bytes, size_t n, uint32_t numbers[MMTF_RECEIPT_NUMBERS]) {
     uint8_t number = kept_mmtf_read_receipt(bytes, n, numbers);
     if (!is_upset("mmtf_read_receipt", bytes, n)) {
         return number;

@@ -1,6 +1,6 @@
 -- The table of meanings as bytes, for the code: what its rows are, and where a line ends. No lemma stands here: the laws are in Laws/Steps.antt.
 -- Assumes nothing.
-use mathlib.Core.Bool.{Bool, true, cond, _&&_, not}
+use mathlib.Core.Bool.{cond}
 use mathlib.Core.List.{List, [], _∷_, _++_}
 use Prim.Native.Nat.{ℕ, _+_}
 use lib.Dec.{eqb}

@@ -1,5 +1,5 @@
 -- The literal is the table of meanings as bytes, which is computed once over all of it.
-use mathlib.Core.Path.{refl, sym}
+use mathlib.Core.Path.{sym}
 use borrow.Author.Needs.{needs}
 use Rattle.text.specs.Laws.Put.{put-as}
 use Rattle.meanings.specs.Meanings.{meanings}

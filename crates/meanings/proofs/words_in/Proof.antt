@@ -1,7 +1,7 @@
 -- The rows before the one that is looked at have other numbers.
-use mathlib.Core.Path.{_≡_, refl, sym, ap, subst, _∙_}
+use mathlib.Core.Path.{sym, subst}
 use mathlib.Core.List.{List}
-use Prim.Native.Nat.{ℕ, _+_, _-_, _≤_}
+use Prim.Native.Nat.{ℕ, _+_, _-_, _<_, _≤_}
 use native.Mathlib.Omega.{arith}
 use lib.ListN.{length}
 use borrow.Author.Needs.{needs}
@@ -18,14 +18,18 @@ abbrev μ-loop : tie.MeasureT-loop
 loop-holds : tie.Need-loop-holds Inv-loop μ-loop
 loop-holds c = subst (λ (t : List ℕ). Seeking t (c .before .args .number) 0) (sym (c .before .pre)) (seek-start (c .before .args .number))
 
+-- the row that is looked at ends inside the table
+inside : (c : tie.After-line-end Inv-loop μ-loop) → (c .before .before .loop .row + 1 ≤ c .line-end .result) × (c .line-end .result < length (c .before .before .before .before .args .table .now))
+inside c = seek-inside (c .before .before .loop .inv) (c .before .loop-test .taken) (c .line-end .ensures)
+
 sub-result : tie.Need-sub-result Inv-loop μ-loop
-sub-result c = let i = seek-inside (c .before .before .before .before .loop .inv) (c .before .before .before .loop-test .taken) (c .before .before .line-end .ensures) in i .0
+sub-result c = inside (c .before .before) .0
 
 part-result-start : tie.Need-part-result-start Inv-loop μ-loop
-part-result-start c = let i = seek-inside (c .before .before .before .before .loop .inv) (c .before .before .before .loop-test .taken) (c .before .before .line-end .ensures) in omega (arith, i .0, i .1)
+part-result-start c = let i = inside (c .before .before) in omega (arith, i .0, i .1)
 
 part-result-end : tie.Need-part-result-end Inv-loop μ-loop
-part-result-end c = let i = seek-inside (c .before .before .before .before .loop .inv) (c .before .before .before .loop-test .taken) (c .before .before .line-end .ensures) in omega (arith, i .0, i .1)
+part-result-end c = let i = inside (c .before .before) in omega (arith, i .0, i .1)
 
 returns : tie.Need-returns Inv-loop μ-loop
 returns c =
@@ -33,13 +37,15 @@ returns c =
     seek-found (l .inv) (c .before .before .before .before .loop-test .taken) (c .before .before .before .line-end .ensures) (c .before .if1 .taken)
 
 add-row : tie.Need-add-row Inv-loop μ-loop
-add-row c = let i = seek-inside (c .before .before .before .before .loop .inv) (c .before .before .before .loop-test .taken) (c .before .before .line-end .ensures) in search (needs, i .1)
+add-row c = let i = inside (c .before .before) in search (needs, i .1)
 
 loop-less : tie.Need-loop-less Inv-loop μ-loop
-loop-less c = let i = seek-inside (c .before .before .before .before .loop .inv) (c .before .before .before .loop-test .taken) (c .before .before .line-end .ensures) in omega (arith, i .0, i .1)
+loop-less c = let i = inside (c .before .before) in omega (arith, i .0, i .1)
 
 loop-again : tie.Need-loop-again Inv-loop μ-loop
-loop-again c = seek-next (c .before .before .before .before .loop .inv) (c .before .before .before .loop-test .taken) (c .before .before .line-end .ensures) (c .if1 .left)
+loop-again c =
+    let l = c .before .before .before .before .loop in
+    seek-next (l .inv) (c .before .before .before .loop-test .taken) (c .before .before .line-end .ensures) (c .if1 .left)
 
 returns-2 : tie.Need-returns-2 Inv-loop μ-loop
 returns-2 c = seek-none (c .before .before .loop .inv) (c .before .loop-test .left)

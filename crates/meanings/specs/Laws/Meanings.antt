@@ -1,12 +1,11 @@
 -- Laws of the meanings: which numbers have one, how long each is, and the cases of writing one. Assumes nothing.
 use mathlib.Core.Path.{_≡_, refl, sym, ap, subst, _∙_}
 use mathlib.Core.Bool.{Bool, true, false, cond, _&&_, _||_}
-use mathlib.Core.List.{List, [], _∷_, _++_}
-use Prim.Native.Nat.{ℕ, _+_, _<_, _≤_}
+use mathlib.Core.List.{List, [], _∷_}
+use Prim.Native.Nat.{ℕ, _<_, _≤_}
 use native.Mathlib.Omega.{arith}
 use lib.Dec.{eqb, leb, ltb}
-use lib.ListN.{length, take, drop}
-use lib.Seq.{sets-eq, take-at}
+use lib.ListN.{length, take}
 use borrow.Author.Tests.{eqb-true, leb-true, ltb-true, le-leb, lt-leb}
 use Rattle.refusal.specs.declared.Refusal.{Refusal}
 use Rattle.refusal.specs.declared.Answer.{Answer}
@@ -16,6 +15,7 @@ use Rattle.refusal.specs.Laws.Table.{firstWith, refusalOf, refusalOf-refusalNum
 use Rattle.refusal.specs.Laws.Table as table
 use Rattle.numbers.specs.Laws.Tests.{and-left, and-right}
 use Rattle.text.specs.Put.{Put}
+use Rattle.text.specs.Laws.Put.{put-all, put-page}
 use Rattle.meanings.specs.Meanings.{Meaning, meanings, isIn, textIn, hasMeaning, meaningOf, meaningLimit, meaningAnswer, meaningBuffer}
 
 -- Every number of the table of refusals has a meaning
@@ -104,18 +104,9 @@ meaning-room n room l q = go (hasMeaning n) refl
 
 -- The cases of writing
 
--- a text put at the start of a buffer that has room for it
-put-start : {old text new : List ℕ} {next : ℕ} → Put old 0 text new next → length text ≤ length old → (next ≡ length text) × (new ≡ text ++ drop (length text) old)
-put-start {old} {text} {new} {next} p h =
-    let z : 0 + length text ≡ length text = omega arith in
-    (omega (arith, p .place), p .bytes ∙ sets-eq text old 0 (omega arith) ∙ ap (λ (k : ℕ). text ++ drop k old) z)
-
 -- a page with a meaning on it: its end, and the bytes up to there
 pub page-holds : {old new : List ℕ} {next : ℕ} (n : ℕ) → length old ≡ meaningLimit → Put old 0 (meaningOf n) new next → (next ≡ length (meaningOf n)) × (take next new ≡ meaningOf n)
-page-holds {old} {new} {next} n l p =
-    let m = meaning-most n in
-    let a = put-start p (omega arith) in
-    (a .0, ap (take next) (a .1) ∙ take-at (meaningOf n) (drop (length (meaningOf n)) old) next (sym (a .0)))
+page-holds {old} {new} {next} n l p = let m = meaning-most n in put-page p (omega arith)
 
 module _ (n : ℕ) (buffer : List ℕ) where
   -- what writing answers and leaves
@@ -150,4 +141,4 @@ module _ (n : ℕ) (buffer : List ℕ) where
     wrote-all {new} {page} {next} l e p =
         let t = le-leb (length (meaningOf n)) (length buffer) l in
         let q = subst (λ (x : List ℕ). Put buffer 0 x new next) e p in
-        (rw (has, t), put-start q l .1 ∙ rw (has, t))
+        (rw (has, t), put-all q l .1 ∙ rw (has, t))

@@ -17,6 +17,7 @@ use Rattle.refusal.specs.declared.Answer.the-variants.{Count, Refused}
 use Rattle.numbers.specs.BigEndian.{Bytes}
 use Rattle.counts.specs.Counts.{countLimit}
 use Rattle.text.specs.Put.{Put}
+use Rattle.text.specs.Laws.Put.{put-all}
 use Rattle.structure.specs.Accepted.{Accepted, verdictOf}
 use Rattle.structure.specs.Summary.{acceptedSummary, refused, summaryOf}
 use Rattle.structure.specs.Laws.Accepted.{accepted-exactly}
@@ -24,7 +25,7 @@ use Rattle.structure.specs.Laws.Summary.{verdict-most, verdict-refused, summary
 use Rattle.structure.specs.declared.Summary.{Summary}
 use Rattle.receipt.specs.declared.Receipt.{Receipt}
 use Rattle.receipt.specs.Receipt.{verdictLimit, fieldsLeast, fieldsMost, receiptLimit, pageRoom, numbered, written, rulesKept}
-use Rattle.receipt.specs.Laws.Rules.{put-all, page-holds, receipt-most}
+use Rattle.receipt.specs.Laws.Rules.{page-holds, receipt-most}
 use Rattle.receipt.specs.File.{unitsOf, receiptBy, ReceiptOf, accepts, refuses, Receipted, receiptText, receiptAnswer, receiptBuffer}
 
 -- The receipt's numbers

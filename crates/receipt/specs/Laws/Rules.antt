@@ -1,6 +1,6 @@
 -- The numbers of a receipt that keeps the rules are small, and so is its text: a page has room for it.
 -- Assumes nothing.
-use mathlib.Core.Path.{_≡_, refl, sym, ap, _∙_}
+use mathlib.Core.Path.{_≡_, refl}
 use mathlib.Core.Bool.{Bool, true, false, cond, _&&_}
 use mathlib.Core.List.{List, [], _∷_, _++_, append-assoc}
 use Prim.Native.Nat.{ℕ, zero, suc, _+_, _/_, _%_, _^_, _<_, _≤_}
@@ -8,8 +8,7 @@ use Prim.Native.String as Text
 use native.Mathlib.Omega.{arith}
 use native.Mathlib.Nat.{pow-suc}
 use lib.Dec.{eqb, ltb, leb}
-use lib.ListN.{length, length-append, take, drop}
-use lib.Seq.{take-at, sets-eq}
+use lib.ListN.{length, length-append, take}
 use borrow.Author.Tests.{eqb-true, ltb-true, ltb-false, leb-true}
 use Rattle.refusal.specs.Table.{accepted}
 use Rattle.numbers.specs.Laws.Tests.{and-left, and-right}
@@ -18,6 +17,7 @@ use Rattle.counts.specs.Counts.{countLimit}
 use Rattle.text.specs.Decimal.{glyph, decimal}
 use Rattle.text.specs.Put.{Put}
 use Rattle.text.specs.Laws.Decimal.{decimal-one, decimal-more, decimal-few}
+use Rattle.text.specs.Laws.Put.{put-page}
 use Rattle.text.specs.Ascii.{ascii}
 use Rattle.receipt.specs.declared.Receipt.{Receipt}
 use Rattle.receipt.specs.Receipt.{stationLimit, jobLimit, verdictLimit, fieldsLeast, fieldsMost, receiptLimit, pageRoom, numbered, acceptedRight, refusedRight, line, namedLine, written, rulesKept}
@@ -156,18 +156,9 @@ written-most r =
     let j = line-most "units" (r .units) in
     simp length-append (omega arith)
 
--- all bytes are put where there is room for them
-pub put-all : {old xs new : List ℕ} {next : ℕ} → Put old 0 xs new next → length xs ≤ length old → (next ≡ length xs) × (new ≡ xs ++ drop (length xs) old)
-put-all {old} {xs} {new} {next} p h =
-    let z : 0 + length xs ≡ length xs = omega arith in
-    (omega (arith, p .place), p .bytes ∙ sets-eq xs old 0 (omega arith) ∙ ap (λ (k : ℕ). xs ++ drop k old) z)
-
 -- a page has room for them
 pub page-holds : (r : Receipt) {old new : List ℕ} {next : ℕ} → length old ≡ pageRoom → Put old 0 (written r) new next → (next ≡ length (written r)) × (take next new ≡ written r)
-page-holds r {old} {new} {next} l p =
-    let m = written-most r in
-    let a = put-all p (omega arith) in
-    (a .0, ap (take next) (a .1) ∙ take-at (written r) (drop (length (written r)) old) next (sym (a .0)))
+page-holds r {old} {new} {next} l p = let m = written-most r in put-page p (omega arith)
 
 -- How long a receipt is that keeps the rules
 

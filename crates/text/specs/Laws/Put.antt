@@ -5,8 +5,8 @@ use mathlib.Core.List.{List, [], _∷_, _++_}
 use Prim.Native.Nat.{ℕ, suc, _+_, _-_, _≤_, min}
 use native.Mathlib.Omega.{arith}
 use lib.Dec.{ltb}
-use lib.ListN.{length, set, length-append, length-set}
-use lib.Seq.{sets, length-sets, set-out}
+use lib.ListN.{length, set, take, drop, length-append, length-set}
+use lib.Seq.{sets, sets-eq, length-sets, set-out, take-at}
 use borrow.Author.Tests.{ltb-true, ltb-false}
 use Rattle.text.specs.Put.{Put}
 
@@ -56,6 +56,17 @@ module _ {s t new : List ℕ} {at next : ℕ} (h : Put s at t new next) where
   -- bytes that are equal are put alike
   pub put-as : {u : List ℕ} → u ≡ t → Put s at u new next
   put-as {u} e = record { bytes = h .bytes ∙ ap (sets s at) (sym e); place = omega (arith, h .place, ap length e) }
+
+-- a text at the start of a buffer that has room for it: all of the buffer, and the text again
+pub put-all : {old text new : List ℕ} {next : ℕ} → Put old 0 text new next → length text ≤ length old → (next ≡ length text) × (new ≡ text ++ drop (length text) old)
+put-all {old} {text} {new} {next} p h =
+    let z : 0 + length text ≡ length text = omega arith in
+    (omega (arith, p .place), p .bytes ∙ sets-eq text old 0 (omega arith) ∙ ap (λ (k : ℕ). text ++ drop k old) z)
+
+pub put-page : {old text new : List ℕ} {next : ℕ} → Put old 0 text new next → length text ≤ length old → (next ≡ length text) × (take next new ≡ text)
+put-page {old} {text} {new} {next} p h =
+    let a = put-all p h in
+    (a .0, ap (take next) (a .1) ∙ take-at text (drop (length text) old) next (sym (a .0)))
 
 -- no bytes
 pub put-none : (s : List ℕ) (at : ℕ) → Put s at [] s at
