@@ -52,7 +52,7 @@ uint32_t mmtf_version(void);
 #define MMTF_NAME_LIMIT 255        /* bytes of a name in a column of strings */
 #define MMTF_EXACT_LIMIT 16777216  /* size of an integer or a divisor that is exact in single precision */
 #define MMTF_COUNT_LIMIT 16777216  /* models, chains, groups, atoms and bonds, of each */
-#define MMTF_TYPE_LIMIT 4096       /* group types */
+#define MMTF_GROUP_TYPE_LIMIT 4096 /* group types */
 #define MMTF_STATION_LIMIT 99      /* stations, counted from 1 */
 #define MMTF_JOB_LIMIT 999999      /* jobs, counted from 1 */
 

@@ -89,7 +89,7 @@ fn limits() {
         ("MMTF_NAME_LIMIT", 255),
         ("MMTF_EXACT_LIMIT", EXACT_LIMIT as usize),
         ("MMTF_COUNT_LIMIT", 16_777_216),
-        ("MMTF_TYPE_LIMIT", 4_096),
+        ("MMTF_GROUP_TYPE_LIMIT", 4_096),
         ("MMTF_STATION_LIMIT", 99),
         ("MMTF_JOB_LIMIT", 999_999),
         ("MMTF_HEADER_SIZE", HEADER),
