@@ -50,7 +50,7 @@ static inline int say_refused(uint8_t refusal) {
     return STATUS_REFUSED;
 }
 
-/* The status of what was printed: standard output may be closed or on a full disk, so that nothing is done before this. */
+/* Flushes standard output, which may be closed or on a full disk: only then the data count as written, with this status. */
 static inline int end_output(int status) {
     if (fflush(stdout) != 0 || ferror(stdout)) {
         fprintf(stderr, "The output was not written whole: %s.\n", strerror(errno));
