@@ -1,3 +1,4 @@
 -- What is proved of the definitions of `station`.
 pub mod Output
 pub mod Reading
+pub mod Receipts

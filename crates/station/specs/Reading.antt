@@ -6,13 +6,24 @@ use Rattle.refusal.specs.declared.Answer.the-variants as answer
 use Rattle.decoding.specs.declared.Fixed.{Fixed}
 use Rattle.decoding.specs.declared.Fixed.the-variants as fixed
 use Rattle.station.specs.declared.files.Contents.{Contents}
-use Rattle.station.specs.declared.files.Contents.the-variants.{Bytes, TooLong, Failed}
+use Rattle.station.specs.declared.files.End.{End}
 
 -- the bytes of a file that was read are no more than the buffer has
 abbrev pub Within : Contents → ℕ → Type 0
-Within (Bytes n) room = n ≤ room
-Within TooLong room = Unit {0}
-Within Failed room = Unit {0}
+Within (Contents.Bytes n) room = n ≤ room
+Within Contents.None room = Unit {0}
+
+-- an input ended after no more bytes than the buffer has, if it did
+abbrev pub Ended : End → ℕ → Type 0
+Ended (End.After n) room = n ≤ room
+Ended End.TooLong room = Unit {0}
+Ended (End.Failed reason) room = Unit {0}
+
+-- the bytes of an input that ended
+abbrev pub contentsOf : End → Contents
+contentsOf (End.After n) = Contents.Bytes n
+contentsOf End.TooLong = Contents.None
+contentsOf (End.Failed reason) = Contents.None
 
 -- a decoder's count is within the room of its buffer
 abbrev pub AnswerWithin : Answer → ℕ → Type 0

@@ -1,11 +1,26 @@
--- The commands of the program by their words. No lemma stands here. Assumes nothing.
-use mathlib.Core.Bool.{cond}
+-- The words of the program: its commands, how many words each takes, and what they say. No lemma stands here. Assumes nothing.
+use mathlib.Core.Bool.{Bool, true, cond}
 use mathlib.Core.List.{List}
 use Prim.Native.Nat.{ℕ}
+use lib.Dec.{eqb, leb, ltb}
+use Rattle.refusal.specs.Table.{bufferTooSmall}
+use Rattle.sentences.specs.declared.OfPart.{OfPart}
 use Rattle.text.specs.Equal.{equal}
 use Rattle.text.specs.Ascii.{ascii}
+use Rattle.text.specs.Decimal.{numberIn}
+use Rattle.text.specs.declared.Number.{Number}
+use Rattle.station.specs.declared.words.Asked.{Asked}
 use Rattle.station.specs.declared.words.Command.{Command}
-use Rattle.station.specs.declared.words.Command.the-variants.{Check, Receipt, View, Column, Help, Unknown}
+use Rattle.station.specs.declared.words.Command.the-variants.{Check, Receipt, View, Column, Help, Version, Unknown}
+
+-- the command about the program itself that a word names
+abbrev pub aboutOf : List ℕ → Command
+aboutOf word =
+    cond (equal word (ascii "help")) Help
+    (cond (equal word (ascii "--help")) Help
+    (cond (equal word (ascii "-h")) Help
+    (cond (equal word (ascii "--version")) Version
+    Unknown)))
 
 -- the command that a word names
 abbrev pub commandOf : List ℕ → Command
@@ -14,23 +29,41 @@ commandOf word =
     (cond (equal word (ascii "receipt")) Receipt
     (cond (equal word (ascii "view")) View
     (cond (equal word (ascii "column")) Column
-    (cond (equal word (ascii "help")) Help
-    Unknown))))
+    (aboutOf word))))
 
--- how many words a command has, the program's name and its own among them
-abbrev pub countOf : Command → ℕ
-countOf Check = 3
-countOf Receipt = 5
-countOf View = 4
-countOf Column = 4
-countOf Help = 2
-countOf Unknown = 2
+-- are there as many words as a command takes? The program's name, the descriptor and the command are counted
+abbrev pub wordsFit : Command → ℕ → Bool
+wordsFit Check n = leb 4 n
+wordsFit Receipt n = eqb n 6
+wordsFit View n = eqb n 5
+wordsFit Column n = eqb n 5
+wordsFit Help n = true
+wordsFit Version n = true
+wordsFit Unknown n = true
 
--- which of the words is the file's name
+-- which of the words is the file's name, or the first of them
 abbrev pub filePlace : Command → ℕ
-filePlace Check = 2
-filePlace Receipt = 4
-filePlace View = 2
-filePlace Column = 2
-filePlace Help = 0
-filePlace Unknown = 0
+filePlace Check = 3
+filePlace Receipt = 5
+filePlace View = 3
+filePlace Column = 3
+filePlace Help = 3
+filePlace Version = 3
+filePlace Unknown = 3
+
+-- a number that a command asks for, 1 to a limit
+abbrev pub askedBy : Number → ℕ → Asked
+askedBy Number.None limit = Asked.NoNumber
+askedBy (Number.Is n) limit = cond (ltb n 1) Asked.Outside (cond (ltb limit n) Asked.Outside (Asked.Is n))
+
+-- the number that a word says, if it is 1 to a limit
+abbrev pub askedOf : List ℕ → ℕ → Asked
+askedOf word limit = askedBy (numberIn word) limit
+
+-- what is said of a column that is refused with a number
+abbrev pub partOf : ℕ → OfPart
+partOf n = cond (eqb n bufferTooSmall) OfPart.NotShown (OfPart.Refused n)
+
+-- does a file's name stand for standard input?
+abbrev pub isInput : List ℕ → Bool
+isInput path = equal path (ascii "-")

@@ -1,132 +1,215 @@
-// The service desk's command: whether a structure file is accepted, its receipt, its parts and its columns. Data go to standard output, sentences to
-// standard error.
+// The service desk's command: whether structure files are accepted, a file's receipt, its parts and its columns. Data go to standard output,
+// sentences to standard error. The first word is the number of a descriptor, and the last act is to write the status there, one digit.
+mod about;
 mod files;
 mod output;
+mod receipts;
 mod say;
 mod shown;
+mod status;
 mod words;
 
 use files::Contents;
-use refusal::Answer;
+use receipts::Made;
+use sentences::OfPart;
+use sentences::OfWord;
 use sentences::Sentence;
-use text::Number;
+use shown::Shown;
+use status::Descriptor;
+use status::Status;
+use words::Asked;
 use words::Command;
 
+// What is done with a file.
+pub enum Task {
+    Check,
+    Receipt(u32, u32),
+    View,
+    Column,
+}
+
 fn main() {
-    if os::arg_count() < 2 {
-        words::say_usage(libc::STDERR_FILENO);
-        return;
-    }
     let mut word = io::buffer();
     let n = os::arg(1, &mut word);
-    start(words::command_of(&word[..n]), &word[..n]);
+    match status::descriptor_of(&word[..n]) {
+        Descriptor::At(descriptor) => status::write(descriptor, start()),
+        Descriptor::None => about::say_bare(),
+    }
 }
 
-// Starts a command, if it is one and has as many words as it takes.
-fn start(command: Command, word: &[u8]) {
+// Obeys the command that the second word names.
+fn start() -> Status {
+    if os::arg_count() < 3 {
+        about::write_usage(libc::STDERR_FILENO);
+        return Status::Nothing;
+    }
+    let mut word = io::buffer();
+    let n = os::arg(2, &mut word);
+    obey(words::command_of(&word[..n]), &word[..n])
+}
+
+// Obeys a command, if it has as many words as it takes.
+fn obey(command: Command, word: &[u8]) -> Status {
+    if !words::fits(command, os::arg_count()) {
+        about::say_usage_of(command);
+        return Status::Nothing;
+    }
     match command {
-        Command::Help => words::say_usage(libc::STDOUT_FILENO),
-        Command::Unknown => words::say_unknown(word),
-        _ => {
-            if os::arg_count() == words::count_of(command) {
-                run(command);
-            } else {
-                words::say_takes(command);
-            }
+        Command::Check => check_all(os::arg_count()),
+        Command::Receipt => receipt_of(),
+        Command::View => with_file(Task::View, words::file_place(command)),
+        Command::Column => with_file(Task::Column, words::file_place(command)),
+        Command::Help => status::of_written(about::write_usage(libc::STDOUT_FILENO)),
+        Command::Version => status::of_written(about::write_version()),
+        Command::Unknown => {
+            say::say(word, b"", Sentence::Word(OfWord::NoCommand));
+            Status::Nothing
         }
     }
 }
 
-// Reads the file of a command, and answers the command.
-fn run(command: Command) {
-    let mut path = io::buffer();
-    let n = os::arg(words::file_place(command), &mut path);
-    if os::errno() != 0 {
-        say::say_long_word();
-        return;
+// Says the verdict on each file that is named, and answers the worst status.
+fn check_all(count: usize) -> Status {
+    let mut worst = Status::Done;
+    let mut place = words::file_place(Command::Check);
+    while place < count {
+        worst = status::worst_of(worst, with_file(Task::Check, place));
+        place += 1;
     }
-    let mut file = io::large_buffer();
-    match files::read(&path[..n], &mut file) {
-        Contents::Bytes(m) => answer(command, &path[..n], &file[..m]),
-        Contents::TooLong => say::say(&path[..n], b"", Sentence::TooLong),
-        Contents::Failed => {}
-    }
+    worst
 }
 
-// Answers a command about a file.
-fn answer(command: Command, path: &[u8], file: &[u8]) {
-    match command {
-        Command::Receipt => write_receipt(path, file),
-        Command::View => view(path, file),
-        Command::Column => column(path, file),
-        _ => check(path, file),
-    }
-}
-
-// Says the verdict on a file.
-fn check(path: &[u8], file: &[u8]) {
-    say::say(path, b"", Sentence::Verdict(structure::verdict(file)));
-}
-
-// Writes the receipt of a file, and says the verdict.
-fn write_receipt(path: &[u8], file: &[u8]) {
-    let Number::Is(station) = number_at(2) else {
-        return;
+// Writes the receipt of a file, if station and job are in range.
+fn receipt_of() -> Status {
+    let Asked::Is(station) = number_at(3, receipt::STATION_LIMIT, OfWord::NoStation) else {
+        return Status::Nothing;
     };
-    let Number::Is(job) = number_at(3) else {
-        return;
+    let Asked::Is(job) = number_at(4, receipt::JOB_LIMIT, OfWord::NoJob) else {
+        return Status::Nothing;
     };
-    let mut buffer = io::buffer();
-    match receipt::write(station, job, file, &mut buffer) {
-        Answer::Refused(r) => say::say(path, b"", Sentence::NoReceipt(r)),
-        Answer::Count(n) => {
-            output::write(&buffer[..n]);
-            check(path, file);
-        }
-    }
+    with_file(
+        Task::Receipt(station, job),
+        words::file_place(Command::Receipt),
+    )
 }
 
-// The number that a word of the command says; or says that it is none.
-fn number_at(place: usize) -> Number {
+// The number that a word says; or says that it is none, or what it is not.
+fn number_at(place: usize, limit: u32, outside: OfWord) -> Asked {
     let mut word = io::buffer();
     let n = os::arg(place, &mut word);
     if os::errno() != 0 {
         say::say_long_word();
-        return Number::None;
+        return Asked::NoNumber;
     }
-    let number = text::number_of(&word[..n]);
-    if let Number::None = number {
-        say::say(&word[..n], b"", Sentence::NoNumber);
+    let asked = words::number_in(&word[..n], limit);
+    match asked {
+        Asked::Is(_) => {}
+        Asked::Outside => say::say(&word[..n], b"", Sentence::Word(outside)),
+        Asked::NoNumber => say::say(&word[..n], b"", Sentence::Word(OfWord::NoNumber)),
     }
-    number
+    asked
+}
+
+// Reads the file that a word names, and does a task with it.
+fn with_file(task: Task, place: usize) -> Status {
+    let mut path = io::buffer();
+    let n = os::arg(place, &mut path);
+    if os::errno() != 0 {
+        say::say_long_word();
+        return Status::Nothing;
+    }
+    let mut file = io::large_buffer();
+    match files::read(&path[..n], &mut file) {
+        Contents::Bytes(m) => answer(task, &path[..n], &file[..m]),
+        Contents::None => Status::Nothing,
+    }
+}
+
+// Does a task with a file.
+fn answer(task: Task, path: &[u8], file: &[u8]) -> Status {
+    match task {
+        Task::Check => check(path, file),
+        Task::Receipt(station, job) => write_receipt(path, file, station, job),
+        Task::View => view(path, file),
+        Task::Column => column(path, file),
+    }
+}
+
+// Writes the verdict on a file to standard output.
+fn check(path: &[u8], file: &[u8]) -> Status {
+    let verdict = structure::verdict(file);
+    if !say::write_verdict(libc::STDOUT_FILENO, path, file, verdict) {
+        say::say_unwritten();
+        return Status::Nothing;
+    }
+    status::of_verdict(verdict)
+}
+
+// Writes the receipt of a file, and then says the verdict that it has.
+fn write_receipt(path: &[u8], file: &[u8], station: u32, job: u32) -> Status {
+    let mut buffer = io::buffer();
+    match receipts::make(station, job, file, &mut buffer) {
+        Made::Refused(number) => {
+            say::write_verdict(libc::STDERR_FILENO, path, file, number);
+            Status::Nothing
+        }
+        Made::Receipt(n, verdict) => {
+            if !output::write(&buffer[..n]) {
+                return Status::Nothing;
+            }
+            say::write_verdict(libc::STDERR_FILENO, path, file, verdict);
+            status::of_verdict(verdict)
+        }
+    }
 }
 
 // Writes the part of a file under a name.
-fn view(path: &[u8], file: &[u8]) {
+fn view(path: &[u8], file: &[u8]) -> Status {
     let mut name = io::buffer();
-    let n = os::arg(3, &mut name);
+    let n = os::arg(4, &mut name);
     if os::errno() != 0 {
         say::say_long_word();
-        return;
+        return Status::Nothing;
     }
     let number = views::view_refusal(file, &name[..n]);
-    if number == refusal::ACCEPTED {
-        output::write(views::view(file, &name[..n]));
-    } else {
-        say::say(path, &name[..n], Sentence::NoView(number));
+    if number != refusal::ACCEPTED {
+        return no_view(path, file, &name[..n], number);
     }
+    status::of_written(output::write(views::view(file, &name[..n])))
 }
 
 // Writes the values of the column under a name of a file.
-fn column(path: &[u8], file: &[u8]) {
+fn column(path: &[u8], file: &[u8]) -> Status {
     let mut name = io::buffer();
-    let n = os::arg(3, &mut name);
+    let n = os::arg(4, &mut name);
     if os::errno() != 0 {
         say::say_long_word();
-        return;
+        return Status::Nothing;
     }
-    let number = shown::write_column(file, &name[..n]);
+    let number = views::view_refusal(file, &name[..n]);
     if number != refusal::ACCEPTED {
-        say::say(path, &name[..n], Sentence::NoColumn(number));
+        return no_view(path, file, &name[..n], number);
     }
+    if !views::is_binary(file, &name[..n]) {
+        return no_part(path, &name[..n], OfPart::NoColumn);
+    }
+    match shown::write_column(views::view(file, &name[..n])) {
+        Shown::Written(whole) => status::of_written(whole),
+        Shown::Refused(refused) => no_part(path, &name[..n], words::part_of(refused)),
+    }
+}
+
+// Says why there is no view: the file is refused, or has no such field.
+fn no_view(path: &[u8], file: &[u8], name: &[u8], number: u8) -> Status {
+    if number == refusal::NO_SUCH_FIELD {
+        return no_part(path, name, OfPart::NoField);
+    }
+    say::write_verdict(libc::STDERR_FILENO, path, file, number);
+    status::of_verdict(number)
+}
+
+// Says why a part of a file was not written.
+fn no_part(path: &[u8], name: &[u8], said: OfPart) -> Status {
+    say::say(path, name, Sentence::Part(said));
+    status::of_part(said)
 }

@@ -1,49 +1,52 @@
-// Data on standard output, in large pieces.
+// Data on standard output, in large pieces. Each function answers whether all was written, and says why where it was not.
+use crate::say;
 
-// Writes bytes to standard output, and says so where that fails.
+// Writes bytes to standard output.
 pub(crate) fn write(bytes: &[u8]) -> bool {
     write_to(libc::STDOUT_FILENO, bytes)
 }
 
-// Writes bytes to a descriptor, and says so where that fails.
+// Writes bytes to a descriptor.
 pub(crate) fn write_to(descriptor: i32, bytes: &[u8]) -> bool {
     let written = io::write_all(descriptor, bytes);
     if !written {
-        os::fail(b"The output cannot be written");
+        say::say_unwritten();
     }
     written
 }
 
 // Writes numbers over a divisor, a line each.
-pub(crate) fn write_numbers(values: &[i32], divisor: u32) {
+pub(crate) fn write_numbers(values: &[i32], divisor: u32) -> bool {
     let mut buffer = io::large_buffer();
     let mut from: usize = 0;
     while from < values.len() {
         let part = lines::number_lines(&values[from..], divisor, &mut buffer);
         let n = part.bytes;
         if !write(&buffer[..n]) {
-            return;
+            return false;
         }
         from += part.values;
     }
+    true
 }
 
 // Writes floats by their bits, a line each.
-pub(crate) fn write_floats(values: &[u32]) {
+pub(crate) fn write_floats(values: &[u32]) -> bool {
     let mut buffer = io::large_buffer();
     let mut from: usize = 0;
     while from < values.len() {
         let part = lines::float_lines(&values[from..], &mut buffer);
         let n = part.bytes;
         if !write(&buffer[..n]) {
-            return;
+            return false;
         }
         from += part.values;
     }
+    true
 }
 
 // Writes names of a size, a line each.
-pub(crate) fn write_names(names: &[u8], size: usize) {
+pub(crate) fn write_names(names: &[u8], size: usize) -> bool {
     let mut buffer = io::large_buffer();
     let mut from: usize = 0;
     while from < names.len() {
@@ -51,11 +54,12 @@ pub(crate) fn write_names(names: &[u8], size: usize) {
         let n = part.bytes;
         let step = part.values * size;
         if step == 0 {
-            return;
+            return true;
         }
         if !write(&buffer[..n]) {
-            return;
+            return false;
         }
         from += step;
     }
+    true
 }

@@ -14,19 +14,16 @@ const VALUES: usize = 65536;
 
 const FLOATS: usize = 16384;
 
-// Writes the values of the column under a name of a file; or answers the refusal.
-pub(crate) fn write_column(file: &[u8], name: &[u8]) -> u8 {
-    let number = views::view_refusal(file, name);
-    if number != refusal::ACCEPTED {
-        return number;
-    }
-    show_column(views::view(file, name))
+// What became of a column: whether its values were written whole, or the number of the refusal.
+pub enum Shown {
+    Written(bool),
+    Refused(u8),
 }
 
-// Writes the values of a column; or answers the refusal.
-fn show_column(column: &[u8]) -> u8 {
+// Writes the values of a column.
+pub(crate) fn write_column(column: &[u8]) -> Shown {
     match columns::read_header(column, Wanted::Any) {
-        Header::Refused(r) => r,
+        Header::Refused(r) => Shown::Refused(r),
         Header::Good(_, size, kind, _, _) => match kind {
             Kind::Float32 => show_floats(column),
             Kind::Strings => show_bytes(column, kind, size as usize),
@@ -36,15 +33,15 @@ fn show_column(column: &[u8]) -> u8 {
     }
 }
 
-// Writes the values of a column of integers or fixed point; or answers the refusal.
-fn show_numbers(column: &[u8], kind: Kind) -> u8 {
+// Writes the values of a column of integers or fixed point.
+fn show_numbers(column: &[u8], kind: Kind) -> Shown {
     let mut buffer = no_numbers();
     match decode_numbers(column, kind, &mut buffer) {
-        Fixed::Refused(r) => r,
-        Fixed::Column(n, divisor) => {
-            output::write_numbers(&buffer[..n], numbers::to_u32(divisor));
-            refusal::ACCEPTED
-        }
+        Fixed::Refused(r) => Shown::Refused(r),
+        Fixed::Column(n, divisor) => Shown::Written(output::write_numbers(
+            &buffer[..n],
+            numbers::to_u32(divisor),
+        )),
     }
 }
 
@@ -70,27 +67,21 @@ fn whole(answer: Answer) -> Fixed
     }
 }
 
-// Writes the floats of a column; or answers the refusal.
-fn show_floats(column: &[u8]) -> u8 {
+// Writes the floats of a column.
+fn show_floats(column: &[u8]) -> Shown {
     let mut buffer = no_floats();
     match floats::decode_float32(column, &mut buffer) {
-        Answer::Refused(r) => r,
-        Answer::Count(n) => {
-            output::write_floats(&buffer[..n]);
-            refusal::ACCEPTED
-        }
+        Answer::Refused(r) => Shown::Refused(r),
+        Answer::Count(n) => Shown::Written(output::write_floats(&buffer[..n])),
     }
 }
 
-// Writes the characters or the strings of a column; or answers the refusal.
-fn show_bytes(column: &[u8], kind: Kind, size: usize) -> u8 {
+// Writes the characters or the strings of a column.
+fn show_bytes(column: &[u8], kind: Kind, size: usize) -> Shown {
     let mut buffer = io::large_buffer();
     match decode_bytes(column, kind, &mut buffer) {
-        Answer::Refused(r) => r,
-        Answer::Count(n) => {
-            output::write_names(&buffer[..n], size);
-            refusal::ACCEPTED
-        }
+        Answer::Refused(r) => Shown::Refused(r),
+        Answer::Count(n) => Shown::Written(output::write_names(&buffer[..n], size)),
     }
 }
 

@@ -1,9 +1,8 @@
 // The words of a command.
 ghost use mathlib.Core.Path.{_≡_};
-ghost use Rattle.station.specs.Words.{commandOf, countOf, filePlace};
-use crate::output;
-use crate::say;
-use sentences::Sentence;
+ghost use Rattle.station.specs.Words.{commandOf, aboutOf, wordsFit, filePlace, askedOf, partOf, isInput};
+use sentences::OfPart;
+use text::Number;
 
 pub enum Command {
     Check,
@@ -11,7 +10,15 @@ pub enum Command {
     View,
     Column,
     Help,
+    Version,
     Unknown,
+}
+
+// A number that a command asks for: in its range, outside it, or no number.
+pub enum Asked {
+    Is(u32),
+    Outside,
+    NoNumber,
 }
 
 // The command that a word names.
@@ -30,81 +37,87 @@ pub(crate) fn command_of(word: &[u8]) -> Command
     if text::same_bytes(word, b"column") {
         return Command::Column;
     }
+    about_of(word)
+}
+
+// The command about the program itself that a word names.
+fn about_of(word: &[u8]) -> Command
+    ensures { λ r. ⌜ r ≡ aboutOf (now (word .entry)) ⌝ }
+{
     if text::same_bytes(word, b"help") {
         return Command::Help;
+    }
+    if text::same_bytes(word, b"--help") {
+        return Command::Help;
+    }
+    if text::same_bytes(word, b"-h") {
+        return Command::Help;
+    }
+    if text::same_bytes(word, b"--version") {
+        return Command::Version;
     }
     Command::Unknown
 }
 
-// How many words a command has, the program's name and its own among them.
-pub(crate) fn count_of(command: Command) -> usize
-    ensures { λ r. ⌜ r ≡ countOf command ⌝ }
+// Whether a command has as many words as it takes: count is that of all words, the program's name, the descriptor and the command among them.
+pub(crate) fn fits(command: Command, count: usize) -> bool
+    ensures { λ r. ⌜ r ≡ wordsFit command count ⌝ }
 {
     match command {
-        Command::Check => 3,
-        Command::Receipt => 5,
-        Command::View => 4,
-        Command::Column => 4,
-        Command::Help => 2,
-        Command::Unknown => 2,
+        Command::Check => 4 <= count,
+        Command::Receipt => count == 6,
+        Command::View => count == 5,
+        Command::Column => count == 5,
+        Command::Help => true,
+        Command::Version => true,
+        Command::Unknown => true,
     }
 }
 
-// Which of the words is the file's name.
+// Which of the words is the file's name, or the first of them.
 pub(crate) fn file_place(command: Command) -> usize
     ensures { λ r. ⌜ r ≡ filePlace command ⌝ }
 {
     match command {
-        Command::Check => 2,
-        Command::Receipt => 4,
-        Command::View => 2,
-        Command::Column => 2,
-        Command::Help => 0,
-        Command::Unknown => 0,
+        Command::Check => 3,
+        Command::Receipt => 5,
+        Command::View => 3,
+        Command::Column => 3,
+        Command::Help => 3,
+        Command::Version => 3,
+        Command::Unknown => 3,
     }
 }
 
-// Says that a command takes other words.
-pub(crate) fn say_takes(command: Command) {
-    match command {
-        Command::Check => output::write_to(
-            libc::STDERR_FILENO,
-            b"station check takes one word more: FILE.\n",
-        ),
-        Command::Receipt => output::write_to(
-            libc::STDERR_FILENO,
-            b"station receipt takes three words more: STATION JOB FILE.\n",
-        ),
-        Command::View => output::write_to(
-            libc::STDERR_FILENO,
-            b"station view takes two words more: FILE NAME.\n",
-        ),
-        Command::Column => output::write_to(
-            libc::STDERR_FILENO,
-            b"station column takes two words more: FILE NAME.\n",
-        ),
-        _ => true,
+// The number that a word says, if it is 1 to a limit.
+pub(crate) fn number_in(word: &[u8], limit: u32) -> Asked
+    ensures { λ r. ⌜ r ≡ askedOf (now (word .entry)) limit ⌝ }
+{
+    let Number::Is(number) = text::number_of(word) else {
+        return Asked::NoNumber;
+    };
+    if number < 1 {
+        return Asked::Outside;
     }
-    ;
+    if limit < number {
+        return Asked::Outside;
+    }
+    Asked::Is(number)
 }
 
-// Says that a word is no command, and which there are.
-pub(crate) fn say_unknown(word: &[u8]) {
-    say::say(word, b"", Sentence::NoCommand);
-    say_usage(libc::STDERR_FILENO);
+// What is said of a column that is refused with a number.
+pub(crate) fn part_of(number: u8) -> OfPart
+    ensures { λ r. ⌜ r ≡ partOf number ⌝ }
+{
+    if number == refusal::BUFFER_TOO_SMALL {
+        return OfPart::NotShown;
+    }
+    OfPart::Refused(number)
 }
 
-// Writes how the program is used.
-pub(crate) fn say_usage(descriptor: i32) {
-    output::write_to(
-        descriptor,
-        b"station check FILE                 says whether a structure file is accepted, or why it is refused\n\
-        station receipt STATION JOB FILE   writes the receipt of the file\n\
-        station view FILE NAME             writes the part of the file under NAME\n\
-        station column FILE NAME           writes the values of the column under NAME, one to a line\n\
-        station help                       writes this text\n\
-        \n\
-        STATION is 1 to 99, JOB 1 to 999,999. FILE has at most 65,536 bytes. NAME is an outer key of the file,\n\
-        as structureId or xCoordList. Data go to standard output, sentences to standard error.\n",
-    );
+// Whether a file's name stands for standard input.
+pub(crate) fn is_input(path: &[u8]) -> bool
+    ensures { λ r. ⌜ r ≡ isInput (now (path .entry)) ⌝ }
+{
+    text::same_bytes(path, b"-")
 }

@@ -3,3 +3,4 @@ pub mod Shown
 pub mod Search
 pub mod View
 pub mod Unique
+pub mod Binary

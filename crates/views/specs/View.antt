@@ -2,8 +2,9 @@
 -- Stated from documents outwards: an entry and its writing, with what stands before and after it. The place and the part are given by the
 -- definitions of Place.antt. No lemma stands here. Assumes nothing.
 use mathlib.Core.Path.{_≡_}
-use mathlib.Core.Bool.{Bool, false, cond, _||_}
+use mathlib.Core.Bool.{Bool, true, false, cond, _||_}
 use mathlib.Core.List.{List, [], _++_}
+use mathlib.Core.Option.{Option, some, none}
 use Prim.Native.Nat.{ℕ, suc, _+_, _-_, _<_}
 use lib.Dec.{eqb}
 use lib.ListN.{length}
@@ -15,7 +16,7 @@ use Rattle.messagepack.specs.Document.{Document, Entries, integer, float, strin
 use Rattle.messagepack.specs.Rules.{Container}
 use Rattle.messagepack.specs.Walk.{containerNumber}
 use Rattle.messagepack.specs.Read.{documentOf}
-use Rattle.values.specs.Parts.{entriesOf}
+use Rattle.values.specs.Parts.{entriesOf, look}
 use Rattle.views.specs.declared.Place.{Place}
 
 -- in the file, which is a map's writing, the value x of the outer key name is written w
@@ -63,6 +64,20 @@ hasKey name (entry k x es) = equal k name || hasKey name es
 unfoldable pub viewNumber : List ℕ → List ℕ → ℕ
 viewNumber file name =
     cond (eqb (containerNumber file) accepted) (cond (hasKey name (entriesOf (documentOf file))) accepted noSuchField) (containerNumber file)
+
+-- is a value there, and a binary?
+abbrev pub isBinaryValue : Option Document → Bool
+isBinaryValue (some (binary t)) = true
+isBinaryValue (some (integer v)) = false
+isBinaryValue (some (float bits)) = false
+isBinaryValue (some (string t)) = false
+isBinaryValue (some (array ds)) = false
+isBinaryValue (some (map es)) = false
+isBinaryValue none = false
+
+-- is the value under an outer key of a container a binary?
+unfoldable pub binaryUnder : List ℕ → List ℕ → Bool
+binaryUnder file name = cond (eqb (containerNumber file) accepted) (isBinaryValue (look name (entriesOf (documentOf file)))) false
 
 -- the place of the part, or the refusal where there is none
 pub data Placed (file name : List ℕ) : Place → Type 0 where

@@ -5,7 +5,7 @@ ghost use Prim.Native.Nat.{ℕ, _-_};
 ghost use Rattle.heads.specs.Table.{leadTable};
 ghost use Rattle.heads.specs.Head.{headAt};
 ghost use Rattle.values.specs.Standing.{Standing};
-ghost use Rattle.views.specs.View.{Viewable, viewNumber};
+ghost use Rattle.views.specs.View.{Viewable, viewNumber, binaryUnder};
 ghost use Rattle.views.specs.Place.{isText, bodyPlace, entryPlace, placeOf, partOf};
 ghost use Rattle.views.specs.Shown.{ShowsAt, Ahead};
 ghost use Rattle.views.specs.declared.Place.{Place};
@@ -37,6 +37,25 @@ pub fn view_refusal(file: &[u8], name: &[u8]) -> u8
         Place::At(_, _) => refusal::ACCEPTED,
         Place::Refused(n) => n,
     }
+}
+
+// Whether the outer key's value is a binary, as that of a column is. It is not in a file that is no container or has no such key.
+pub fn is_binary(file: &[u8], name: &[u8]) -> bool
+    ensures { λ r. ⌜ r ≡ binaryUnder (now (file .entry)) (now (name .entry)) ⌝ }
+{
+    if messagepack::container(file) != refusal::ACCEPTED {
+        return false;
+    }
+    let leads = heads::leads();
+    let at = values::keys::find(&leads, file, 0, name);
+    if at == 0 {
+        return false;
+    }
+    let kind = heads::kind_at(&leads, file, at);
+    if let Kind::Bin = kind {
+        return true;
+    }
+    false
 }
 
 // The place of the part in the file, or the refusal.

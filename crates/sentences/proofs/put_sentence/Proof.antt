@@ -1,4 +1,4 @@
--- Each arm is the definition's case.
+-- Each arm is the definition's case. Assumes nothing.
 use mathlib.Core.Path.{ap}
 use borrow.Author.Needs.{needs}
 use Rattle.text.specs.Laws.Put.{put-as}
@@ -7,28 +7,29 @@ use Rattle.sentences.proofs.put_sentence.Statement.{statement}
 use Rattle.sentences.proofs.put_sentence.Tie as tie
 
 returns : tie.Need-returns
-returns c = let a = c .before .before .before .before .before .before .before .before .before .before .args in put-as (c .before .before .put-verdict .ensures) (ap (sentenceText (a .subject .now) (a .name .now)) (c .before .before .before .before .before .sentence .given .1))
+returns c =
+    let a = c .before .before .before .before .before .before .before .before .before .before .args in
+    put-as (c .before .before .put-verdict .ensures) (ap (sentenceText (a .subject .now) (a .name .now)) (c .before .before .before .before .before .sentence .given .1))
 
 returns-2 : tie.Need-returns-2
-returns-2 c = let a = c .before .before .before .before .before .before .before .before .before .before .before .args in put-as (c .before .before .put-part .ensures) (ap (sentenceText (a .subject .now) (a .name .now)) (c .before .before .before .before .before .before .sentence2 .given .1))
+returns-2 c =
+    let a = c .before .before .before .before .before .before .before .before .before .before .args in
+    put-as (c .before .before .put-file .ensures) (ap (sentenceText (a .subject .now) (a .name .now)) (c .before .before .before .before .before .sentence2 .given .1))
 
 returns-3 : tie.Need-returns-3
-returns-3 c = let a = c .before .before .before .before .before .before .before .before .before .before .before .args in put-as (c .before .before .put-part2 .ensures) (ap (sentenceText (a .subject .now) (a .name .now)) (c .before .before .before .before .before .before .sentence3 .given .1))
+returns-3 c =
+    let a = c .before .before .before .before .before .before .before .before .before .before .args in
+    put-as (c .before .before .put-part .ensures) (ap (sentenceText (a .subject .now) (a .name .now)) (c .before .before .before .before .before .sentence3 .given .1))
 
 returns-4 : tie.Need-returns-4
-returns-4 c = let a = c .before .before .before .before .before .before .before .before .before .before .before .args in put-as (c .before .before .put-refused .ensures) (ap (sentenceText (a .subject .now) (a .name .now)) (c .before .before .before .before .before .before .sentence4 .given .1))
+returns-4 c =
+    let a = c .before .before .before .before .before .before .before .before .before .before .args in
+    put-as (c .before .before .put-word .ensures) (ap (sentenceText (a .subject .now) (a .name .now)) (c .before .before .before .before .before .sentence4 .given .1))
 
 returns-5 : tie.Need-returns-5
-returns-5 c = let a = c .before .before .before .before .before .before .before .before .before .before .args in put-as (c .before .before .put-two .ensures) (ap (sentenceText (a .subject .now) (a .name .now)) (c .before .before .before .before .before .enum-told .given .1))
-
-returns-6 : tie.Need-returns-6
-returns-6 c = let a = c .before .before .before .before .before .before .before .before .before .before .args in put-as (c .before .before .put-two2 .ensures) (ap (sentenceText (a .subject .now) (a .name .now)) (c .before .before .before .before .before .enum-told2 .given .1))
-
-returns-7 : tie.Need-returns-7
-returns-7 c = let a = c .before .before .before .before .before .before .before .before .before .before .args in put-as (c .before .before .put-word .ensures) (ap (sentenceText (a .subject .now) (a .name .now)) (c .before .before .before .before .before .enum-told3 .given .1))
-
-returns-8 : tie.Need-returns-8
-returns-8 c = let a = c .before .before .before .before .before .before .before .before .before .before .args in put-as (c .before .before .put-word2 .ensures) (ap (sentenceText (a .subject .now) (a .name .now)) (c .before .before .before .before .before .enum-told4 .given .1))
+returns-5 c =
+    let a = c .before .before .before .before .before .before .before .before .before .before .before .args in
+    put-as (c .before .before .put-because .ensures) (ap (sentenceText (a .subject .now) (a .name .now)) (c .before .before .before .before .before .before .sentence5 .given .1))
 
 pub put-sentence-spec : {M : Type 1} → statement M
 put-sentence-spec =
@@ -37,21 +38,9 @@ put-sentence-spec =
     (λ c. search needs)
     (λ c κs. search needs)
     (λ c. search needs)
-    (λ c. search needs)
     (λ c κs. search needs)
     (λ c. search needs)
-    (λ c. search needs)
     (λ c κs. search needs)
-    (λ c. search needs)
-    (λ c. search needs)
-    (λ c κs. search needs)
-    (λ c. search needs)
-    (λ c. search needs)
-    (λ c κs. search needs)
-    (λ c. search needs)
-    (λ c. search needs)
-    (λ c κs. search needs)
-    (λ c. search needs)
     (λ c. search needs)
     (λ c κs. search needs)
     (λ c. search needs)
@@ -66,10 +55,4 @@ put-sentence-spec =
     (λ c. search needs)
     returns-4
     (λ c. search needs)
-    returns-5
-    (λ c. search needs)
-    returns-6
-    (λ c. search needs)
-    returns-7
-    (λ c. search needs)
-    returns-8)
+    returns-5)

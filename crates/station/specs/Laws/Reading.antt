@@ -13,15 +13,21 @@ use Rattle.columns.specs.Buffer.{decodedAnswer}
 use Rattle.decoding.specs.Calls.{fixedAnswer}
 use Rattle.decoding.specs.declared.Fixed.{Fixed}
 use Rattle.decoding.specs.declared.Fixed.the-variants as fixed
-use Rattle.station.specs.Reading.{Within, AnswerWithin, FixedWithin, wholeOf}
+use Rattle.station.specs.Reading.{Within, Ended, contentsOf, AnswerWithin, FixedWithin, wholeOf}
 use Rattle.station.specs.declared.files.Contents.{Contents}
-use Rattle.station.specs.declared.files.Contents.the-variants.{Bytes, TooLong, Failed}
+use Rattle.station.specs.declared.files.End.{End}
 
 -- a larger buffer
-pub within-more : (x : Contents) (n m : ℕ) → n ≤ m → Within x n → Within x m
-within-more (Bytes k) n m h w = omega arith
-within-more TooLong n m h w = tt
-within-more Failed n m h w = tt
+pub ended-more : (x : End) (n m : ℕ) → n ≤ m → Ended x n → Ended x m
+ended-more (End.After k) n m h w = omega arith
+ended-more End.TooLong n m h w = tt
+ended-more (End.Failed reason) n m h w = tt
+
+-- the bytes of an input that ended within a buffer
+pub ended-within : (x : End) (r : Contents) (n : ℕ) → r ≡ contentsOf x → Ended x n → Within r n
+ended-within (End.After k) r n e w = subst (λ (x : Contents). Within x n) (sym e) w
+ended-within End.TooLong r n e w = subst (λ (x : Contents). Within x n) (sym e) tt
+ended-within (End.Failed reason) r n e w = subst (λ (x : Contents). Within x n) (sym e) tt
 
 -- a decoder's answer
 pub answer-within : (d : Decoding) (r : Answer) (room n : ℕ) → r ≡ decodedAnswer d room → n ≡ room → AnswerWithin r n

@@ -1,4 +1,4 @@
--- The bytes that were decoded lie within the buffer. Assumes nothing.
+-- What was decoded lies within the buffer. Assumes nothing.
 use mathlib.Core.Path.{sym, subst}
 use lib.ListN.{length}
 use lib.Seq.{length-take-le}
@@ -12,8 +12,7 @@ array-share-prefix-buffer : tie.Need-array-share-prefix-buffer
 array-share-prefix-buffer c = subst (λ (f : Answer). AnswerWithin f (length (c .before .before .before .before .decode-bytes .last .1 .1 .0))) (c .before .n .given .1) (c .before .before .before .before .decode-bytes .ensures)
 
 slice-aggregate-write-names : tie.Need-slice-aggregate-write-names
-slice-aggregate-write-names c =
-    sym (length-take-le _ (c .before .before .before .before .before .decode-bytes .last .1 .1 .0) (subst (λ (f : Answer). AnswerWithin f (length (c .before .before .before .before .before .decode-bytes .last .1 .1 .0))) (c .before .before .n .given .1) (c .before .before .before .before .before .decode-bytes .ensures)))
+slice-aggregate-write-names c = sym (length-take-le _ (c .before .before .before .before .before .decode-bytes .last .1 .1 .0) (subst (λ (f : Answer). AnswerWithin f (length (c .before .before .before .before .before .decode-bytes .last .1 .1 .0))) (c .before .before .n .given .1) (c .before .before .before .before .before .decode-bytes .ensures)))
 
 pub show-bytes-spec : {M : Type 1} → statement M
 show-bytes-spec =

@@ -1,0 +1,22 @@
+-- The pieces of the definition, one after the other. Assumes nothing.
+use mathlib.Core.List.{append-assoc}
+use borrow.Author.Needs.{needs}
+use Rattle.text.specs.Laws.Put.{put-more, put-as}
+use Rattle.sentences.proofs.put_no_field.Statement.{statement}
+use Rattle.sentences.proofs.put_no_field.Tie as tie
+
+returns : tie.Need-returns
+returns c = put-as (put-more (put-more (put-more (c .before .before .before .before .before .before .before .before .before .before .before .before .before .before .before .before .put-name .ensures) (c .before .before .before .before .before .before .before .before .before .before .before .put .ensures)) (c .before .before .before .before .before .before .before .put-shown .ensures)) (c .before .before .put2 .ensures)) (simp append-assoc)
+
+pub put-no-field-spec : {M : Type 1} → statement M
+put-no-field-spec =
+    tie.close
+    (tie.spec
+    (λ c κs. search needs)
+    (λ c. search needs)
+    (λ c κs. search needs)
+    (λ c κs. search needs)
+    (λ c. search needs)
+    (λ c κs. search needs)
+    (λ c. search needs)
+    returns)

@@ -1,0 +1,38 @@
+-- Each arm is the definition's case. Assumes nothing.
+use mathlib.Core.Path.{sym, ap}
+use borrow.Author.Needs.{needs}
+use Rattle.station.specs.Words.{wordsFit}
+use Rattle.station.specs.declared.words.Command.{Command}
+use Rattle.station.proofs.words.fits.Statement.{statement}
+use Rattle.station.proofs.words.fits.Tie as tie
+
+returns : tie.Need-returns
+returns c = sym (ap (λ (x : Command). wordsFit x (c .before .before .args .count)) (c .enum-told .given .1))
+
+returns-2 : tie.Need-returns-2
+returns-2 c = sym (ap (λ (x : Command). wordsFit x (c .before .before .args .count)) (c .enum-told2 .given .1))
+
+returns-3 : tie.Need-returns-3
+returns-3 c = sym (ap (λ (x : Command). wordsFit x (c .before .before .args .count)) (c .enum-told3 .given .1))
+
+returns-4 : tie.Need-returns-4
+returns-4 c = sym (ap (λ (x : Command). wordsFit x (c .before .before .args .count)) (c .enum-told4 .given .1))
+
+pub fits-spec : {M : Type 1} → statement M
+fits-spec =
+    tie.close
+    (tie.spec
+    (λ c. search needs)
+    (λ c. search needs)
+    (λ c. search needs)
+    (λ c. search needs)
+    (λ c. search needs)
+    (λ c. search needs)
+    (λ c. search needs)
+    returns
+    returns-2
+    returns-3
+    returns-4
+    (λ c. search needs)
+    (λ c. search needs)
+    (λ c. search needs))
