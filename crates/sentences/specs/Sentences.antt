@@ -41,7 +41,7 @@ verdictText file n advice =
 
 -- what is said of a file that was not judged
 abbrev pub fileText : List ℕ → OfFile → List ℕ
-fileText file OfFile.TooLong = fileName file ++ ascii " has more than 65,536 bytes, the most that station reads.\n"
+fileText file OfFile.TooLong = fileName file ++ ascii " has more than 65,536 bytes, the most that are read.\n"
 fileText file (OfFile.Unreadable n) = fileName file ++ (ascii " cannot be read: " ++ (reasonText n ++ ascii ".\n"))
 
 -- that a file has no field of a name

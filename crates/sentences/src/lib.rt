@@ -128,7 +128,7 @@ fn put_file(buffer: &mut [u8], file: &[u8], said: OfFile) -> usize
         OfFile::TooLong => text::put(
             buffer,
             next,
-            b" has more than 65,536 bytes, the most that station reads.\n",
+            b" has more than 65,536 bytes, the most that are read.\n",
         ),
         OfFile::Unreadable(reason) => put_because(buffer, next, b" cannot be read: ", reason),
     }
