@@ -16,6 +16,10 @@ use Rattle.fields.specs.Fields.{fieldNames, presenceOf}
 use Rattle.structure.specs.Accepted.{verdictOf}
 use Rattle.opening.specs.declared.Opening.{Opening}
 
+-- room for the named fields that is always enough: their set has 64 bits
+abbrev pub fieldsRoom : ℕ
+fieldsRoom = 64
+
 -- the start and the length of a part; 0 and 0 where there is none
 abbrev pub partStart : Place → ℕ
 partStart (Place.At start n) = start

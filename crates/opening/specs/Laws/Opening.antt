@@ -20,7 +20,7 @@ use Rattle.fields.specs.Fields.{namesOf, fieldNames, presenceOf}
 use Rattle.structure.specs.Accepted.{Accepted, entriesNumber, verdictOf}
 use Rattle.structure.specs.Laws.Accepted.{accepted-exactly, container-document, one-document, verdict-container, verdict-document}
 use Rattle.opening.specs.declared.Opening.{Opening}
-use Rattle.opening.specs.Opening.{partStart, partLength, startsOf, lengthsOf, openingBy, openingOf}
+use Rattle.opening.specs.Opening.{fieldsRoom, partStart, partLength, startsOf, lengthsOf, openingBy, openingOf}
 use Rattle.opening.specs.Steps.{spanPlace, SpansSay}
 
 -- The elements of the buffers
@@ -29,6 +29,10 @@ use Rattle.opening.specs.Steps.{spanPlace, SpansSay}
 names-count : length fieldNames ≡ fieldCount
 unfolding fieldNames namesOf named
 names-count = refl
+
+-- and room for each of them
+pub fields-room : fieldCount ≤ fieldsRoom
+fields-room = omega arith
 
 map-at : (f : List ℕ → ℕ) (l : List (List ℕ)) (i : ℕ) → i < length l → getD (map f l) i 0 ≡ f (getD l i [])
 map-at f [] i lt = absurd (omega arith)
