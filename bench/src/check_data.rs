@@ -181,7 +181,7 @@ pub fn runs_with_delta(cells: i32) -> Vec<u8> {
 
 /// 4,096 types, which the groups go through upwards and downwards by runs of
 /// deltas of 1 and -1; the sums of sequenceIdList wrap at every step.
-fn sawtooth() -> Vec<u8> {
+pub fn sawtooth() -> Vec<u8> {
     let mut numbers = vec![8, LIMIT, 0, 0, 1];
     let mut left = LIMIT - 1;
     let mut step = 1;

@@ -19,7 +19,7 @@ use mmtf_tests::library::receipt::{read_receipt, write_receipt};
 use mmtf_tests::library::words::{meaning, version};
 use mmtf_tests::library::{container, verdict, view};
 
-use crate::check_data::structure;
+use crate::check_data::{sawtooth, structure};
 use crate::column_data::SHAPES;
 use crate::coverage;
 use crate::opening::by_library;
@@ -105,7 +105,8 @@ fn measure() -> Stack {
     stack
 }
 
-/// Structure files, a made one, and one with twelve levels, the most.
+/// Structure files, a made one, one of 4,096 group types, and one with twelve
+/// levels, the most.
 fn files() -> Vec<Vec<u8>> {
     let mut deep = vec![0x91; 11];
     deep.push(0x00);
@@ -114,6 +115,7 @@ fn files() -> Vec<Vec<u8>> {
         .map(|(_, file)| file.to_vec())
         .collect();
     files.push(structure(15_625));
+    files.push(sawtooth());
     files.push(Sample::full().with("deep", Written(deep)).bytes());
     files
 }
