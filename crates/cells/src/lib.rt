@@ -104,7 +104,7 @@ fn packed_at(payload: &[u8], size: Size, delta: bool, index: usize) -> i32
                 return total;
             }
             left -= 1;
-            total = payloads::total_after(total, delta);
+            total = payloads::total_after(total, false, delta);
         }
     }
     0
@@ -126,7 +126,7 @@ fn two_at(payload: &[u8], delta: bool, index: usize) -> i32
                 return total;
             }
             left -= 1;
-            total = payloads::total_after(total, delta);
+            total = payloads::total_after(total, false, delta);
         }
     }
     0

@@ -7,6 +7,7 @@ ghost use Prim.Native.Nat.{_+_, _≤_};
 ghost use lib.ListN.{length, drop, replicate};
 ghost use Rattle.columns.specs.Table.{suits};
 ghost use Rattle.columns.specs.Decode.{decode, judgedPayload};
+ghost use Rattle.payloads.specs.Limits.{packedSize};
 ghost use Rattle.payloads.specs.Results.{paste, Filled, HasRoom, HasResults, Covered, Wrote};
 ghost use Rattle.columns.specs.Buffer.{decodedAnswer};
 ghost use Rattle.decoding.specs.Steps.{namesPayload, charsPayload, isWritten};
@@ -19,7 +20,6 @@ use refusal::Answer;
 use steps::Form;
 use steps::Range;
 use steps::Size;
-use steps::Turn;
 
 // How many integers were written, and the divisor; or the refusal.
 pub enum Fixed {
@@ -140,9 +140,9 @@ fn put_integers(payload: &[u8], form: Form, delta: bool, n: usize, buffer: &mut 
     match form {
         Form::Plain(size) => put_plain(payload, size, n, buffer),
         Form::Packed(size) => match size {
-            Size::One => write_packed(payload, Size::One, delta, buffer),
-            Size::Two => write_two(payload, delta, buffer),
-            Size::Four => write_packed(payload, Size::Four, delta, buffer),
+            Size::One => write_packed(payload, false, delta, buffer),
+            Size::Two => write_packed(payload, true, delta, buffer),
+            Size::Four => write_integers(payload, Form::Packed(Size::Four), delta, buffer),
         },
         Form::Runs(range) => {
             if delta {
@@ -181,53 +181,25 @@ fn write_plain(payload: &[u8], size: Size, n: usize, buffer: &mut [i32])
     }
 }
 
-// Writes the results of packed numbers, number by number.
-fn write_packed(payload: &[u8], size: Size, delta: bool, buffer: &mut [i32])
-    requires { ⌜ HasRoom (Form.Packed size) (now payload) (length (now buffer)) ⌝ }
-    ensures { λ r. ⌜ Wrote asNumber (Form.Packed size) delta (now (payload .entry)) (now (buffer .entry)) (now (buffer .exit)) ⌝ }
+// Writes the results of packed numbers of one or two bytes, by one total: of the result that has begun, and with delta of those before it
+// too. The total is stored after each number, so that no branch depends on limits; a result stays when its last number is read.
+fn write_packed(payload: &[u8], two: bool, delta: bool, buffer: &mut [i32])
+    requires { ⌜ HasRoom (Form.Packed (packedSize two)) (now payload) (length (now buffer)) ⌝ }
+    ensures { λ r. ⌜ Wrote asNumber (Form.Packed (packedSize two)) delta (now (payload .entry)) (now (buffer .entry)) (now (buffer .exit)) ⌝ }
 {
+    let size = payloads::packed_size(two);
     let k = steps::bytes(size);
     let mut i: usize = 0;
     let mut o: usize = 0;
-    let mut part: i32 = 0;
-    let mut sum: i32 = 0;
+    let mut total: i32 = 0;
     while k <= payload.len() - i {
         let number = steps::number_at(payload, i, size);
         i += k;
-        match steps::unpack_one(part, number, size) {
-            Turn::More(s) => {
-                part = s;
-            }
-            Turn::Done(s) => {
-                sum = payloads::next_result(sum, s, delta);
-                buffer[o] = sum;
-                o += 1;
-                part = 0;
-            }
-            Turn::Wrong => {
-                return;
-            }
-        }
-    }
-}
-
-// Writes the results of packed numbers of two bytes, by one total: of the result that has begun, and with delta of those before it too.
-fn write_two(payload: &[u8], delta: bool, buffer: &mut [i32])
-    requires { ⌜ HasRoom (Form.Packed Size.Two) (now payload) (length (now buffer)) ⌝ }
-    ensures { λ r. ⌜ Wrote asNumber (Form.Packed Size.Two) delta (now (payload .entry)) (now (buffer .entry)) (now (buffer .exit)) ⌝ }
-{
-    let mut i: usize = 0;
-    let mut o: usize = 0;
-    let mut total: i32 = 0;
-    while 2 <= payload.len() - i {
-        let number = steps::number_at(payload, i, Size::Two);
-        i += 2;
-        total = steps::add_delta(total, number);
-        if !steps::is_limit(number, Size::Two) {
-            buffer[o] = total;
-            o += 1;
-            total = payloads::total_after(total, delta);
-        }
+        let sum = steps::add_delta(total, number);
+        buffer[o] = sum;
+        let limit = steps::is_limit(number, size);
+        o += payloads::ended_at(limit);
+        total = payloads::total_after(sum, limit, delta);
     }
 }
 

@@ -11,6 +11,7 @@ ghost use lib.Ieee.Positive.{positive};
 ghost use Rattle.steps.specs.Delta.{resultsFrom};
 ghost use Rattle.columns.specs.Decode.{decode};
 ghost use Rattle.payloads.specs.Scan.{judgesExact};
+ghost use Rattle.payloads.specs.Limits.{packedSize};
 ghost use Rattle.payloads.specs.Results.{Filled, HasRoom, HasResults, Covered, Wrote};
 ghost use Rattle.payloads.specs.Exact.{exact, allExact};
 ghost use Rattle.columns.specs.Buffer.{decodedAnswer, decodedBuffer};
@@ -126,8 +127,8 @@ fn put_quotients(
     match form {
         Form::Plain(size) => put_plain(payload, size, divisor, n, buffer),
         Form::Packed(size) => match size {
-            Size::One => write_quotients(payload, Form::Packed(Size::One), delta, divisor, buffer),
-            Size::Two => write_two(payload, delta, divisor, buffer),
+            Size::One => write_packed(payload, false, delta, divisor, buffer),
+            Size::Two => write_packed(payload, true, delta, divisor, buffer),
             Size::Four => write_quotients(
                 payload,
                 Form::Packed(Size::Four),
@@ -167,24 +168,27 @@ fn write_plain(payload: &[u8], size: Size, divisor: f32, n: usize, buffer: &mut 
     }
 }
 
-// Writes the quotients of packed numbers of two bytes, by one total: of the result that has begun, and with delta of those before it
-// too.
-fn write_two(payload: &[u8], delta: bool, divisor: f32, buffer: &mut [u32])
-    requires { ⌜ Divisible (Form.Packed Size.Two) delta (now payload) (length (now buffer)) divisor ⌝ }
-    ensures { λ r. ⌜ Wrote (bitsBy divisor) (Form.Packed Size.Two) delta (now (payload .entry)) (now (buffer .entry)) (now (buffer .exit)) ⌝ }
+// Writes the quotients of packed numbers of one or two bytes, by one total: of the result that has begun, and with delta of those before
+// it too.
+fn write_packed(payload: &[u8], two: bool, delta: bool, divisor: f32, buffer: &mut [u32])
+    requires { ⌜ Divisible (Form.Packed (packedSize two)) delta (now payload) (length (now buffer)) divisor ⌝ }
+    ensures { λ r. ⌜ Wrote (bitsBy divisor) (Form.Packed (packedSize two)) delta (now (payload .entry)) (now (buffer .entry)) (now (buffer .exit)) ⌝ }
 {
+    let size = payloads::packed_size(two);
+    let k = steps::bytes(size);
     let mut i: usize = 0;
     let mut o: usize = 0;
     let mut total: i32 = 0;
-    while 2 <= payload.len() - i {
-        let number = steps::number_at(payload, i, Size::Two);
-        i += 2;
-        total = steps::add_delta(total, number);
-        if !steps::is_limit(number, Size::Two) {
-            buffer[o] = quotient_bits(total, divisor);
+    while k <= payload.len() - i {
+        let number = steps::number_at(payload, i, size);
+        i += k;
+        let sum = steps::add_delta(total, number);
+        let limit = steps::is_limit(number, size);
+        if !limit {
+            buffer[o] = quotient_bits(sum, divisor);
             o += 1;
-            total = payloads::total_after(total, delta);
         }
+        total = payloads::total_after(sum, limit, delta);
     }
 }
 

@@ -7,7 +7,9 @@ use mathlib.Core.List.{List, _++_, map}
 use Prim.Native.Nat.{ℕ, _+_, _≤_}
 use lib.ListN.{length, take, drop, replicate}
 use lib.IntN.{ℤ}
+use Rattle.steps.specs.declared.Size.{Size}
 use Rattle.steps.specs.declared.Form.{Form}
+use Rattle.steps.specs.declared.Form.the-variants.{Packed}
 use Rattle.steps.specs.Delta.{resultsFrom, lastFrom, sumsIf}
 use Rattle.steps.specs.Payload.{readIn}
 use Rattle.payloads.specs.Exact.{allExact}
@@ -35,6 +37,10 @@ Covered b old from n bound new = (m : ℕ) × (n ≤ m) × (m ≤ bound) × (new
 -- what a writer leaves: the results of a payload as elements g at the buffer's start
 abbrev pub Wrote : {B : Type 0} → (ℤ → B) → Form → Bool → List ℕ → List B → List B → Type 0
 Wrote g f d s old new = (l : List ℤ) → readIn f s ≡ some l → new ≡ map g (sumsIf d l) ++ drop (length l) old
+
+-- whether all results of packed numbers are exact in single precision
+abbrev pub ResultsJudged : Size → Bool → List ℕ → Bool → Type 0
+ResultsJudged z d s ok = (l : List ℤ) → readIn (Packed z) s ≡ some l → ok ≡ allExact (sumsIf d l)
 
 -- all results of a payload are exact in single precision
 abbrev pub ResultsExact : Form → Bool → List ℕ → Type 0

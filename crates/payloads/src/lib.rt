@@ -2,17 +2,22 @@
 // are exact in single precision. A run of any length costs one turn, so that time is linear in the bytes.
 ghost use mathlib.Core.Path.{_≡_};
 ghost use mathlib.Core.Bool.{true, false, cond, not, _&&_, _||_};
-ghost use Prim.Native.Nat.{_+_, _-_, _*_, _≤_, _<_};
+ghost use Prim.Native.Nat.{_+_, _-_, _*_, _/_, _≤_, _<_};
 ghost use lib.ListN.{length};
 ghost use lib.IntN.{pos};
 ghost use lib.Dec.{eqb, leb};
+ghost use mir.Syntax.{w8};
+ghost use mir.Val.{toZ};
 ghost use Rattle.refusal.specs.Table.{lengthDiffers};
 ghost use Rattle.steps.specs.Delta.{advance, plusTimes, afterRun};
+ghost use Rattle.steps.specs.Width.{sizeOf};
+ghost use Rattle.steps.specs.Packing.{isLimit};
 ghost use Rattle.steps.specs.Payload.{readIn, heldIn};
 ghost use Rattle.columns.specs.Table.{elements};
 ghost use Rattle.payloads.specs.Exact.{exact};
+ghost use Rattle.payloads.specs.Results.{ResultsJudged};
 ghost use Rattle.payloads.specs.Scan.{scanOf, judgesExact, refusalOf};
-ghost use Rattle.payloads.specs.Limits.{limitAt, limitsIn, endsAtLimit};
+ghost use Rattle.payloads.specs.Limits.{packedSize, limitAt, limitsIn, endsAtLimit, mostLimits, Short};
 ghost use Rattle.payloads.specs.Items.{itemAt, outcomeRefusal};
 use steps::Form;
 use steps::Range;
@@ -42,8 +47,8 @@ pub fn scan(payload: &[u8], form: Form, size: usize, delta: bool, length: usize)
     match form {
         Form::Plain(width) => scan_plain(payload, width, delta, length),
         Form::Packed(width) => match width {
-            Size::One => scan_packed(payload, Size::One, delta, length),
-            Size::Two => scan_two(payload, delta, length),
+            Size::One => scan_totals(payload, false, delta, length),
+            Size::Two => scan_totals(payload, true, delta, length),
             Size::Four => scan_packed(payload, Size::Four, delta, length),
         },
         Form::Runs(range) => scan_runs(payload, range, delta, length),
@@ -58,8 +63,8 @@ pub fn refusal_of(payload: &[u8], form: Form, size: usize, length: usize) -> u8
 {
     match form {
         Form::Packed(width) => match width {
-            Size::One => refusal_in(scan_packed(&payload[0..], Size::One, false, length)),
-            Size::Two => count_two(&payload[0..], length),
+            Size::One => count_packed(&payload[0..], false, length),
+            Size::Two => count_packed(&payload[0..], true, length),
             Size::Four => refusal_in(scan_packed(&payload[0..], Size::Four, false, length)),
         },
         Form::Runs(range) => runs_refusal(payload, range, length),
@@ -185,38 +190,38 @@ fn scan_packed(payload: &[u8], size: Size, delta: bool, length: usize) -> Outcom
     Outcome::Fine(exact)
 }
 
-// Scans packed numbers of two bytes. So few limits cannot lead a sum out of 32 bits, so that one running total does: of the result that
-// has begun, and with delta of those before it too.
-fn scan_two(payload: &[u8], delta: bool, length: usize) -> Outcome
-    ensures { λ r. ⌜ r ≡ scanOf (Form.Packed Size.Two) delta length (readIn (Form.Packed Size.Two) (now (payload .entry))) ⌝ }
+// Scans packed numbers of one or two bytes: their refusal first, and then whether their results are exact.
+fn scan_totals(payload: &[u8], two: bool, delta: bool, length: usize) -> Outcome
+    ensures { λ r. ⌜ r ≡ scanOf (Form.Packed (packedSize two)) delta length (readIn (Form.Packed (packedSize two)) (now (payload .entry))) ⌝ }
 {
+    let refused = count_packed(payload, two, length);
+    if refused != refusal::ACCEPTED {
+        return Outcome::Refused(refused);
+    }
+    if two {
+        return Outcome::Fine(are_exact(payload, true, delta));
+    }
+    Outcome::Fine(are_exact(payload, false, delta))
+}
+
+// Whether the results of packed numbers are exact, by one total: of the result that has begun, and with delta of those before it too.
+fn are_exact(payload: &[u8], two: bool, delta: bool) -> bool
+    ensures { λ r. ⌜ ResultsJudged (packedSize two) delta (now (payload .entry)) r ⌝ }
+{
+    let size = packed_size(two);
+    let k = steps::bytes(size);
     let mut i: usize = 0;
-    let mut limits: usize = 0;
-    let mut last = false;
     let mut total: i32 = 0;
     let mut exact = true;
-    while 2 <= payload.len() - i {
-        let number = steps::number_at(payload, i, Size::Two);
-        i += 2;
-        total = steps::add_delta(total, number);
-        last = steps::is_limit(number, Size::Two);
-        if last {
-            limits += 1;
-        } else {
-            exact = numbers::both(exact, is_exact(total));
-            total = total_after(total, delta);
-        }
+    while k <= payload.len() - i {
+        let number = steps::number_at(payload, i, size);
+        i += k;
+        let sum = steps::add_delta(total, number);
+        let limit = steps::is_limit(number, size);
+        exact = exact & (limit | is_exact(sum));
+        total = total_after(sum, limit, delta);
     }
-    if 65534 < limits {
-        return scan_packed(payload, Size::Two, delta, length);
-    }
-    if last {
-        return Outcome::Refused(refusal::NUMBER_NOT_ALLOWED);
-    }
-    if i / 2 - limits != length {
-        return Outcome::Refused(refusal::LENGTH_DIFFERS);
-    }
-    Outcome::Fine(exact)
+    exact
 }
 
 // The refusal that a scan answers, or 0.
@@ -255,16 +260,16 @@ fn is_product(length: usize, n: usize, size: usize) -> bool
     length / size == n
 }
 
-// The refusal of packed numbers of two bytes, or 0.
-fn count_two(payload: &[u8], length: usize) -> u8
-    ensures { λ r. ⌜ r ≡ refusalOf length (readIn (Form.Packed Size.Two) (now (payload .entry))) ⌝ }
+// The refusal of packed numbers of one or two bytes, or 0.
+fn count_packed(payload: &[u8], two: bool, length: usize) -> u8
+    ensures { λ r. ⌜ r ≡ refusalOf length (readIn (Form.Packed (packedSize two)) (now (payload .entry))) ⌝ }
 {
-    let count = payload.len() / 2;
-    let limits = count_limits(payload, count);
-    if 65534 < limits {
-        return refusal_in(scan_packed(payload, Size::Two, false, length));
+    let count = count_of(payload.len(), two);
+    let limits = count_limits(payload, two, count);
+    if !sums_fit(payload, two, count, limits) {
+        return refusal_in(scan_packed(payload, packed_size(two), false, length));
     }
-    if ends_at_limit(payload, count) {
+    if ends_at_limit(payload, two, count) {
         return refusal::NUMBER_NOT_ALLOWED;
     }
     if count - limits != length {
@@ -273,53 +278,102 @@ fn count_two(payload: &[u8], length: usize) -> u8
     refusal::ACCEPTED
 }
 
-// Whether the last of `count` numbers of two bytes is a limit.
-fn ends_at_limit(payload: &[u8], count: usize) -> bool
-    requires { ⌜ 2 * count ≤ length (now payload) ⌝ }
-    ensures { λ r. ⌜ r ≡ endsAtLimit (now (payload .entry)) count ⌝ }
+// Whether it is known that no sum leaves 32 bits: there are few limits, or none of them stand in a long row.
+fn sums_fit(payload: &[u8], two: bool, count: usize, limits: usize) -> bool
+    requires { ⌜ (sizeOf (packedSize two) * count ≤ length (now payload)) × (limits ≡ limitsIn (packedSize two) (now payload) 0 count) ⌝ }
+    ensures { λ r. ⌜ (r ≡ true → Short two (now (payload .entry)) count) ⌝ }
+{
+    if limits <= most_limits(two) {
+        return true;
+    }
+    !has_row(payload, two, count)
+}
+
+// Whether one of the blocks is all limits. If none is, a row of limits is shorter than two blocks.
+fn has_row(payload: &[u8], two: bool, count: usize) -> bool
+    requires { ⌜ sizeOf (packedSize two) * count ≤ length (now payload) ⌝ }
+    ensures { λ r. ⌜ (r ≡ false → Short two (now (payload .entry)) count) ⌝ }
+{
+    let mut i: usize = 0;
+    while 256 <= count - i {
+        if limits_in(payload, two, place_of(two, i), 256) == 256 {
+            return true;
+        }
+        i += 256;
+    }
+    false
+}
+
+// Whether the last of `count` numbers is a limit.
+fn ends_at_limit(payload: &[u8], two: bool, count: usize) -> bool
+    requires { ⌜ sizeOf (packedSize two) * count ≤ length (now payload) ⌝ }
+    ensures { λ r. ⌜ r ≡ endsAtLimit (packedSize two) (now (payload .entry)) count ⌝ }
 {
     if count == 0 {
         return false;
     }
+    let size = packed_size(two);
     steps::is_limit(
-        steps::number_at(payload, 2 * (count - 1), Size::Two),
-        Size::Two,
+        steps::number_at(payload, place_of(two, count - 1), size),
+        size,
     )
 }
 
-// How many of `count` numbers of two bytes are limits: in blocks, and in the rest.
-fn count_limits(payload: &[u8], count: usize) -> usize
-    requires { ⌜ 2 * count ≤ length (now payload) ⌝ }
-    ensures { λ r. ⌜ r ≡ limitsIn (now (payload .entry)) 0 count ⌝ }
+// How many of `count` numbers are limits: in blocks, and in the rest.
+fn count_limits(payload: &[u8], two: bool, count: usize) -> usize
+    requires { ⌜ sizeOf (packedSize two) * count ≤ length (now payload) ⌝ }
+    ensures { λ r. ⌜ r ≡ limitsIn (packedSize two) (now (payload .entry)) 0 count ⌝ }
 {
     let mut i: usize = 0;
     let mut limits: usize = 0;
     while 256 <= count - i {
-        limits += limits_in(payload, 2 * i, 256) as usize;
+        limits += limits_in(payload, two, place_of(two, i), 256) as usize;
         i += 256;
     }
-    limits + limits_in(payload, 2 * i, count - i) as usize
+    limits + limits_in(payload, two, place_of(two, i), count - i) as usize
 }
 
-// How many of so few numbers of two bytes are limits. The processor counts eight at a time, in 16 bits each.
-fn limits_in(payload: &[u8], at: usize, count: usize) -> u16
-    requires { ⌜ (at + 2 * count ≤ length (now payload)) × (count ≤ 256) ⌝ }
-    ensures { λ r. ⌜ r ≡ limitsIn (now (payload .entry)) at count ⌝ }
+// How many of so few numbers are limits, by a loop of their size's own.
+fn limits_in(payload: &[u8], two: bool, at: usize, count: usize) -> u16
+    requires { ⌜ (at + sizeOf (packedSize two) * count ≤ length (now payload)) × (count ≤ 256) ⌝ }
+    ensures { λ r. ⌜ r ≡ limitsIn (packedSize two) (now (payload .entry)) at count ⌝ }
+{
+    if two {
+        return add_limits(payload, true, at, count);
+    }
+    add_limits(payload, false, at, count)
+}
+
+// The same, number by number. The processor counts many at a time, in 16 bits each.
+fn add_limits(payload: &[u8], two: bool, at: usize, count: usize) -> u16
+    requires { ⌜ (at + sizeOf (packedSize two) * count ≤ length (now payload)) × (count ≤ 256) ⌝ }
+    ensures { λ r. ⌜ r ≡ limitsIn (packedSize two) (now (payload .entry)) at count ⌝ }
 {
     let mut k: usize = 0;
     let mut limits: u16 = 0;
     while k < count {
-        limits += limit_at(payload, at + 2 * k);
+        limits += limit_at(payload, two, at + place_of(two, k));
         k += 1;
     }
     limits
 }
 
+// 1 where a number is a limit, else 0.
+fn limit_at(payload: &[u8], two: bool, at: usize) -> u16
+    requires { ⌜ at + sizeOf (packedSize two) ≤ length (now payload) ⌝ }
+    ensures { λ r. ⌜ r ≡ limitAt (packedSize two) (now (payload .entry)) at ⌝ }
+{
+    if two {
+        return two_at_limit(payload, at);
+    }
+    byte_at_limit(payload[at])
+}
+
 // 1 where a number of two bytes is a limit, else 0. Its bytes are taken as the processor loads them, the lower first; the sum is there
 // because only bits with a single use are loaded at once.
-fn limit_at(payload: &[u8], at: usize) -> u16
+fn two_at_limit(payload: &[u8], at: usize) -> u16
     requires { ⌜ at + 2 ≤ length (now payload) ⌝ }
-    ensures { λ r. ⌜ r ≡ limitAt (now (payload .entry)) at ⌝ }
+    ensures { λ r. ⌜ r ≡ limitAt Size.Two (now (payload .entry)) at ⌝ }
 {
     let bits = numbers::u8_to_u16(payload[at + 1]) * 256 + numbers::u8_to_u16(payload[at]);
     let moved = std::num::wrapping_add_u16(bits, 129);
@@ -329,11 +383,57 @@ fn limit_at(payload: &[u8], at: usize) -> u16
     if moved == 257 { 1 } else { 0 }
 }
 
-// The total after a result: with delta it goes on.
-pub fn total_after(result: i32, delta: bool) -> i32
-    ensures { λ r. ⌜ r ≡ cond delta result (pos 0) ⌝ }
+// 1 where a byte is a limit, else 0.
+fn byte_at_limit(bits: u8) -> u16
+    ensures { λ r. ⌜ r ≡ cond (isLimit 127 128 (toZ w8 bits)) 1 0 ⌝ }
 {
-    if delta { result } else { 0 }
+    if bits == 127 {
+        return 1;
+    }
+    if bits == 128 { 1 } else { 0 }
+}
+
+// The size of packed numbers: two bytes, or one.
+pub fn packed_size(two: bool) -> Size
+    ensures { λ r. ⌜ r ≡ packedSize two ⌝ }
+{
+    if two { Size::Two } else { Size::One }
+}
+
+// How many packed numbers so many bytes hold.
+fn count_of(bytes: usize, two: bool) -> usize
+    ensures { λ r. ⌜ r ≡ bytes / sizeOf (packedSize two) ⌝ }
+{
+    if two { bytes / 2 } else { bytes }
+}
+
+// Where the packed number at an index stands.
+fn place_of(two: bool, index: usize) -> usize
+    requires { ⌜ sizeOf (packedSize two) * index < 18446744073709551616 ⌝ }
+    ensures { λ r. ⌜ r ≡ sizeOf (packedSize two) * index ⌝ }
+{
+    if two { 2 * index } else { index }
+}
+
+// So many limits of a size, and a number after them, cannot lead a sum out of 32 bits.
+fn most_limits(two: bool) -> usize
+    ensures { λ r. ⌜ r ≡ mostLimits two ⌝ }
+{
+    if two { 65534 } else { 16777214 }
+}
+
+// The total after a number: after a limit, and with delta, it goes on.
+pub fn total_after(total: i32, limit: bool, delta: bool) -> i32
+    ensures { λ r. ⌜ r ≡ cond (limit || delta) total (pos 0) ⌝ }
+{
+    if limit | delta { total } else { 0 }
+}
+
+// How many results end at a number: none at a limit.
+pub fn ended_at(limit: bool) -> usize
+    ensures { λ r. ⌜ r ≡ cond limit 0 1 ⌝ }
+{
+    if limit { 0 } else { 1 }
 }
 
 // Whether a run is short, and four results are left to be written: so many are then written for it.

@@ -1,48 +1,33 @@
--- One sum moves both limits side by side, so that one comparison finds either.
-use mathlib.Core.Path.{_≡_, sym, _∙_}
-use Prim.Native.Nat.{_+_, _*_, _%_}
+-- Each arm reads a number of its size.
+use mathlib.Core.Path.{sym, ap, subst, _∙_}
+use mathlib.Core.Bool.{Bool, cond}
+use Prim.Native.Nat.{_+_, _≤_}
+use native.Mathlib.Omega.{arith}
+use lib.ListN.{length}
+use lib.IntN.{ℤ}
 use borrow.Author.Needs.{needs}
-use Rattle.payloads.specs.Laws.Limits.{limit-upper, limit-lower, limit-none}
+use Rattle.steps.specs.Width.{sizeOf}
+use Rattle.steps.specs.Packing.{isLimit}
+use Rattle.payloads.specs.Limits.{packedSize, limitAt}
+use Rattle.payloads.specs.Laws.Limits.{byte-signed}
 use Rattle.payloads.proofs.limit_at.Statement.{statement}
 use Rattle.payloads.proofs.limit_at.Tie as tie
 
--- the bits, moved
-moved : (c : tie.After-wrapping-add-u16) → (c .before .before .before .u8-to-u16 .result * 256 + c .before .u8-to-u162 .result + 129) % 65536 ≡ c .wrapping-add-u16 .result
-moved c = sym (c .wrapping-add-u16 .ensures)
+two-at-limit-requires : tie.Need-two-at-limit-requires
+two-at-limit-requires c κs = let a = c .before .before in subst (λ (t : Bool). a .args .at + sizeOf (packedSize t) ≤ length (a .args .payload .now)) (c .if1 .taken) (a .pre)
 
 returns : tie.Need-returns
-returns c =
-    let a = c .before .before .before .before .before .before .before .args in
-    let x = c .before .before .u8-to-u162 in
-    let y = c .before .before .before .before .u8-to-u16 in
-    sym (limit-upper (a .payload .now) (a .at) (c .before .before .before .before .before .before .before .pre) (x .result) (y .result) (sym (x .ensures .0)) (sym (y .ensures .0)) (x .ensures .1) (y .ensures .1) (moved (c .before) ∙ c .if1 .taken))
+returns c = let a = c .before .before .before in c .two-at-limit .ensures ∙ ap (λ (t : Bool). limitAt (packedSize t) (a .args .payload .now) (a .args .at)) (sym (c .before .if1 .taken))
+
+shared-slice-read-byte-at-limit : tie.Need-shared-slice-read-byte-at-limit
+shared-slice-read-byte-at-limit c = let a = c .before .before .before in let h = subst (λ (t : Bool). a .args .at + sizeOf (packedSize t) ≤ length (a .args .payload .now)) (c .before .if1 .left) (a .pre) in omega arith
 
 returns-2 : tie.Need-returns-2
 returns-2 c =
-    let a = c .before .before .before .before .before .before .before .before .args in
-    let x = c .before .before .before .u8-to-u162 in
-    let y = c .before .before .before .before .before .u8-to-u16 in
-    sym (limit-lower (a .payload .now) (a .at) (c .before .before .before .before .before .before .before .before .pre) (x .result) (y .result) (sym (x .ensures .0)) (sym (y .ensures .0)) (x .ensures .1) (y .ensures .1) (moved (c .before .before) ∙ c .if2 .taken))
-
-returns-3 : tie.Need-returns-3
-returns-3 c =
-    let a = c .before .before .before .before .before .before .before .before .args in
-    let x = c .before .before .before .u8-to-u162 in
-    let y = c .before .before .before .before .before .u8-to-u16 in
-    sym (limit-none (a .payload .now) (a .at) (c .before .before .before .before .before .before .before .before .pre) (x .result) (y .result) (sym (x .ensures .0)) (sym (y .ensures .0)) (x .ensures .1) (y .ensures .1) (λ e. c .before .if1 .left (sym (moved (c .before .before)) ∙ e)) (λ e. c .if2 .left (sym (moved (c .before .before)) ∙ e)))
+    let a = c .before .before .before .before in
+    let h = subst (λ (t : Bool). a .args .at + sizeOf (packedSize t) ≤ length (a .args .payload .now)) (c .before .before .if1 .left) (a .pre) in
+    c .byte-at-limit .ensures ∙ ap (λ (x : ℤ). cond (isLimit 127 128 x) 1 0) (sym (byte-signed (a .args .payload .now) (a .args .at) h))
+    ∙ ap (λ (t : Bool). limitAt (packedSize t) (a .args .payload .now) (a .args .at)) (sym (c .before .before .if1 .left))
 
 pub limit-at-spec : {M : Type 1} → statement M
-limit-at-spec =
-    tie.close
-    (tie.spec
-    (λ c. search needs)
-    (λ c. search needs)
-    (λ c κs. search needs)
-    (λ c. search needs)
-    (λ c. search needs)
-    (λ c κs. search needs)
-    (λ c. search needs)
-    (λ c κs. search needs)
-    returns
-    returns-2
-    returns-3)
+limit-at-spec = tie.close (tie.spec two-at-limit-requires returns shared-slice-read-byte-at-limit (λ c κs. search needs) returns-2)

@@ -15,17 +15,17 @@ returns c =
 returns-2 : tie.Need-returns-2
 returns-2 c =
     let a = c .before .before .before .before .before .before .before .args in
-    scan-held (Packed One) (a .form) (a .delta) (a .size) (a .length) (a .payload .now) (c .scan-packed .result) refl (c .before .before .before .before .form2 .given .1 ∙ ap Packed (c .before .enum-told .given .1)) (c .scan-packed .ensures)
+    scan-held (Packed One) (a .form) (a .delta) (a .size) (a .length) (a .payload .now) (c .scan-totals .result) refl (c .before .before .before .before .form2 .given .1 ∙ ap Packed (c .before .enum-told .given .1)) (c .scan-totals .ensures)
 
 returns-3 : tie.Need-returns-3
 returns-3 c =
     let a = c .before .before .before .before .before .before .before .args in
-    scan-held (Packed Two) (a .form) (a .delta) (a .size) (a .length) (a .payload .now) (c .scan-two .result) refl (c .before .before .before .before .form2 .given .1 ∙ ap Packed (c .before .enum-told2 .given .1)) (c .scan-two .ensures)
+    scan-held (Packed Two) (a .form) (a .delta) (a .size) (a .length) (a .payload .now) (c .scan-totals2 .result) refl (c .before .before .before .before .form2 .given .1 ∙ ap Packed (c .before .enum-told2 .given .1)) (c .scan-totals2 .ensures)
 
 returns-4 : tie.Need-returns-4
 returns-4 c =
     let a = c .before .before .before .before .before .before .before .args in
-    scan-held (Packed Four) (a .form) (a .delta) (a .size) (a .length) (a .payload .now) (c .scan-packed2 .result) refl (c .before .before .before .before .form2 .given .1 ∙ ap Packed (c .before .enum-told3 .given .1)) (c .scan-packed2 .ensures)
+    scan-held (Packed Four) (a .form) (a .delta) (a .size) (a .length) (a .payload .now) (c .scan-packed .result) refl (c .before .before .before .before .form2 .given .1 ∙ ap Packed (c .before .enum-told3 .given .1)) (c .scan-packed .ensures)
 
 returns-5 : tie.Need-returns-5
 returns-5 c =

@@ -140,6 +140,25 @@ pub from-end : (z : Size) (sum : ℤ) (begun : Bool) (s : List ℕ) (i : ℕ) �
 unfolding unpackFrom
 from-end z sum begun s i h = ap (unpackFrom (upper z) (lower z) sum begun) (numbers-end z s i h)
 
+-- numbers that are left have a result
+unpack-one : (p q : ℕ) (sum x : ℤ) (xs r : List ℤ) (t u : Bool) → (unpackFrom p q (sum +ℤ x) true xs ≡ some r → 1 ≤ length r)
+    → cond t (cond u (unpackFrom p q (sum +ℤ x) true xs) (Option·map (λ (l : List ℤ). (sum +ℤ x) ∷ l) (unpackFrom p q (pos 0) false xs))) none ≡ some r → 1 ≤ length r
+unpack-one p q sum x xs r true true f e = f e
+unpack-one p q sum x xs r true false f e = result (unpackFrom p q (pos 0) false xs) e
+  where
+    result : (o : Option (List ℤ)) → Option·map (λ (l : List ℤ). (sum +ℤ x) ∷ l) o ≡ some r → 1 ≤ length r
+    result none z = let y : _≡_ {A = ℕ} 0 1 = cc in absurd (omega arith)
+    result (some l) z = let y : r ≡ (sum +ℤ x) ∷ l = cc in rw y (omega arith)
+unpack-one p q sum x xs r false u f e = let y : _≡_ {A = ℕ} 0 1 = cc in absurd (omega arith)
+
+unpack-some : (p q : ℕ) (sum : ℤ) (begun : Bool) (x : ℤ) (xs r : List ℤ) → unpackFrom p q sum begun (x ∷ xs) ≡ some r → 1 ≤ length r
+unfolding unpackFrom
+unpack-some p q sum begun x [] r e = unpack-one p q sum x [] r (in32 (sum +ℤ x)) (isLimit p q x) (λ z. let y : _≡_ {A = ℕ} 0 1 = cc in absurd (omega arith)) e
+unpack-some p q sum begun x (v ∷ vs) r e = unpack-one p q sum x (v ∷ vs) r (in32 (sum +ℤ x)) (isLimit p q x) (unpack-some p q (sum +ℤ x) true v vs r) e
+
+pub from-some : (z : Size) (sum : ℤ) (begun : Bool) (s : List ℕ) (i : ℕ) → i + sizeOf z ≤ length s → (r : List ℤ) → from z s sum begun i ≡ some r → 1 ≤ length r
+from-some z sum begun s i h r e = unpack-some (upper z) (lower z) sum begun (signedAt (widthOf z) s i) (numbersIn z (drop (i + sizeOf z) s)) r (sym (ap (unpackFrom (upper z) (lower z) sum begun) (numbers-step z s i h)) ∙ e)
+
 pub packed-is : (z : Size) (s : List ℕ) (at : ℕ) → readIn (Packed z) (drop at s) ≡ from z s (pos 0) false at
 unfolding readIn
 packed-is z s at = refl

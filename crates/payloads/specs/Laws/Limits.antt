@@ -1,66 +1,183 @@
--- Laws of limits among numbers of two bytes: how many there are in blocks, what their bytes are, and what their count says of the
--- results. Assumes nothing.
+-- Laws of limits among packed numbers: how many there are in blocks, what their bytes are, and what their count says of the results where
+-- no row of them is long. Assumes nothing.
 use mathlib.Core.Path.{_≡_, refl, ap, _∙_}
 use mathlib.Core.Bool.{Bool, true, false, cond}
 use mathlib.Core.List.{List}
-use Prim.Native.Nat.{ℕ, zero, suc, _+_, _-_, _*_, _%_, _<_, _≤_}
-use native.Mathlib.Nat.{add-zero}
+use Prim.Native.Nat.{ℕ, zero, suc, _+_, _-_, _*_, _/_, _%_, _<_, _≤_}
+use native.Mathlib.Nat.{add-zero, mul-zero}
 use native.Mathlib.Numerals.{add-one}
 use native.Mathlib.Omega.{arith}
 use lib.ListN.{length, getD}
-use lib.IntN.{ℤ, pos, negsuc}
+use lib.IntN.{ℤ, pos, negsuc, _+ℤ_}
+use lib.Signed.{mag}
 use lib.Dec.{ltb}
-use mir.Syntax.{w16}
-use mir.Val.{toZ}
-use borrow.Author.Tests.{ltb-false, ne-eqb}
+use mir.Syntax.{w8, w16}
+use mir.Val.{toZ, SFits}
+use borrow.Author.Tests.{ltb-true, ltb-false, ne-eqb}
 use Rattle.refusal.specs.Table.{accepted, numberNotAllowed, lengthDiffers}
 use Rattle.numbers.specs.BigEndian.{signedAt}
 use Rattle.numbers.specs.Laws.BigEndian.{unsignedAt-loads}
-use Rattle.steps.specs.declared.Size.the-variants.{Two}
+use Rattle.steps.specs.declared.Size.{Size}
+use Rattle.steps.specs.declared.Size.the-variants.{One, Two, Four}
 use Rattle.steps.specs.declared.Form.the-variants.{Packed}
-use Rattle.steps.specs.Delta.{plusDelta}
+use Rattle.steps.specs.declared.Turn.the-variants.{More, Done}
+use Rattle.steps.specs.Width.{widthOf, sizeOf, upper, lower}
 use Rattle.steps.specs.Packing.{isLimit}
 use Rattle.steps.specs.Payload.{readIn}
+use Rattle.steps.specs.Steps.{turnOf}
 use Rattle.steps.specs.Laws.NumbersBack.{signedAt-fits}
-use Rattle.steps.specs.Laws.Delta.{plus-fits}
-use Rattle.payloads.specs.Scan.{refusalOf}
+use Rattle.steps.specs.Laws.Packing.{mag-add, turn-inside}
+use Rattle.payloads.specs.Scan.{scanOf, refusalOf}
 use Rattle.payloads.specs.Items.{outcomeRefusal}
-use Rattle.payloads.specs.Limits.{limitAt, limitsIn, endsAtLimit}
-use Rattle.payloads.specs.Laws.Totals.{Totalled, totalled-start, totalled-more, totalled-done, totalled-unfinished, totalled-other, totalled-all}
+use Rattle.payloads.specs.Limits.{packedSize, limitAt, limitsIn, endsAtLimit, rowAt, mostLimits, Short}
+use Rattle.payloads.specs.Laws.Packed.{Unpacked, unpacked-start, unpacked-more, unpacked-done, unpacked-unfinished, unpacked-other, unpacked-all}
 use Rattle.payloads.specs.Laws.Refusal.{outcome-scan}
 
 few : (t : Bool) → cond t 1 0 ≤ 1
 few true = omega arith
 few false = omega arith
 
-pub limits-few : (s : List ℕ) (at k : ℕ) → limitsIn s at k ≤ k
-unfolding limitsIn
-limits-few s at zero = omega arith
-limits-few s at (suc k) = let a = limits-few s at k in let b = few (isLimit 32767 32768 (signedAt w16 s (at + 2 * k))) in omega arith
+-- Places
 
--- no number
-limits-none : (s : List ℕ) (at : ℕ) → limitsIn s at 0 ≡ 0
-unfolding limitsIn
-limits-none s at = refl
+pub place-next : (z : Size) (k : ℕ) → sizeOf z * suc k ≡ sizeOf z * k + sizeOf z
+place-next One k = omega arith
+place-next Two k = omega arith
+place-next Four k = omega arith
 
-limits-next : (s : List ℕ) (k : ℕ) → limitsIn s 0 (suc k) ≡ limitsIn s 0 k + cond (isLimit 32767 32768 (signedAt w16 s (2 * k))) 1 0
-unfolding limitsIn
-limits-next s k = let e : 0 + 2 * k ≡ 2 * k = omega arith in rw e
+place-on : (z : Size) (at j k : ℕ) → at + sizeOf z * (j + k) ≡ at + sizeOf z * j + sizeOf z * k
+place-on One at j k = omega arith
+place-on Two at j k = omega arith
+place-on Four at j k = omega arith
 
--- a number more
-pub limits-more : (s : List ℕ) (at k : ℕ) → limitsIn s at (k + 1) ≡ limitsIn s at k + limitAt s (at + 2 * k)
-unfolding limitsIn
-limits-more s at k = rw (add-one k)
+pub place-within : (z : Size) (i k : ℕ) → i ≤ k → sizeOf z * i ≤ sizeOf z * k
+place-within One i k h = omega arith
+place-within Two i k h = omega arith
+place-within Four i k h = omega arith
 
--- a block more
-pub limits-on : (s : List ℕ) (at j k : ℕ) → limitsIn s at (j + k) ≡ limitsIn s at j + limitsIn s (at + 2 * j) k
-unfolding limitsIn
-limits-on s at j zero = rw (add-zero j) (omega arith)
-limits-on s at j (suc k) =
-    let e : at + 2 * (j + k) ≡ at + 2 * j + 2 * k = omega arith in
-    let o : j + suc k ≡ suc (j + k) = omega arith in
-    let b = limits-on s at j k in
-    rw (o, e) (omega arith)
+-- a block among k numbers
+pub block-within : (z : Size) (i b k : ℕ) → i + b ≤ k → sizeOf z * i + sizeOf z * b ≤ sizeOf z * k
+block-within One i b k h = omega arith
+block-within Two i b k h = omega arith
+block-within Four i b k h = omega arith
+
+-- so many numbers as the bytes hold
+pub count-within : (z : Size) (n : ℕ) → (sizeOf z * (n / sizeOf z) ≤ n) × (n - sizeOf z * (n / sizeOf z) < sizeOf z)
+count-within One n = (omega arith, omega arith)
+count-within Two n = (omega arith, omega arith)
+count-within Four n = (omega arith, omega arith)
+
+-- Limits in blocks
+
+module _ (z : Size) (s : List ℕ) where
+  pub limits-few : (at k : ℕ) → limitsIn z s at k ≤ k
+  unfolding limitsIn
+  limits-few at zero = omega arith
+  limits-few at (suc k) = let a = limits-few at k in let b = few (isLimit (upper z) (lower z) (signedAt (widthOf z) s (at + sizeOf z * k))) in omega arith
+
+  limits-next : (k : ℕ) → limitsIn z s 0 (suc k) ≡ limitsIn z s 0 k + cond (isLimit (upper z) (lower z) (signedAt (widthOf z) s (sizeOf z * k))) 1 0
+  unfolding limitsIn
+  limits-next k = let e : 0 + sizeOf z * k ≡ sizeOf z * k = omega arith in rw e
+
+  -- a number more
+  pub limits-more : (at k : ℕ) → limitsIn z s at (k + 1) ≡ limitsIn z s at k + limitAt z s (at + sizeOf z * k)
+  unfolding limitsIn
+  limits-more at k = rw (add-one k)
+
+  -- a block more
+  pub limits-on : (at j k : ℕ) → limitsIn z s at (j + k) ≡ limitsIn z s at j + limitsIn z s (at + sizeOf z * j) k
+  unfolding limitsIn
+  limits-on at j zero = rw (add-zero j) (omega arith)
+  limits-on at j (suc k) =
+      let e = place-on z at j k in
+      let o : j + suc k ≡ suc (j + k) = omega arith in
+      let b = limits-on at j k in
+      rw (o, e) (omega arith)
+
+  pub limits-after : (i k : ℕ) → limitsIn z s 0 (i + k) ≡ limitsIn z s 0 i + limitsIn z s (sizeOf z * i) k
+  limits-after i k = let e : 0 + sizeOf z * i ≡ sizeOf z * i = omega arith in limits-on 0 i k ∙ rw e
+
+  -- Limits in a row
+
+  row-limits : (k : ℕ) → rowAt z s k ≤ limitsIn z s 0 k
+  unfolding rowAt limitsIn
+  row-limits zero = omega arith
+  row-limits (suc k) = let e : 0 + sizeOf z * k ≡ sizeOf z * k = omega arith in rw e (by (isLimit (upper z) (lower z) (signedAt (widthOf z) s (sizeOf z * k))) (row-limits k))
+    where
+      by : (t : Bool) → rowAt z s k ≤ limitsIn z s 0 k → cond t (suc (rowAt z s k)) 0 ≤ limitsIn z s 0 k + cond t 1 0
+      by true a = omega arith
+      by false a = omega arith
+
+  -- a row grows by one number at a time
+  row-on : (i j : ℕ) → rowAt z s (i + j) ≤ rowAt z s i + j
+  unfolding rowAt
+  row-on i zero = rw (add-zero i) (omega arith)
+  row-on i (suc j) =
+      let o : i + suc j ≡ suc (i + j) = omega arith in
+      let a = row-on i j in
+      rw o (by (isLimit (upper z) (lower z) (signedAt (widthOf z) s (sizeOf z * (i + j)))) a)
+    where
+      by : (t : Bool) → rowAt z s (i + j) ≤ rowAt z s i + j → cond t (suc (rowAt z s (i + j))) 0 ≤ rowAt z s i + suc j
+      by true a = omega arith
+      by false a = omega arith
+
+  -- a number that is no limit ends a row
+  row-ends : (i j : ℕ) → limitsIn z s (sizeOf z * i) j < j → rowAt z s (i + j) < j
+  unfolding rowAt limitsIn
+  row-ends i zero h = absurd (omega arith)
+  row-ends i (suc j) h =
+      let o : i + suc j ≡ suc (i + j) = omega arith in
+      let e : sizeOf z * (i + j) ≡ sizeOf z * i + sizeOf z * j = let p = place-on z 0 i j in omega arith in
+      rw (o, e) (by (isLimit (upper z) (lower z) (signedAt (widthOf z) s (sizeOf z * i + sizeOf z * j))) (row-ends i j) h)
+    where
+      by : (t : Bool) → (limitsIn z s (sizeOf z * i) j < j → rowAt z s (i + j) < j) → limitsIn z s (sizeOf z * i) j + cond t 1 0 < suc j → cond t (suc (rowAt z s (i + j))) 0 < suc j
+      by true f h = let a = f (omega arith) in omega arith
+      by false f h = omega arith
+
+-- few limits are in short rows
+pub short-few : (two : Bool) (s : List ℕ) (k : ℕ) → limitsIn (packedSize two) s 0 k ≤ mostLimits two → Short two s k
+short-few two s k h j l =
+    let z = packedSize two in
+    let a = row-limits (packedSize two) s j in
+    let e : j + (k - j) ≡ k = omega arith in
+    let b = ap (limitsIn (packedSize two) s 0) e in
+    let c = limits-on (packedSize two) s 0 j (k - j) in
+    omega arith
+
+-- no block among i numbers is all limits
+abbrev pub Broken : Bool → List ℕ → ℕ → Type 0
+Broken two s i = (rowAt (packedSize two) s i ≤ 255) × ((j : ℕ) → j ≤ i → rowAt (packedSize two) s j ≤ 511)
+
+-- a place in what follows, or before
+row-past : (two : Bool) (s : List ℕ) (i k j : ℕ) → Broken two s i → j ≤ i + k → k ≤ 256 → rowAt (packedSize two) s j ≤ 511
+row-past two s i k j w h l = by (ltb i j) refl
+  where
+    by : (t : Bool) → ltb i j ≡ t → rowAt (packedSize two) s j ≤ 511
+    by true e =
+        let m = ltb-true i j e in
+        let q : i + (j - i) ≡ j = omega arith in
+        let a = row-on (packedSize two) s i (j - i) in
+        let b = ap (rowAt (packedSize two) s) q in
+        let c = w .0 in
+        omega arith
+    by false e = w .1 j (ltb-false i j e)
+
+pub broken-start : (two : Bool) (s : List ℕ) → Broken two s 0
+unfolding rowAt
+broken-start two s = (omega arith, (λ j h. let e : j ≡ 0 = omega arith in rw e (omega arith)))
+
+pub broken-more : (two : Bool) (s : List ℕ) (i : ℕ) → Broken two s i → (limitsIn (packedSize two) s (sizeOf (packedSize two) * i) 256 ≡ 256 → ⊥) → Broken two s (i + 256)
+broken-more two s i w q =
+    let f = limits-few (packedSize two) s (sizeOf (packedSize two) * i) 256 in
+    let l : limitsIn (packedSize two) s (sizeOf (packedSize two) * i) 256 < 256 = omega (arith, q) in
+    let a = row-ends (packedSize two) s i 256 l in
+    (omega arith, (λ j h. row-past two s i 256 j w h (omega arith)))
+
+pub broken-short : (two : Bool) (s : List ℕ) (i k : ℕ) → Broken two s i → i ≤ k → k - i < 256 → Short two s k
+broken-short two s i k w h l j m = let a = row-past two s i (k - i) j w (omega arith) (omega arith) in wide two a
+  where
+    wide : (t : Bool) → rowAt (packedSize two) s j ≤ 511 → rowAt (packedSize two) s j ≤ mostLimits t
+    wide true a = omega arith
+    wide false a = omega arith
 
 -- The bytes of a limit
 
@@ -79,17 +196,17 @@ module _ (s : List ℕ) (at : ℕ) (h : at + 2 ≤ length s) (a b : ℕ) (p : ge
       let e : (0 * 256 + getD s (at + 0) 0) * 256 + getD s (at + 1) 0 ≡ a * 256 + b = rw (add-zero at, p, q) (omega arith) in
       ap (toZ w16) (unsignedAt-loads 2 s at h ∙ e)
 
-  pub limit-upper : (b * 256 + a + 129) % 65536 ≡ 0 → limitAt s at ≡ 1
+  pub limit-upper : (b * 256 + a + 129) % 65536 ≡ 0 → limitAt Two s at ≡ 1
   limit-upper e =
       let u : a * 256 + b ≡ 32767 = omega arith in
       rw (signed, u) refl
 
-  pub limit-lower : (b * 256 + a + 129) % 65536 ≡ 257 → limitAt s at ≡ 1
+  pub limit-lower : (b * 256 + a + 129) % 65536 ≡ 257 → limitAt Two s at ≡ 1
   limit-lower e =
       let u : a * 256 + b ≡ 32768 = omega arith in
       rw (signed, u) refl
 
-  pub limit-none : ((b * 256 + a + 129) % 65536 ≡ 0 → ⊥) → ((b * 256 + a + 129) % 65536 ≡ 257 → ⊥) → limitAt s at ≡ 0
+  pub limit-none : ((b * 256 + a + 129) % 65536 ≡ 0 → ⊥) → ((b * 256 + a + 129) % 65536 ≡ 257 → ⊥) → limitAt Two s at ≡ 0
   limit-none f g = rw (signed, other (a * 256 + b) (omega arith) upper-not lower-not) refl
     where
       upper-not : a * 256 + b ≡ 32767 → ⊥
@@ -104,73 +221,130 @@ module _ (s : List ℕ) (at : ℕ) (h : at + 2 ≤ length s) (a b : ℕ) (p : ge
           let n : b ≡ 0 = omega arith in
           g (rw (m, n) refl)
 
+-- a byte, by its bits
+pub byte-limit : (u : ℕ) → u < 256 → (u ≡ 127 → ⊥) → (u ≡ 128 → ⊥) → isLimit 127 128 (toZ w8 u) ≡ false
+byte-limit u h p q = by (ltb u 128) refl
+  where
+    by : (t : Bool) → ltb u 128 ≡ t → isLimit 127 128 (cond t (pos u) (negsuc (256 - suc u))) ≡ false
+    by true e = ne-eqb u 127 p
+    by false e = let l = ltb-false u 128 e in ne-eqb (suc (256 - suc u)) 128 (λ r. q (omega arith))
+
+-- the number in a byte
+pub byte-signed : (s : List ℕ) (at : ℕ) → at + 1 ≤ length s → signedAt w8 s at ≡ toZ w8 (getD s at 0)
+unfolding signedAt
+byte-signed s at h =
+    let e : 0 * 256 + getD s (at + 0) 0 ≡ getD s at 0 = rw (add-zero at) (omega arith) in
+    ap (toZ w8) (unsignedAt-loads 1 s at h ∙ e)
+
 -- The last number
 
-pub ends-none : (s : List ℕ) (k : ℕ) → k ≡ 0 → endsAtLimit s k ≡ false
-unfolding endsAtLimit
-ends-none s zero e = refl
-ends-none s (suc k) e = absurd (omega arith)
+module _ (z : Size) (s : List ℕ) where
+  pub ends-none : (k : ℕ) → k ≡ 0 → endsAtLimit z s k ≡ false
+  unfolding endsAtLimit
+  ends-none zero e = refl
+  ends-none (suc k) e = absurd (omega arith)
 
-ends-next : (s : List ℕ) (k : ℕ) → endsAtLimit s (suc k) ≡ isLimit 32767 32768 (signedAt w16 s (2 * k))
-unfolding endsAtLimit
-ends-next s k = refl
+  ends-next : (k : ℕ) → endsAtLimit z s (suc k) ≡ isLimit (upper z) (lower z) (signedAt (widthOf z) s (sizeOf z * k))
+  unfolding endsAtLimit
+  ends-next k = refl
 
-pub ends-last : (s : List ℕ) (k : ℕ) → (k ≡ 0 → ⊥) → endsAtLimit s k ≡ isLimit 32767 32768 (signedAt w16 s (2 * (k - 1)))
-unfolding endsAtLimit
-ends-last s zero f = absurd (f refl)
-ends-last s (suc k) f = let e : suc k - 1 ≡ k = omega arith in rw e
+  row-next : (k : ℕ) → rowAt z s (suc k) ≡ cond (isLimit (upper z) (lower z) (signedAt (widthOf z) s (sizeOf z * k))) (suc (rowAt z s k)) 0
+  unfolding rowAt
+  row-next k = refl
 
--- The results, where limits are few
+  pub ends-last : (k : ℕ) → (k ≡ 0 → ⊥) → endsAtLimit z s k ≡ isLimit (upper z) (lower z) (signedAt (widthOf z) s (sizeOf z * (k - 1)))
+  unfolding endsAtLimit
+  ends-last zero f = absurd (f refl)
+  ends-last (suc k) f = let e : suc k - 1 ≡ k = omega arith in rw e
 
-abbrev Few : ℕ → List ℕ → ℕ → ℕ → Bool → Type 0
-Few n s at limits begun = (total : ℤ) × (ok : Bool) × Totalled false s at limits begun total ok
+-- The results, where rows of limits are short
 
--- a number more
-one-more : (n : ℕ) (s : List ℕ) (k m : ℕ) → m ≤ 65534 → (limits : ℕ) (begun : Bool) → 2 * suc k ≤ length s → (limits ≤ m → Few n s (2 * k) limits begun) → (t : Bool) → isLimit 32767 32768 (signedAt w16 s (2 * k)) ≡ t → limits + cond t 1 0 ≤ m → Few n s (2 * suc k) (limits + cond t 1 0) t
-one-more n s k m l limits begun h before true e f =
-    let w = before (omega arith) in
-    let x = signedAt w16 s (2 * k) in
-    let i : 2 * suc k ≡ 2 * k + 2 = omega arith in
-    rw i (plusDelta (w .0) x, w .1, totalled-more false n s (2 * k) limits begun (w .0) (w .1) (w .2) (omega arith) (omega arith) x (signedAt-fits Two s (2 * k)) refl (plusDelta (w .0) x) e refl)
-one-more n s k m l limits begun h before false e f =
-    let w = before (omega arith) in
-    let x = signedAt w16 s (2 * k) in
-    let i : 2 * suc k ≡ 2 * k + 2 = omega arith in
-    rw (i, add-zero limits) (_, _, totalled-done false n s (2 * k) limits begun (w .0) (w .1) (w .2) (omega arith) (omega arith) x (signedAt-fits Two s (2 * k)) refl (plusDelta (w .0) x) e refl (plus-fits (w .0) x))
+-- the numbers before the place are unpacked, and the limits of a result that has begun stand in a row
+abbrev Few : Size → List ℕ → ℕ → ℕ → Bool → ℕ → Type 0
+Few z s at count begun row = (part : ℤ) × (sum : ℤ) × (ok : Bool) × Unpacked z false s at part begun count sum ok × (mag part ≤ lower z * row)
 
-shorter : (k n : ℕ) → 2 * suc k ≤ n → 2 * k ≤ n
-shorter k n h = omega arith
+-- a number more on top of a row
+row-sum : (two : Bool) (m n row : ℕ) → m ≤ lower (packedSize two) * row → n < lower (packedSize two) → row ≤ mostLimits two
+    → (suc (m + n) ≤ lower (packedSize two) * suc row) × (suc (m + n) < 2147483648)
+row-sum true m n row h k l = (omega arith, omega arith)
+row-sum false m n row h k l = (omega arith, omega arith)
 
-first : (n : ℕ) (s : List ℕ) → Few n s (2 * 0) (limitsIn s 0 0) (endsAtLimit s 0)
-first n s = rw (limits-none s 0, ends-none s 0 refl) (pos 0, true, totalled-start false s)
+number-small : (two : Bool) (s : List ℕ) (at : ℕ) → mag (signedAt (widthOf (packedSize two)) s at) < lower (packedSize two)
+number-small true s at = signedAt-fits Two s at .sfits
+number-small false s at = signedAt-fits One s at .sfits
 
-next : (n : ℕ) (s : List ℕ) (k m : ℕ) → m ≤ 65534 → 2 * suc k ≤ length s → (limitsIn s 0 k ≤ m → Few n s (2 * k) (limitsIn s 0 k) (endsAtLimit s k)) → limitsIn s 0 (suc k) ≤ m → Few n s (2 * suc k) (limitsIn s 0 (suc k)) (endsAtLimit s (suc k))
-next n s k m l h before f =
-    rw (limits-next s k, ends-next s k)
-    (one-more n s k m l (limitsIn s 0 k) (endsAtLimit s k) h before (isLimit 32767 32768 (signedAt w16 s (2 * k))) refl (rw (limits-next s k) at f))
+no-row : (two : Bool) → mag (pos 0) ≤ lower (packedSize two) * 0
+no-row true = omega arith
+no-row false = omega arith
 
-from-first : (n : ℕ) (s : List ℕ) (m : ℕ) → m ≤ 65534 → (k : ℕ) → 2 * k ≤ length s → limitsIn s 0 k ≤ m → Few n s (2 * k) (limitsIn s 0 k) (endsAtLimit s k)
-from-first n s m l zero h f = first n s
-from-first n s m l (suc k) h f = next n s k m l h (from-first n s m l k (shorter k (length s) h)) f
+one-more : (two : Bool) (s : List ℕ) (at count : ℕ) (begun : Bool) (row : ℕ) → Few (packedSize two) s at count begun row → at + sizeOf (packedSize two) ≤ length s → row ≤ mostLimits two → (t : Bool)
+    → isLimit (upper (packedSize two)) (lower (packedSize two)) (signedAt (widthOf (packedSize two)) s at) ≡ t
+    → Few (packedSize two) s (at + sizeOf (packedSize two)) (count + cond t 0 1) t (cond t (suc row) 0)
+one-more two s at count begun row w h l t e = by t e
+  where
+    x : ℤ
+    x = signedAt (widthOf (packedSize two)) s at
 
-module _ (n : ℕ) (s : List ℕ) (k : ℕ) (h : 2 * k ≤ length s) (g : length s - 2 * k < 2) (f : limitsIn s 0 k ≤ 65534) where
-  all : Few n s (2 * k) (limitsIn s 0 k) (endsAtLimit s k)
-  all = from-first n s 65534 (omega arith) k h f
+    near : (suc (mag (w .0) + mag x) ≤ lower (packedSize two) * suc row) × (suc (mag (w .0) + mag x) < 2147483648)
+    near = row-sum two (mag (w .0)) (mag x) row (w .4) (number-small two s at) l
 
-  pub limits-unfinished : endsAtLimit s k ≡ true → numberNotAllowed ≡ refusalOf n (readIn (Packed Two) s)
+    turned : turnOf (packedSize two) (w .0) x ≡ cond (isLimit (upper (packedSize two)) (lower (packedSize two)) x) (More (w .0 +ℤ x)) (Done (w .0 +ℤ x))
+    turned = turn-inside (packedSize two) (w .0) x (let a = mag-add (w .0) x in let b = near .1 in omega arith)
+
+    by : (t : Bool) → isLimit (upper (packedSize two)) (lower (packedSize two)) x ≡ t → Few (packedSize two) s (at + sizeOf (packedSize two)) (count + cond t 0 1) t (cond t (suc row) 0)
+    by true e =
+        let q : turnOf (packedSize two) (w .0) x ≡ More (w .0 +ℤ x) = turned ∙ rw e in
+        let a = mag-add (w .0) x in
+        let b = near .0 in
+        rw (add-zero count) (w .0 +ℤ x, w .1, w .2, unpacked-more (packedSize two) false 0 s at (w .0) begun count (w .1) (w .2) (w .3) h (w .0 +ℤ x) q, omega arith)
+    by false e =
+        let q : turnOf (packedSize two) (w .0) x ≡ Done (w .0 +ℤ x) = turned ∙ rw e in
+        (pos 0, w .0 +ℤ x, _, unpacked-done (packedSize two) false 0 s at (w .0) begun count (w .1) (w .2) (w .3) h (w .0 +ℤ x) (w .0 +ℤ x) q refl, no-row two)
+
+-- so many numbers
+abbrev FewAt : Bool → List ℕ → ℕ → Type 0
+FewAt two s k = Few (packedSize two) s (sizeOf (packedSize two) * k) (k - limitsIn (packedSize two) s 0 k) (endsAtLimit (packedSize two) s k) (rowAt (packedSize two) s k)
+
+few-none : (two : Bool) (s : List ℕ) → FewAt two s 0
+unfolding limitsIn endsAtLimit rowAt
+few-none two s = rw (mul-zero (sizeOf (packedSize two))) (pos 0, pos 0, true, unpacked-start (packedSize two) false s, no-row two)
+
+few-next : (two : Bool) (s : List ℕ) (k : ℕ) → sizeOf (packedSize two) * suc k ≤ length s → rowAt (packedSize two) s k ≤ mostLimits two → FewAt two s k → FewAt two s (suc k)
+few-next two s k h q w =
+    let p = place-next (packedSize two) k in
+    let m = limits-next (packedSize two) s k in
+    let f = limits-few (packedSize two) s 0 k in
+    let x = isLimit (upper (packedSize two)) (lower (packedSize two)) (signedAt (widthOf (packedSize two)) s (sizeOf (packedSize two) * k)) in
+    let n : suc k - limitsIn (packedSize two) s 0 (suc k) ≡ (k - limitsIn (packedSize two) s 0 k) + cond (isLimit (upper (packedSize two)) (lower (packedSize two)) (signedAt (widthOf (packedSize two)) s (sizeOf (packedSize two) * k))) 0 1 = ap (λ (t : ℕ). suc k - t) m ∙ counted (isLimit (upper (packedSize two)) (lower (packedSize two)) (signedAt (widthOf (packedSize two)) s (sizeOf (packedSize two) * k))) (limitsIn (packedSize two) s 0 k) f in
+    rw (p, n, ends-next (packedSize two) s k, row-next (packedSize two) s k) (one-more two s (sizeOf (packedSize two) * k) (k - limitsIn (packedSize two) s 0 k) (endsAtLimit (packedSize two) s k) (rowAt (packedSize two) s k) w (omega arith) q (isLimit (upper (packedSize two)) (lower (packedSize two)) (signedAt (widthOf (packedSize two)) s (sizeOf (packedSize two) * k))) refl)
+  where
+    counted : (t : Bool) (m : ℕ) → m ≤ k → suc k - (m + cond t 1 0) ≡ (k - m) + cond t 0 1
+    counted true m l = omega arith
+    counted false m l = omega arith
+
+few-all : (two : Bool) (s : List ℕ) (k : ℕ) → sizeOf (packedSize two) * k ≤ length s → Short two s k → FewAt two s k
+few-all two s zero h q = few-none two s
+few-all two s (suc k) h q = let p = place-next (packedSize two) k in few-next two s k h (q k (omega arith)) (few-all two s k (omega arith) (λ j l. q j (omega arith)))
+
+module _ (two : Bool) (n : ℕ) (s : List ℕ) (k : ℕ) (h : sizeOf (packedSize two) * k ≤ length s) (g : length s - sizeOf (packedSize two) * k < sizeOf (packedSize two)) (q : Short two s k) where
+  all : FewAt two s k
+  all = few-all two s k h q
+
+  told : outcomeRefusal (scanOf (Packed (packedSize two)) false n (readIn (Packed (packedSize two)) s)) ≡ refusalOf n (readIn (Packed (packedSize two)) s)
+  told = outcome-scan (Packed (packedSize two)) false n (readIn (Packed (packedSize two)) s)
+
+  pub limits-unfinished : endsAtLimit (packedSize two) s k ≡ true → numberNotAllowed ≡ refusalOf n (readIn (Packed (packedSize two)) s)
   limits-unfinished e =
       let w = all in
-      ap outcomeRefusal (totalled-unfinished false n s (2 * k) (limitsIn s 0 k) (endsAtLimit s k) (w .0) (w .1) (w .2) g e) ∙ outcome-scan (Packed Two) false n (readIn (Packed Two) s)
+      ap outcomeRefusal (unpacked-unfinished (packedSize two) false n s (sizeOf (packedSize two) * k) (w .0) _ _ (w .1) (w .2) (w .3) g e) ∙ told
 
-  module _ (e : endsAtLimit s k ≡ false) where
-    pub limits-other : (k - limitsIn s 0 k ≡ n → ⊥) → lengthDiffers ≡ refusalOf n (readIn (Packed Two) s)
-    limits-other q =
+  module _ (e : endsAtLimit (packedSize two) s k ≡ false) where
+    pub limits-other : (k - limitsIn (packedSize two) s 0 k ≡ n → ⊥) → lengthDiffers ≡ refusalOf n (readIn (Packed (packedSize two)) s)
+    limits-other f =
         let w = all in
-        let c = w .2 .4 in
-        ap outcomeRefusal (totalled-other false n s (2 * k) (limitsIn s 0 k) (endsAtLimit s k) (w .0) (w .1) (w .2) g e (λ x. q (omega arith))) ∙ outcome-scan (Packed Two) false n (readIn (Packed Two) s)
+        ap outcomeRefusal (unpacked-other (packedSize two) false n s (sizeOf (packedSize two) * k) (w .0) _ _ (w .1) (w .2) (w .3) g e f) ∙ told
 
-    pub limits-all : k - limitsIn s 0 k ≡ n → accepted ≡ refusalOf n (readIn (Packed Two) s)
-    limits-all q =
+    pub limits-all : k - limitsIn (packedSize two) s 0 k ≡ n → accepted ≡ refusalOf n (readIn (Packed (packedSize two)) s)
+    limits-all f =
         let w = all in
-        let c = w .2 .4 in
-        ap outcomeRefusal (totalled-all false n s (2 * k) (limitsIn s 0 k) (endsAtLimit s k) (w .0) (w .1) (w .2) g e (omega arith)) ∙ outcome-scan (Packed Two) false n (readIn (Packed Two) s)
+        ap outcomeRefusal (unpacked-all (packedSize two) false n s (sizeOf (packedSize two) * k) (w .0) _ _ (w .1) (w .2) (w .3) g e f) ∙ told

@@ -24,10 +24,10 @@ use Rattle.payloads.specs.declared.Outcome.the-variants.{Fine, Refused}
 use Rattle.payloads.specs.Exact.{exact, allExact}
 use Rattle.payloads.specs.Scan.{scanOf}
 use Rattle.payloads.specs.Results.{HasRoom, Wrote}
-use Rattle.payloads.specs.Laws.Items.{from, after, from-turn, from-end, packed-is}
+use Rattle.payloads.specs.Laws.Items.{from, after, from-turn, from-end, from-some, packed-is}
 use Rattle.payloads.specs.Laws.Exact.{exact-append}
 use Rattle.payloads.specs.Laws.Scan.{map-id, map-both}
-use Rattle.payloads.specs.Laws.Writing.{WrittenTo, written-start, written-length, written-room, written-one, written-end, written-wrong}
+use Rattle.payloads.specs.Laws.Writing.{WrittenTo, written-start, written-length, written-room, written-left, written-one, written-end, written-wrong}
 
 -- The results of the values p are done before the place: how many, the last, and whether all are exact. A result that has begun has the
 -- sum `part` so far.
@@ -85,17 +85,17 @@ module _ (z : Size) (d : Bool) (n : ℕ) (s : List ℕ) (at : ℕ) (part : ℤ) 
         sym (ap (scanOf (Packed z) d n) a)
 
     module _ (e : begun ≡ false) where
-      whole : readIn (Packed z) s ≡ some (w .0)
-      whole = w .1 ∙ ap (Option·map (λ (l : List ℤ). w .0 ++ l)) (left ∙ ap (λ (b : Bool). cond b none (some [])) e) ∙ ap some (append-nil (w .0))
+      pub unpacked-whole : readIn (Packed z) s ≡ some (w .0)
+      unpacked-whole = w .1 ∙ ap (Option·map (λ (l : List ℤ). w .0 ++ l)) (left ∙ ap (λ (b : Bool). cond b none (some [])) e) ∙ ap some (append-nil (w .0))
 
       -- too many results, or too few
       pub unpacked-other : (count ≡ n → ⊥) → Refused lengthDiffers ≡ scanOf (Packed z) d n (readIn (Packed z) s)
-      unpacked-other q = sym (ap (scanOf (Packed z) d n) whole ∙ rw (ne-eqb (length (w .0)) n (λ x. q (w .2 ∙ x))))
+      unpacked-other q = sym (ap (scanOf (Packed z) d n) unpacked-whole ∙ rw (ne-eqb (length (w .0)) n (λ x. q (w .2 ∙ x))))
 
       -- as many as there should be
       pub unpacked-all : count ≡ n → Fine ok ≡ scanOf (Packed z) d n (readIn (Packed z) s)
       unpacked-all q =
-          sym (ap (scanOf (Packed z) d n) whole ∙ rw (eq-eqb (length (w .0)) n (sym (w .2) ∙ q)) (sym (ap Fine (w .4))))
+          sym (ap (scanOf (Packed z) d n) unpacked-whole ∙ rw (eq-eqb (length (w .0)) n (sym (w .2) ∙ q)) (sym (ap Fine (w .4))))
 
 -- Writing
 
@@ -115,8 +115,8 @@ module _ {B : Type 0} (g : ℤ → B) (z : Size) (d : Bool) (s : List ℕ) (old 
       pub step : (u : Turn) → turnOf z part (signedAt (widthOf z) s at) ≡ u → from z s part (w .0) at ≡ after z u s (at + sizeOf z)
       step u e = from-turn z part (w .0) s at h ∙ ap (λ (v : Turn). after z v s (at + sizeOf z)) e
 
-      pub packed-written-more : (a : ℤ) → turnOf z part (signedAt (widthOf z) s at) ≡ More a → WrittenPacked (at + sizeOf z) a o new x
-      packed-written-more a e = (true, subst (λ (l : Option (List ℤ)). WrittenTo g (Packed z) d s old room l o new x) (step (More a) e) (w .1))
+      pub packed-written-more : (a : ℤ) → turnOf z part (signedAt (widthOf z) s at) ≡ More a → WrittenTo g (Packed z) d s old room (from z s a true (at + sizeOf z)) o new x
+      packed-written-more a e = subst (λ (l : Option (List ℤ)). WrittenTo g (Packed z) d s old room l o new x) (step (More a) e) (w .1)
 
       module _ (r : ℤ) (e : turnOf z part (signedAt (widthOf z) s at) ≡ Done r) where
         pub packed-written-room : o + 1 ≤ length new
@@ -129,7 +129,15 @@ module _ {B : Type 0} (g : ℤ → B) (z : Size) (d : Bool) (s : List ℕ) (old 
       pub packed-written-wrong : {A : Type 0} → turnOf z part (signedAt (widthOf z) s at) ≡ Wrong → A
       packed-written-wrong e = written-wrong g (Packed z) d s old room (from z s part (w .0) at) o new x (w .1) (step Wrong e)
 
-    -- where too few bytes are left all is written
+      -- a result is left, for which there is room
+      pub packed-written-left : o + 1 ≤ length new
+      packed-written-left = written-left g (Packed z) d s old room (from z s part (w .0) at) o new x (w .1) (λ r e. from-some z part (w .0) s at h r e)
+
+    -- where too few bytes are left no result has begun
+    pub packed-written-unfinished : {A : Type 0} → length s - at < sizeOf z → w .0 ≡ true → A
+    packed-written-unfinished h e = written-wrong g (Packed z) d s old room (from z s part (w .0) at) o new x (w .1) (from-end z part (w .0) s at h ∙ ap (λ (b : Bool). cond b none (some [])) e)
+
+    -- and all is written
     pub packed-written-end : length s - at < sizeOf z → Wrote g (Packed z) d s old new
     packed-written-end h = by (w .0) (w .1)
       where

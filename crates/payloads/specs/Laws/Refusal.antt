@@ -13,10 +13,11 @@ use borrow.Author.Tests.{eq-eqb, ne-eqb, eqb-true, eqb-false}
 use Rattle.refusal.specs.Table.{numberNotAllowed, lengthDiffers}
 use Rattle.refusal.specs.First.{unless}
 use Rattle.numbers.specs.BigEndian.{Bytes}
+use Rattle.steps.specs.declared.Size.{Size}
 use Rattle.steps.specs.declared.Size.the-variants.{One}
 use Rattle.steps.specs.declared.Range.the-variants.{Ascii}
 use Rattle.steps.specs.declared.Form.{Form}
-use Rattle.steps.specs.declared.Form.the-variants.{Names}
+use Rattle.steps.specs.declared.Form.the-variants.{Packed, Names}
 use Rattle.steps.specs.Numbers.{numbersIn}
 use Rattle.steps.specs.Delta.{sumsIf}
 use Rattle.steps.specs.Payload.{allIn, padded, allowed, onlyIf, readIn, heldIn}
@@ -25,6 +26,7 @@ use Rattle.columns.specs.Table.{elements, isNames}
 use Rattle.payloads.specs.declared.Outcome.the-variants.{Fine, Refused}
 use Rattle.payloads.specs.Exact.{allExact}
 use Rattle.payloads.specs.Items.{outcomeRefusal}
+use Rattle.payloads.specs.Results.{ResultsJudged}
 use Rattle.payloads.specs.Scan.{judgesExact, scanOf, refusalOf}
 use Rattle.payloads.specs.Laws.Scan.{held-read, elements-one}
 
@@ -45,17 +47,29 @@ refusal-held f g m n s r h q e =
     e ∙ ap (refusalOf n) (sym (held-read f m s h)) ∙ ap (λ (c : ℕ). refusalOf c (heldIn f m s)) (sym (elements-one f n m h))
     ∙ ap (λ (x : Form). refusalOf (elements x n m) (heldIn x m s)) (sym q)
 
--- a scan of names by their refusal
-pub names-scanned : (c m : ℕ) (s : List ℕ) (r : ℕ) → r ≡ refusalOf c (heldIn Names m s) → (r ≡ 0 → ⊥) → Refused r ≡ scanOf Names false c (heldIn Names m s)
-names-scanned c m s r e h = by (heldIn Names m s) e
+-- a scan by its refusal
+pub refusal-scanned : (f : Form) (d : Bool) (n r : ℕ) (o : Option (List ℤ)) → r ≡ refusalOf n o → (r ≡ 0 → ⊥) → Refused r ≡ scanOf f d n o
+refusal-scanned f d n r none e h = ap Refused e
+refusal-scanned f d n r (some l) e h = by (eqb (length l) n) e
   where
-    tested : (l : List ℤ) (t : Bool) → r ≡ unless t lengthDiffers → Refused r ≡ cond t (Fine false) (Refused lengthDiffers)
-    tested l true q = absurd (h q)
-    tested l false q = ap Refused q
+    by : (t : Bool) → r ≡ unless t lengthDiffers → Refused r ≡ cond t (Fine (judgesExact f d && allExact (sumsIf d l))) (Refused lengthDiffers)
+    by true q = absurd (h q)
+    by false q = ap Refused q
 
-    by : (o : Option (List ℤ)) → r ≡ refusalOf c o → Refused r ≡ scanOf Names false c o
-    by none q = ap Refused q
-    by (some l) q = tested l (eqb (length l) c) q
+pub names-scanned : (c m : ℕ) (s : List ℕ) (r : ℕ) → r ≡ refusalOf c (heldIn Names m s) → (r ≡ 0 → ⊥) → Refused r ≡ scanOf Names false c (heldIn Names m s)
+names-scanned c m s r e h = refusal-scanned Names false c r (heldIn Names m s) e h
+
+-- packed numbers that are not refused, by whether their results are exact
+pub packed-scanned : (z : Size) (d : Bool) (n : ℕ) (s : List ℕ) (ok : Bool) → 0 ≡ refusalOf n (readIn (Packed z) s) → ResultsJudged z d s ok → Fine ok ≡ scanOf (Packed z) d n (readIn (Packed z) s)
+packed-scanned z d n s ok e h = by (readIn (Packed z) s) e h
+  where
+    tested : (l : List ℤ) (t : Bool) → 0 ≡ unless t lengthDiffers → ok ≡ allExact (sumsIf d l) → Fine ok ≡ cond t (Fine (allExact (sumsIf d l))) (Refused lengthDiffers)
+    tested l true q g = ap Fine g
+    tested l false q g = absurd (omega arith)
+
+    by : (o : Option (List ℤ)) → 0 ≡ refusalOf n o → ((l : List ℤ) → o ≡ some l → ok ≡ allExact (sumsIf d l)) → Fine ok ≡ scanOf (Packed z) d n o
+    by none q g = absurd (omega arith)
+    by (some l) q g = tested l (eqb (length l) n) q (g l refl)
 
 pub names-fine : (c m : ℕ) (s : List ℕ) → 0 ≡ refusalOf c (heldIn Names m s) → Fine false ≡ scanOf Names false c (heldIn Names m s)
 names-fine c m s e = by (heldIn Names m s) e

@@ -1,37 +1,42 @@
--- Laws of packed numbers of two bytes by one running total: of the result that has begun, and with delta of those before it too. So
--- few limits cannot lead a sum out of 32 bits. Assumes nothing.
+-- Laws of packed numbers by one running total: of the result that has begun, and with delta of those before it too. Assumes nothing.
 use mathlib.Core.Path.{_≡_, refl, sym, ap, _∙_}
-use mathlib.Core.Bool.{Bool, true, false, cond, _&&_}
+use mathlib.Core.Bool.{Bool, true, false, cond, _&&_, _||_}
+use mathlib.Core.Option.{some}
 use mathlib.Core.List.{List}
 use Prim.Native.Nat.{ℕ, suc, _+_, _-_, _*_, _%_, _<_, _≤_}
+use native.Mathlib.Nat.{add-zero}
 use native.Mathlib.Omega.{arith}
-use lib.ListN.{length, set, replicate}
+use lib.ListN.{length, set, replicate, length-set}
+use lib.Seq.{set-set}
 use lib.IntN.{ℤ, pos, negsuc, _+ℤ_}
 use lib.Signed.{mag}
 use lib.Dec.{ltb}
-use mir.Syntax.{w16, w32}
+use mir.Syntax.{w32}
 use mir.Val.{toZ, ofZ, SFits}
 use mir.Facts.{toZ-ofZ, ofZ-toZ}
-use borrow.Author.Tests.{ltb-true, ltb-false}
-use Rattle.refusal.specs.Table.{numberNotAllowed, lengthDiffers}
+use borrow.Author.Tests.{eq-eqb, ltb-true, ltb-false}
+use Rattle.refusal.specs.Table.{numberNotAllowed}
 use Rattle.numbers.specs.BigEndian.{signedAt}
-use Rattle.steps.specs.declared.Size.the-variants.{Two}
+use Rattle.steps.specs.declared.Size.{Size}
 use Rattle.steps.specs.declared.Form.the-variants.{Packed}
 use Rattle.steps.specs.declared.Turn.the-variants.{More, Done}
-use Rattle.steps.specs.Delta.{plusDelta, advance, resultsFrom}
+use Rattle.steps.specs.Width.{widthOf, sizeOf, upper, lower}
+use Rattle.steps.specs.Delta.{plusDelta, sumsIf, advance, resultsFrom}
 use Rattle.steps.specs.Packing.{isLimit}
 use Rattle.steps.specs.Steps.{turnOf}
 use Rattle.steps.specs.Laws.NumbersBack.{signedAt-32}
 use Rattle.steps.specs.Laws.Delta.{wrapped, plus-zero}
-use Rattle.steps.specs.Laws.Packing.{mag-add, turn-inside, turn-outside}
+use Rattle.steps.specs.Laws.Packing.{turn-inside, turn-outside}
+use Rattle.steps.specs.Laws.Allowed.{and-true}
 use Rattle.steps.specs.Payload.{readIn}
+use Rattle.payloads.specs.declared.Outcome.{Outcome}
 use Rattle.payloads.specs.declared.Outcome.the-variants.{Fine, Refused}
 use Rattle.payloads.specs.Exact.{exact, allExact}
 use Rattle.payloads.specs.Results.{HasRoom, Wrote, ResultsExact}
-use Rattle.payloads.specs.Scan.{scanOf}
+use Rattle.payloads.specs.Scan.{judgesExact, scanOf}
 use Rattle.payloads.specs.Laws.Items.{from}
-use Rattle.payloads.specs.Laws.Writing.{written-exact}
-use Rattle.payloads.specs.Laws.Packed.{step, WrittenPacked, packed-written-start, packed-written-length, packed-written-more, packed-written-room, packed-written-done, packed-written-wrong, packed-written-end, Unpacked, unpacked-start, unpacked-more, unpacked-done, unpacked-unfinished, unpacked-other, unpacked-all}
+use Rattle.payloads.specs.Laws.Writing.{WrittenTo, written-exact}
+use Rattle.payloads.specs.Laws.Packed.{step, WrittenPacked, packed-written-start, packed-written-length, packed-written-left, packed-written-more, packed-written-done, packed-written-wrong, packed-written-unfinished, packed-written-end, Unpacked, unpacked-start, unpacked-more, unpacked-done, unpacked-wrong, unpacked-unfinished, unpacked-whole}
 
 -- The total
 
@@ -59,7 +64,7 @@ total-more true a part x f g h =
     ∙ ap (λ (n : ℕ). toZ w32 ((ofZ w32 a + n) % 4294967296)) (sym (sum-bits part x f g h))
 
 -- the start of the next result
-pub total-start : (d : Bool) (a : ℤ) → SFits w32 a → cond d a (pos 0) ≡ advance d a (pos 0)
+total-start : (d : Bool) (a : ℤ) → SFits w32 a → cond d a (pos 0) ≡ advance d a (pos 0)
 total-start false a f = refl
 total-start true a f = sym (plus-zero a f)
 
@@ -68,117 +73,129 @@ at-first : (d : Bool) → pos 0 ≡ advance d (pos 0) (pos 0)
 at-first true = refl
 at-first false = refl
 
--- Numbers with few limits
+-- Numbers that have results
 
--- the numbers before the place are unpacked: so many were limits, and `part` is the sum of a result that has begun
-abbrev pub Totalled : Bool → List ℕ → ℕ → ℕ → Bool → ℤ → Bool → Type 0
-Totalled d s at limits begun total ok =
-    (part : ℤ) × (count : ℕ) × (sum : ℤ) × Unpacked Two d s at part begun count sum ok × (at ≡ 2 * (count + limits)) × (mag part ≤ 32768 * limits) × (total ≡ advance d sum part)
+module _ (z : Size) (d : Bool) (s : List ℕ) (l : List ℤ) (e : readIn (Packed z) s ≡ some l) where
+  -- the numbers before the place have so many results, all exact or not, and `total` is the total
+  abbrev pub Summed : ℕ → ℕ → Bool → ℤ → Type 0
+  Summed at count ok total = (part : ℤ) × (begun : Bool) × (sum : ℤ) × Unpacked z d s at part begun count sum ok × SFits w32 part × (total ≡ advance d sum part)
 
-pub totalled-start : (d : Bool) (s : List ℕ) → Totalled d s 0 0 false (pos 0) true
-totalled-start d s = (pos 0, 0, pos 0, unpacked-start Two d s, omega arith, omega arith, at-first d)
+  pub summed-start : Summed 0 0 true (pos 0)
+  summed-start = (pos 0, false, pos 0, unpacked-start z d s, record { sfits = omega arith }, at-first d)
 
-module _ (d : Bool) (n : ℕ) (s : List ℕ) (at limits : ℕ) (begun : Bool) (total : ℤ) (ok : Bool) (w : Totalled d s at limits begun total ok) where
-  module _ (few : limits ≤ 65534) (h : at + 2 ≤ length s) (x : ℤ) (f : SFits w16 x) (q : signedAt w16 s at ≡ x) where
-    near : mag (w .0 +ℤ x) ≤ 32768 * (limits + 1)
-    near = let m = mag-add (w .0) x in let b = w .5 in let k = f .sfits in omega arith
+  never : {A : Type 0} (r : ℕ) → Refused r ≡ scanOf (Packed z) d (length l) (readIn (Packed z) s) → A
+  never r q =
+      let y : _≡_ {A = Outcome} (Refused r) (Fine (judgesExact (Packed z) d && allExact (sumsIf d l))) = q ∙ ap (scanOf (Packed z) d (length l)) e ∙ rw (eq-eqb (length l) (length l) refl) in
+      let x : _≡_ {A = ℕ} 0 1 = cc in
+      absurd (omega arith)
 
-    inside : mag (w .0 +ℤ x) < 2147483648
-    inside = let m = near in omega arith
+  module _ (at count : ℕ) (ok : Bool) (total : ℤ) (w : Summed at count ok total) where
+    -- at the end all results are there
+    pub summed-end : length s - at < sizeOf z → (count ≡ length l) × (ok ≡ allExact (sumsIf d l))
+    summed-end h = by (w .1) refl
+      where
+        by : (t : Bool) → w .1 ≡ t → (count ≡ length l) × (ok ≡ allExact (sumsIf d l))
+        by true q = never numberNotAllowed (unpacked-unfinished z d (length l) s at (w .0) (w .1) count (w .2) ok (w .3) h q)
+        by false q = let u = unpacked-whole z d (length l) s at (w .0) (w .1) count (w .2) ok (w .3) h q in let v : some (w .3 .0) ≡ some l = sym u ∙ e in let p : w .3 .0 ≡ l = cc in (w .3 .2 ∙ ap length p, w .3 .4 ∙ ap (λ (t : List ℤ). allExact (sumsIf d t)) p)
 
-    wide : SFits w32 x
-    wide = record { sfits = let k = f .sfits in omega arith }
+    module _ (h : at + sizeOf z ≤ length s) where
+      inside : mag (w .0 +ℤ signedAt (widthOf z) s at) < 2147483648
+      inside = by (ltb (mag (w .0 +ℤ signedAt (widthOf z) s at)) 2147483648) refl
+        where
+          by : (t : Bool) → ltb (mag (w .0 +ℤ signedAt (widthOf z) s at)) 2147483648 ≡ t → mag (w .0 +ℤ signedAt (widthOf z) s at) < 2147483648
+          by true q = ltb-true (mag (w .0 +ℤ signedAt (widthOf z) s at)) 2147483648 q
+          by false q = never numberNotAllowed (unpacked-wrong z d (length l) s at (w .0) (w .1) count (w .2) ok (w .3) h (turn-outside z (w .0) (signedAt (widthOf z) s at) (ltb-false (mag (w .0 +ℤ signedAt (widthOf z) s at)) 2147483648 q)))
 
-    partly : SFits w32 (w .0)
-    partly = record { sfits = let b = w .5 in omega arith }
+      module _ (y : ℤ) (q : y ≡ plusDelta total (signedAt (widthOf z) s at)) where
+        onward : y ≡ advance d (w .2) (w .0 +ℤ signedAt (widthOf z) s at)
+        onward = q ∙ ap (λ (t : ℤ). plusDelta t (signedAt (widthOf z) s at)) (w .5) ∙ total-more d (w .2) (w .0) (signedAt (widthOf z) s at) (w .4) (signedAt-32 z s at) inside
 
-    on : (y : ℤ) → y ≡ plusDelta total x → y ≡ advance d (w .2) (w .0 +ℤ x)
-    on y e = e ∙ ap (λ (t : ℤ). plusDelta t x) (w .6) ∙ total-more d (w .2) (w .0) x partly wide inside
+        -- the end of a result
+        pub summed-done : isLimit (upper z) (lower z) (signedAt (widthOf z) s at) ≡ false → Unpacked z d s (at + sizeOf z) (pos 0) false (count + 1) y (ok && exact y)
+        summed-done m =
+            let t : turnOf z (w .0) (signedAt (widthOf z) s at) ≡ Done (w .0 +ℤ signedAt (widthOf z) s at) = turn-inside z (w .0) (signedAt (widthOf z) s at) inside ∙ rw m in
+            unpacked-done z d (length l) s at (w .0) (w .1) count (w .2) ok (w .3) h (w .0 +ℤ signedAt (widthOf z) s at) y t onward
 
-    turned : turnOf Two (w .0) (signedAt w16 s at) ≡ cond (isLimit 32767 32768 x) (More (w .0 +ℤ x)) (Done (w .0 +ℤ x))
-    turned = ap (turnOf Two (w .0)) q ∙ turn-inside Two (w .0) x inside
-
-    -- a limit
-    pub totalled-more : (y : ℤ) → isLimit 32767 32768 x ≡ true → y ≡ plusDelta total x → Totalled d s (at + 2) (limits + 1) true y ok
-    totalled-more y l e =
-        let a = w .4 in
-        let m = near in
-        let t : turnOf Two (w .0) (signedAt w16 s at) ≡ More (w .0 +ℤ x) = turned ∙ rw l in
-        (w .0 +ℤ x, w .1, w .2, unpacked-more Two d n s at (w .0) begun (w .1) (w .2) ok (w .3) h (w .0 +ℤ x) t, omega arith, m, on y e)
-
-    -- the end of a result
-    pub totalled-done : (y : ℤ) → isLimit 32767 32768 x ≡ false → y ≡ plusDelta total x → SFits w32 y → Totalled d s (at + 2) limits false (cond d y (pos 0)) (ok && exact y)
-    totalled-done y l e g =
-        let a = w .4 in
-        let t : turnOf Two (w .0) (signedAt w16 s at) ≡ Done (w .0 +ℤ x) = turned ∙ rw l in
-        let u = unpacked-done Two d n s at (w .0) begun (w .1) (w .2) ok (w .3) h (w .0 +ℤ x) y t (on y e) in
-        (pos 0, w .1 + 1, y, u, omega arith, omega arith, total-start d y g)
-
-  module _ (h : length s - at < 2) where
-    pub totalled-unfinished : begun ≡ true → Refused numberNotAllowed ≡ scanOf (Packed Two) d n (readIn (Packed Two) s)
-    totalled-unfinished e = unpacked-unfinished Two d n s at (w .0) begun (w .1) (w .2) ok (w .3) h e
-
-    module _ (e : begun ≡ false) where
-      pub totalled-other : (w .1 ≡ n → ⊥) → Refused lengthDiffers ≡ scanOf (Packed Two) d n (readIn (Packed Two) s)
-      totalled-other q = unpacked-other Two d n s at (w .0) begun (w .1) (w .2) ok (w .3) h e q
-
-      pub totalled-all : w .1 ≡ n → Fine ok ≡ scanOf (Packed Two) d n (readIn (Packed Two) s)
-      totalled-all q = unpacked-all Two d n s at (w .0) begun (w .1) (w .2) ok (w .3) h e q
+        -- a number more, that is a limit or is none
+        pub summed-next : SFits w32 y → (t : Bool) → isLimit (upper z) (lower z) (signedAt (widthOf z) s at) ≡ t → Summed (at + sizeOf z) (count + cond t 0 1) (ok && (t || exact y)) (cond (t || d) y (pos 0))
+        summed-next k true m =
+            let t : turnOf z (w .0) (signedAt (widthOf z) s at) ≡ More (w .0 +ℤ signedAt (widthOf z) s at) = turn-inside z (w .0) (signedAt (widthOf z) s at) inside ∙ rw m in
+            rw (add-zero count, and-true ok) (w .0 +ℤ signedAt (widthOf z) s at, true, w .2, unpacked-more z d (length l) s at (w .0) (w .1) count (w .2) ok (w .3) h (w .0 +ℤ signedAt (widthOf z) s at) t, record { sfits = inside }, onward)
+        summed-next k false m = (pos 0, false, y, summed-done m, record { sfits = omega arith }, total-start d y k)
 
 -- Writing
 
-module _ {B : Type 0} (g : ℤ → B) (d : Bool) (s : List ℕ) (old : List B) (room : HasRoom (Packed Two) s (length old)) where
-  -- the results before the place stand at the buffer's start, and `total` is the total
+module _ {B : Type 0} (g : ℤ → B) (z : Size) (d : Bool) (s : List ℕ) (old : List B) (room : HasRoom (Packed z) s (length old)) where
+  -- The results before the place stand at the start of the buffer `clean`, and `total` is the total. While a result has begun the buffer
+  -- may have anything in its place.
   abbrev pub WrittenTotal : ℕ → ℤ → ℕ → List B → Type 0
-  WrittenTotal at total o new = (part : ℤ) × (x : ℤ) × SFits w32 part × WrittenPacked g Two d s old room at part o new x × (total ≡ advance d x part)
+  WrittenTotal at total o new =
+      (part : ℤ) × (x : ℤ) × (clean : List B) × (w : WrittenPacked g z d s old room at part o clean x) × SFits w32 part × (total ≡ advance d x part)
+      × (length new ≡ length clean) × ((b : B) → set new o b ≡ set clean o b) × (w .0 ≡ false → new ≡ clean)
 
   pub total-written-start : WrittenTotal 0 (pos 0) 0 old
-  total-written-start = (pos 0, pos 0, record { sfits = omega arith }, packed-written-start g Two d s old room, at-first d)
+  total-written-start = (pos 0, pos 0, old, packed-written-start g z d s old room, record { sfits = omega arith }, at-first d, refl, (λ b. refl), (λ e. refl))
 
   module _ (at : ℕ) (total : ℤ) (o : ℕ) (new : List B) (w : WrittenTotal at total o new) where
     pub total-written-length : length new ≡ length old
-    total-written-length = packed-written-length g Two d s old room at (w .0) o new (w .1) (w .3)
+    total-written-length = w .6 ∙ packed-written-length g z d s old room at (w .0) o (w .2) (w .1) (w .3)
 
-    pub total-written-end : length s - at < 2 → Wrote g (Packed Two) d s old new
-    total-written-end h = packed-written-end g Two d s old room at (w .0) o new (w .1) (w .3) h
+    pub total-written-end : length s - at < sizeOf z → Wrote g (Packed z) d s old new
+    total-written-end h = by (w .3 .0) refl
+      where
+        by : (t : Bool) → w .3 .0 ≡ t → Wrote g (Packed z) d s old new
+        by true e = packed-written-unfinished g z d s old room at (w .0) o (w .2) (w .1) (w .3) h e
+        by false e = rw (w .8 e) (packed-written-end g z d s old room at (w .0) o (w .2) (w .1) (w .3) h)
 
-    module _ (h : at + 2 ≤ length s) where
-      within-32 : mag (w .0 +ℤ signedAt w16 s at) < 2147483648
-      within-32 = by (ltb (mag (w .0 +ℤ signedAt w16 s at)) 2147483648) refl
+    module _ (h : at + sizeOf z ≤ length s) where
+      -- a number is left, and so is a result
+      pub total-written-room : o + 1 ≤ length new
+      total-written-room = let n = w .6 in let a = packed-written-left g z d s old room at (w .0) o (w .2) (w .1) (w .3) h in omega arith
+
+      within-32 : mag (w .0 +ℤ signedAt (widthOf z) s at) < 2147483648
+      within-32 = by (ltb (mag (w .0 +ℤ signedAt (widthOf z) s at)) 2147483648) refl
         where
-          by : (t : Bool) → ltb (mag (w .0 +ℤ signedAt w16 s at)) 2147483648 ≡ t → mag (w .0 +ℤ signedAt w16 s at) < 2147483648
-          by true e = ltb-true (mag (w .0 +ℤ signedAt w16 s at)) 2147483648 e
-          by false e = packed-written-wrong g Two d s old room at (w .0) o new (w .1) (w .3) h (turn-outside Two (w .0) (signedAt w16 s at) (ltb-false (mag (w .0 +ℤ signedAt w16 s at)) 2147483648 e))
+          by : (t : Bool) → ltb (mag (w .0 +ℤ signedAt (widthOf z) s at)) 2147483648 ≡ t → mag (w .0 +ℤ signedAt (widthOf z) s at) < 2147483648
+          by true e = ltb-true (mag (w .0 +ℤ signedAt (widthOf z) s at)) 2147483648 e
+          by false e = packed-written-wrong g z d s old room at (w .0) o (w .2) (w .1) (w .3) h (turn-outside z (w .0) (signedAt (widthOf z) s at) (ltb-false (mag (w .0 +ℤ signedAt (widthOf z) s at)) 2147483648 e))
 
-      module _ (y : ℤ) (e : y ≡ plusDelta total (signedAt w16 s at)) where
-        next : y ≡ advance d (w .1) (w .0 +ℤ signedAt w16 s at)
-        next = e ∙ ap (λ (t : ℤ). plusDelta t (signedAt w16 s at)) (w .4) ∙ total-more d (w .1) (w .0) (signedAt w16 s at) (w .2) (signedAt-32 Two s at) within-32
+      module _ (y : ℤ) (e : y ≡ plusDelta total (signedAt (widthOf z) s at)) where
+        next : y ≡ advance d (w .1) (w .0 +ℤ signedAt (widthOf z) s at)
+        next = e ∙ ap (λ (t : ℤ). plusDelta t (signedAt (widthOf z) s at)) (w .5) ∙ total-more d (w .1) (w .0) (signedAt (widthOf z) s at) (w .4) (signedAt-32 z s at) within-32
 
         -- a limit
-        pub total-written-more : isLimit 32767 32768 (signedAt w16 s at) ≡ true → WrittenTotal (at + 2) y o new
-        total-written-more l =
-            let t : turnOf Two (w .0) (signedAt w16 s at) ≡ More (w .0 +ℤ signedAt w16 s at) = turn-inside Two (w .0) (signedAt w16 s at) within-32 ∙ rw l in
-            (w .0 +ℤ signedAt w16 s at, w .1, record { sfits = within-32 }, packed-written-more g Two d s old room at (w .0) o new (w .1) (w .3) h (w .0 +ℤ signedAt w16 s at) t, next)
+        module _ (l : isLimit (upper z) (lower z) (signedAt (widthOf z) s at) ≡ true) where
+          more : WrittenTo g (Packed z) d s old room (from z s (w .0 +ℤ signedAt (widthOf z) s at) true (at + sizeOf z)) o (w .2) (w .1)
+          more = packed-written-more g z d s old room at (w .0) o (w .2) (w .1) (w .3) h (w .0 +ℤ signedAt (widthOf z) s at) (turn-inside z (w .0) (signedAt (widthOf z) s at) within-32 ∙ rw l)
+
+          pub total-written-more : WrittenTotal (at + sizeOf z) y o new
+          total-written-more = (w .0 +ℤ signedAt (widthOf z) s at, w .1, w .2, (true, more), record { sfits = within-32 }, next, w .6, w .7, (λ q. let a : _≡_ {A = ℕ} 0 1 = cc in absurd (omega arith)))
 
         -- the end of a result
-        module _ (l : isLimit 32767 32768 (signedAt w16 s at) ≡ false) where
-          ends : turnOf Two (w .0) (signedAt w16 s at) ≡ Done (w .0 +ℤ signedAt w16 s at)
-          ends = turn-inside Two (w .0) (signedAt w16 s at) within-32 ∙ rw l
+        module _ (l : isLimit (upper z) (lower z) (signedAt (widthOf z) s at) ≡ false) where
+          ends : turnOf z (w .0) (signedAt (widthOf z) s at) ≡ Done (w .0 +ℤ signedAt (widthOf z) s at)
+          ends = turn-inside z (w .0) (signedAt (widthOf z) s at) within-32 ∙ rw l
 
-          pub total-written-room : o + 1 ≤ length new
-          total-written-room = packed-written-room g Two d s old room at (w .0) o new (w .1) (w .3) h (w .0 +ℤ signedAt w16 s at) ends
-
-          pub total-written-exact : ResultsExact (Packed Two) d s → exact y ≡ true
+          pub total-written-exact : ResultsExact (Packed z) d s → exact y ≡ true
           unfolding allExact resultsFrom
           total-written-exact all =
-              let u : allExact (resultsFrom d (w .1) (replicate 1 (w .0 +ℤ signedAt w16 s at))) ≡ true =
-              written-exact g (Packed Two) d s old room (from Two s (w .0) (w .3 .0) at) o new (w .1) (w .3 .1) (w .0 +ℤ signedAt w16 s at) 1 (from Two s (pos 0) false (at + 2)) (step g Two d s old room at (w .0) o new (w .1) (w .3) h (Done (w .0 +ℤ signedAt w16 s at)) ends) all in
+              let u : allExact (resultsFrom d (w .1) (replicate 1 (w .0 +ℤ signedAt (widthOf z) s at))) ≡ true =
+              written-exact g (Packed z) d s old room (from z s (w .0) (w .3 .0) at) o (w .2) (w .1) (w .3 .1) (w .0 +ℤ signedAt (widthOf z) s at) 1 (from z s (pos 0) false (at + sizeOf z)) (step g z d s old room at (w .0) o (w .2) (w .1) (w .3) h (Done (w .0 +ℤ signedAt (widthOf z) s at)) ends) all in
               by (exact y) refl (ap (λ (z : ℤ). exact z && true) next ∙ u)
             where
               by : (t : Bool) → exact y ≡ t → (t && true) ≡ true → exact y ≡ true
               by true a b = a
               by false a b = let z : _≡_ {A = ℕ} 0 1 = cc in absurd (omega arith)
 
-          pub total-written-done : SFits w32 y → (b c : B) → b ≡ g y → WrittenTotal (at + 2) (cond d y (pos 0)) (o + 1) (set new o b)
+          pub total-written-done : SFits w32 y → (b c : B) → b ≡ g y → WrittenTotal (at + sizeOf z) (cond d y (pos 0)) (o + 1) (set new o b)
           total-written-done k b c q =
-              (pos 0, y, record { sfits = omega arith }, packed-written-done g Two d s old room at (w .0) o new (w .1) (w .3) h (w .0 +ℤ signedAt w16 s at) ends y b c next q, total-start d y k)
+              let v = packed-written-done g z d s old room at (w .0) o (w .2) (w .1) (w .3) h (w .0 +ℤ signedAt (widthOf z) s at) ends y b c next q in
+              rw (w .7 b) (pos 0, y, set (w .2) o b, v, record { sfits = omega arith }, total-start d y k, refl, (λ a. refl), (λ r. refl))
+
+        -- the total is stored after each number, and stays at the end of a result
+        pub total-written-stored : SFits w32 y → (t : Bool) → isLimit (upper z) (lower z) (signedAt (widthOf z) s at) ≡ t → (b c : B) → b ≡ g y
+            → WrittenTotal (at + sizeOf z) (cond (t || d) y (pos 0)) (o + cond t 0 1) (set new o b)
+        total-written-stored k true l b c q =
+            let m : length (set new o b) ≡ length (w .2) = length-set new o b ∙ w .6 in
+            rw (add-zero o) (w .0 +ℤ signedAt (widthOf z) s at, w .1, w .2, (true, more l), record { sfits = within-32 }, next, m, (λ v. set-set new o b v ∙ w .7 v), (λ r. let a : _≡_ {A = ℕ} 0 1 = cc in absurd (omega arith)))
+        total-written-stored k false l b c q = total-written-done l k b c q

@@ -236,6 +236,17 @@ module _ {B : Type 0} (g : ℤ → B) (f : Form) (d : Bool) (s : List ℕ) (old 
           let u : Filled g d x v new o k (set new o b) y = rw one m in
           subst (λ (i : ℕ). WrittenTo left′ (o + i) (set new o b) y) one (written-run (set new o b) y u)
 
+    -- there is room for a value, where one is left
+    pub written-left : ((r : List ℤ) → left ≡ some r → 1 ≤ length r) → o + 1 ≤ length new
+    written-left f =
+        let a = length-append (w .0) (rest .0) in
+        let b = ap length (rest .2) in
+        let c = f (rest .0) (rest .1) in
+        let h = room .2 in
+        let n = written-length in
+        let j = w .2 in
+        omega arith
+
     -- where the reading ends all is written
     pub written-end : left ≡ some [] → Wrote g f d s old new
     written-end q l e =
