@@ -2,6 +2,7 @@
 use mathlib.Core.Bool.{Bool, true, false, not}
 use mathlib.Core.List.{List}
 use Prim.Native.Nat.{ℕ}
+use Rattle.steps.specs.declared.Size.the-variants.{One, Two, Four}
 use Rattle.steps.specs.declared.Range.the-variants.{Ascii}
 use Rattle.steps.specs.declared.Form.{Form}
 use Rattle.steps.specs.declared.Form.the-variants.{Plain, Packed, Runs, Names}
@@ -18,9 +19,11 @@ namesPayload n size k s = judgedPayload (Good n size k Names false) s
 abbrev pub charsPayload : ℕ → ℕ → List ℕ → Decoding
 charsPayload n m s = judgedPayload (Good n m kind.Chars (Runs Ascii) false) s
 
--- the forms of numbers: no names, and plain numbers have no delta
+-- the forms of numbers: no names, plain numbers without delta, and packed numbers of one and two bytes
 abbrev pub isWritten : Form → Bool → Bool
 isWritten (Plain z) d = not d
-isWritten (Packed z) d = true
+isWritten (Packed One) d = true
+isWritten (Packed Two) d = true
+isWritten (Packed Four) d = false
 isWritten (Runs r) d = true
 isWritten Names d = false

@@ -142,7 +142,7 @@ fn put_integers(payload: &[u8], form: Form, delta: bool, n: usize, buffer: &mut 
         Form::Packed(size) => match size {
             Size::One => write_packed(payload, false, delta, buffer),
             Size::Two => write_packed(payload, true, delta, buffer),
-            Size::Four => write_integers(payload, Form::Packed(Size::Four), delta, buffer),
+            Size::Four => {}
         },
         Form::Runs(range) => {
             if delta {

@@ -182,13 +182,12 @@ fn write_packed(payload: &[u8], two: bool, delta: bool, divisor: f32, buffer: &m
     while k <= payload.len() - i {
         let number = steps::number_at(payload, i, size);
         i += k;
-        let sum = steps::add_delta(total, number);
-        let limit = steps::is_limit(number, size);
-        if !limit {
-            buffer[o] = quotient_bits(sum, divisor);
+        total = steps::add_delta(total, number);
+        if !steps::is_limit(number, size) {
+            buffer[o] = quotient_bits(total, divisor);
             o += 1;
+            total = payloads::total_after(total, false, delta);
         }
-        total = payloads::total_after(sum, limit, delta);
     }
 }
 

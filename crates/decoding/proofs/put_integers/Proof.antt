@@ -20,6 +20,15 @@ no-names c =
     let y : _≡_ {A = ℕ} 0 1 = cc in
     absurd (omega arith)
 
+-- nor packed numbers of four bytes
+no-four : tie.Need-returns-5
+no-four c =
+    let a = c .before .before .before .before .before .before in
+    let e = ap (λ (f : Form). isWritten f (a .args .delta)) (c .before .before .before .form2 .given .1 ∙ ap Packed (c .enum-told3 .given .1)) in
+    let h = a .pre .0 in
+    let y : _≡_ {A = ℕ} 0 1 = cc in
+    absurd (omega arith)
+
 pub put-integers-spec : {M : Type 1} → statement M
 put-integers-spec =
     tie.close
@@ -32,7 +41,6 @@ put-integers-spec =
     (λ c. search needs)
     (λ c κs. room-as (c .before .before .before .before .before .before .before .args .payload .now) (c .before .before .before .before .before .before .before .args .n) _ (c .before .before .before .before .form2 .given .1 ∙ ap Packed (c .before .enum-told2 .given .1)) (c .before .before .before .before .before .before .before .pre .1) (c .before .before .before .before .before .before .before .pre .2))
     (λ c. search needs)
-    (λ c κs. room-as (c .before .before .before .before .before .before .before .args .payload .now) (c .before .before .before .before .before .before .before .args .n) _ (c .before .before .before .before .form2 .given .1 ∙ ap Packed (c .before .enum-told3 .given .1)) (c .before .before .before .before .before .before .before .pre .1) (c .before .before .before .before .before .before .before .pre .2))
     (λ c. search needs)
     (λ c κs. room-as (c .before .before .before .before .before .before .args .payload .now) (c .before .before .before .before .before .before .args .n) _ (c .before .before .before .form3 .given .1) (c .before .before .before .before .before .before .pre .1) (c .before .before .before .before .before .before .pre .2))
     (λ c. search needs)
@@ -44,9 +52,8 @@ put-integers-spec =
     (λ c. search needs)
     (λ c. wrote-as asNumber (c .before .before .before .before .before .before .before .before .before .args .payload .now) (c .before .before .before .before .before .before .before .before .before .args .buffer .now) (c .before .write-packed .last .1 .1 .1 .0) (c .before .before .before .before .before .before .form2 .given .1 ∙ ap Packed (c .before .before .before .enum-told .given .1)) refl (c .before .write-packed .ensures))
     (λ c. search needs)
-    (λ c. wrote-as asNumber (c .before .before .before .before .before .before .before .before .before .args .payload .now) (c .before .before .before .before .before .before .before .before .before .args .buffer .now) (c .before .write-two .last .1 .1 .0) (c .before .before .before .before .before .before .form2 .given .1 ∙ ap Packed (c .before .before .before .enum-told2 .given .1)) refl (c .before .write-two .ensures))
-    (λ c. search needs)
-    (λ c. wrote-as asNumber (c .before .before .before .before .before .before .before .before .before .args .payload .now) (c .before .before .before .before .before .before .before .before .before .args .buffer .now) (c .before .write-packed2 .last .1 .1 .1 .0) (c .before .before .before .before .before .before .form2 .given .1 ∙ ap Packed (c .before .before .before .enum-told3 .given .1)) refl (c .before .write-packed2 .ensures))
+    (λ c. wrote-as asNumber (c .before .before .before .before .before .before .before .before .before .args .payload .now) (c .before .before .before .before .before .before .before .before .before .args .buffer .now) (c .before .write-packed2 .last .1 .1 .1 .0) (c .before .before .before .before .before .before .form2 .given .1 ∙ ap Packed (c .before .before .before .enum-told2 .given .1)) refl (c .before .write-packed2 .ensures))
+    no-four
     (λ c. search needs)
     (λ c. wrote-as asNumber (c .before .before .before .before .before .before .before .before .args .payload .now) (c .before .before .before .before .before .before .before .before .args .buffer .now) (c .before .write-runs .last .1 .1 .1 .0) (c .before .before .before .before .before .form3 .given .1) (c .before .before .before .if1 .left) (c .before .write-runs .ensures))
     no-names)

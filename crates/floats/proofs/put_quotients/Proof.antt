@@ -40,18 +40,18 @@ put-plain-requires c κs =
     let d = plain-judged (c .before .before .form .given .0 .0) (a .args .delta) (subst (λ (h : Form). judgesExact h (a .args .delta) ≡ true) e (a .pre .1 .2)) in
     alone (a .args .payload .now) (a .args .n) (length (a .args .buffer .now)) (a .args .divisor) e d (a .pre .0) (a .pre .1 .0) (a .pre .1 .1)
 
-write-quotients-requires : tie.Need-write-quotients-requires
-write-quotients-requires c κs =
+write-packed-requires : tie.Need-write-packed-requires
+write-packed-requires c κs =
     let a = c .before .before .before .before .before .before .before .before in
     asks (a .args .form) (Packed One) (a .args .delta) (a .args .payload .now) (length (a .args .buffer .now)) (a .args .divisor) (c .before .before .before .before .form2 .given .1 ∙ ap Packed (c .before .enum-told .given .1)) (a .pre .0)
 
-write-two-requires : tie.Need-write-two-requires
-write-two-requires c κs =
+write-packed-requires-2 : tie.Need-write-packed-requires-2
+write-packed-requires-2 c κs =
     let a = c .before .before .before .before .before .before .before .before in
     asks (a .args .form) (Packed Two) (a .args .delta) (a .args .payload .now) (length (a .args .buffer .now)) (a .args .divisor) (c .before .before .before .before .form2 .given .1 ∙ ap Packed (c .before .enum-told2 .given .1)) (a .pre .0)
 
-write-quotients-requires-2 : tie.Need-write-quotients-requires-2
-write-quotients-requires-2 c κs =
+write-quotients-requires : tie.Need-write-quotients-requires
+write-quotients-requires c κs =
     let a = c .before .before .before .before .before .before .before .before in
     asks (a .args .form) (Packed Four) (a .args .delta) (a .args .payload .now) (length (a .args .buffer .now)) (a .args .divisor) (c .before .before .before .before .form2 .given .1 ∙ ap Packed (c .before .enum-told3 .given .1)) (a .pre .0)
 
@@ -66,8 +66,8 @@ write-runs-requires c κs =
     let d = no-delta (c .before .before .form3 .given .0 .0) (a .args .form) (a .args .delta) e (a .pre .1 .2) in
     alone (a .args .payload .now) (a .args .n) (length (a .args .buffer .now)) (a .args .divisor) e d (a .pre .0) (a .pre .1 .0) (a .pre .1 .1)
 
-write-quotients-requires-3 : tie.Need-write-quotients-requires-3
-write-quotients-requires-3 c κs =
+write-quotients-requires-2 : tie.Need-write-quotients-requires-2
+write-quotients-requires-2 c κs =
     let a = c .before .before .before .before .before in
     asks (a .args .form) (Names) (a .args .delta) (a .args .payload .now) (length (a .args .buffer .now)) (a .args .divisor) (c .before .enum-told4 .given .1) (a .pre .0)
 
@@ -81,17 +81,17 @@ returns c =
 returns-2 : tie.Need-returns-2
 returns-2 c =
     let a = c .before .before .before .before .before .before .before .before .before .before .before in
-    puts (a .args .form) (Packed One) (a .args .delta) (a .args .payload .now) (a .args .buffer .now) (c .before .before .write-quotients .last .1 .1 .1 .1 .0) (a .args .divisor) (c .before .before .before .before .before .before .before .form2 .given .1 ∙ ap Packed (c .before .before .before .before .enum-told .given .1)) (c .before .before .write-quotients .ensures)
+    puts (a .args .form) (Packed One) (a .args .delta) (a .args .payload .now) (a .args .buffer .now) (c .before .before .write-packed .last .1 .1 .1 .1 .0) (a .args .divisor) (c .before .before .before .before .before .before .before .form2 .given .1 ∙ ap Packed (c .before .before .before .before .enum-told .given .1)) (c .before .before .write-packed .ensures)
 
 returns-3 : tie.Need-returns-3
 returns-3 c =
     let a = c .before .before .before .before .before .before .before .before .before .before .before in
-    puts (a .args .form) (Packed Two) (a .args .delta) (a .args .payload .now) (a .args .buffer .now) (c .before .before .write-two .last .1 .1 .1 .0) (a .args .divisor) (c .before .before .before .before .before .before .before .form2 .given .1 ∙ ap Packed (c .before .before .before .before .enum-told2 .given .1)) (c .before .before .write-two .ensures)
+    puts (a .args .form) (Packed Two) (a .args .delta) (a .args .payload .now) (a .args .buffer .now) (c .before .before .write-packed2 .last .1 .1 .1 .1 .0) (a .args .divisor) (c .before .before .before .before .before .before .before .form2 .given .1 ∙ ap Packed (c .before .before .before .before .enum-told2 .given .1)) (c .before .before .write-packed2 .ensures)
 
 returns-4 : tie.Need-returns-4
 returns-4 c =
     let a = c .before .before .before .before .before .before .before .before .before .before .before in
-    puts (a .args .form) (Packed Four) (a .args .delta) (a .args .payload .now) (a .args .buffer .now) (c .before .before .write-quotients2 .last .1 .1 .1 .1 .0) (a .args .divisor) (c .before .before .before .before .before .before .before .form2 .given .1 ∙ ap Packed (c .before .before .before .before .enum-told3 .given .1)) (c .before .before .write-quotients2 .ensures)
+    puts (a .args .form) (Packed Four) (a .args .delta) (a .args .payload .now) (a .args .buffer .now) (c .before .before .write-quotients .last .1 .1 .1 .1 .0) (a .args .divisor) (c .before .before .before .before .before .before .before .form2 .given .1 ∙ ap Packed (c .before .before .before .before .enum-told3 .given .1)) (c .before .before .write-quotients .ensures)
 
 returns-5 : tie.Need-returns-5
 returns-5 c =
@@ -104,7 +104,7 @@ returns-5 c =
 returns-6 : tie.Need-returns-6
 returns-6 c =
     let a = c .before .before .before .before .before .before .before .before in
-    puts (a .args .form) (Names) (a .args .delta) (a .args .payload .now) (a .args .buffer .now) (c .before .before .write-quotients3 .last .1 .1 .1 .1 .0) (a .args .divisor) (c .before .before .before .before .enum-told4 .given .1) (c .before .before .write-quotients3 .ensures)
+    puts (a .args .form) (Names) (a .args .delta) (a .args .payload .now) (a .args .buffer .now) (c .before .before .write-quotients2 .last .1 .1 .1 .1 .0) (a .args .divisor) (c .before .before .before .before .enum-told4 .given .1) (c .before .before .write-quotients2 .ensures)
 
 pub put-quotients-spec : {M : Type 1} → statement M
 put-quotients-spec =
@@ -114,15 +114,15 @@ put-quotients-spec =
     put-plain-requires
     (λ c. search needs)
     (λ c. search needs)
+    write-packed-requires
+    (λ c. search needs)
+    write-packed-requires-2
+    (λ c. search needs)
     write-quotients-requires
-    (λ c. search needs)
-    write-two-requires
-    (λ c. search needs)
-    write-quotients-requires-2
     (λ c. search needs)
     write-runs-requires
     (λ c. search needs)
-    write-quotients-requires-3
+    write-quotients-requires-2
     (λ c. search needs)
     returns
     (λ c. search needs)

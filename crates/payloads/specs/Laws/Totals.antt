@@ -64,7 +64,7 @@ total-more true a part x f g h =
     ∙ ap (λ (n : ℕ). toZ w32 ((ofZ w32 a + n) % 4294967296)) (sym (sum-bits part x f g h))
 
 -- the start of the next result
-total-start : (d : Bool) (a : ℤ) → SFits w32 a → cond d a (pos 0) ≡ advance d a (pos 0)
+pub total-start : (d : Bool) (a : ℤ) → SFits w32 a → cond d a (pos 0) ≡ advance d a (pos 0)
 total-start false a f = refl
 total-start true a f = sym (plus-zero a f)
 

@@ -239,9 +239,9 @@ module _ {B : Type 0} (g : ℤ → B) (f : Form) (d : Bool) (s : List ℕ) (old 
     -- there is room for a value, where one is left
     pub written-left : ((r : List ℤ) → left ≡ some r → 1 ≤ length r) → o + 1 ≤ length new
     written-left f =
-        let a = length-append (w .0) (rest .0) in
-        let b = ap length (rest .2) in
-        let c = f (rest .0) (rest .1) in
+        let a = length-append (w .0) (written-rest .0) in
+        let b = ap length (written-rest .2) in
+        let c = f (written-rest .0) (written-rest .1) in
         let h = room .2 in
         let n = written-length in
         let j = w .2 in
