@@ -376,7 +376,7 @@ fn entries_typed(
         let a = key.at;
         let m = key.count;
         let row = row_of(types, file, a, m, first, n);
-        let e = row_typed(leads, file, types, a + m, first, n, row, depth);
+        let e = entry_typed(leads, file, types, a + m, first, n, row, depth);
         if e == 0 {
             return 0;
         }
@@ -388,6 +388,52 @@ fn entries_typed(
         return p;
     }
     0
+}
+
+// The value at a place as `row_typed` has it: the commonest, short strings, are found with no step into the recursion.
+fn entry_typed(
+    leads: &[u8; 256],
+    file: &[u8],
+    types: &[u8; TABLE_SIZE],
+    at: usize,
+    first: usize,
+    n: usize,
+    row: usize,
+    depth: usize,
+) -> usize
+    requires { ⌜ (now types ≡ typeTable) × ((first < 256) × (n < 64)) ⌝ }
+    ensures { λ r. ⌜ ValueSays (now (leads .entry)) (now (file .entry)) (rowTest row (rowsFrom (typeOf depth) n first)) at r ⌝ }
+{
+    let end = quick_row(file, types, at, first, n, row, depth);
+    if 0 < end {
+        return end;
+    }
+    row_typed(leads, file, types, at, first, n, row, depth)
+}
+
+// Where a short string at a place ends, if that is the type of a row; else 0.
+fn quick_row(
+    file: &[u8],
+    types: &[u8; TABLE_SIZE],
+    at: usize,
+    first: usize,
+    n: usize,
+    row: usize,
+    depth: usize,
+) -> usize
+    requires { ⌜ (now types ≡ typeTable) × ((first < 256) × (n < 64)) ⌝ }
+    ensures { λ r. ⌜ (0 < r → (leads : List ℕ) → ValueSays leads (now (file .entry)) (rowTest row (rowsFrom (typeOf depth) n first)) at r) ⌝ }
+{
+    if depth == 0 {
+        return 0;
+    }
+    if n <= row {
+        return 0;
+    }
+    if cell(types, (first + row) * ROW_SIZE + ROWS_AT + 2) != A_STRING {
+        return 0;
+    }
+    quick_end(file, at, STRING)
 }
 
 // The value at a place by a type with no types inside: a value of a kind, or an array of those, or of exactly so many.
@@ -747,6 +793,9 @@ const BINARY: usize = 4;
 const ARRAY: usize = 5;
 
 const MAP: usize = 6;
+
+// The number of the type of a string.
+const A_STRING: usize = 2;
 
 // The row of the first named field, how many types have a number, and the levels of the deepest.
 const FIRST_FIELD: usize = 16;

@@ -323,6 +323,12 @@ unfolding typeOf
 type-is zero c h lt = absurd (omega arith)
 type-is (suc d) c h lt = let e : suc d - 1 ≡ d = omega arith in rw (lt-ltb c codeCount lt, e)
 
+-- the type of a string
+pub string-type : (d : ℕ) → 0 < d → typeOf d 2 ≡ plain 3
+unfolding typeOf tableByte typeTable
+string-type zero h = absurd (omega arith)
+string-type (suc d) h = refl
+
 -- a type by the three numbers that were read of it
 pub type-read : (d c : ℕ) {tag many inside : ℕ} → 0 < d → c < codeCount → tag ≡ tagOf c → many ≡ tableByte (c * 3 + 1) → inside ≡ insideOf c → typeOf d c ≡ build (typeOf (d - 1)) tag (many % 64) inside
 type-read d c h lt t m i = type-is d c h lt ∙ rw (t, m, i)

@@ -19,44 +19,57 @@ use Rattle.fields.specs.Laws.Numbers.{rows-count, simple-kind, map-disti
 use Rattle.fields.specs.Laws.Steps.{value-as, value-cut, nothing-says, head-read, arrayOf-wrong, arrayOf-says, mapWith-wrong, mapWith-says, items-none, items-next, items-wrong, entries-next, entries-wrong, entries-done, entries-lack, row-says, row-over}
 use Rattle.fields.proofs.entries_typed.Reads as entries-typed
 use Rattle.fields.proofs.entries_typed.Kinds as entries-typed-kinds
-use Rattle.fields.proofs.+entries_typed+items_typed+row_typed+typed_at.Lts-entries_typed as entries-typed-lts
+use Rattle.fields.proofs.+entries_typed+entry_typed+items_typed+row_typed+typed_at.Lts-entries_typed as entries-typed-lts
+use Rattle.fields.proofs.entry_typed.Reads as entry-typed
+use Rattle.fields.proofs.entry_typed.Kinds as entry-typed-kinds
+use Rattle.fields.proofs.+entries_typed+entry_typed+items_typed+row_typed+typed_at.Lts-entry_typed as entry-typed-lts
 use Rattle.fields.proofs.items_typed.Reads as items-typed
 use Rattle.fields.proofs.items_typed.Kinds as items-typed-kinds
-use Rattle.fields.proofs.+entries_typed+items_typed+row_typed+typed_at.Lts-items_typed as items-typed-lts
+use Rattle.fields.proofs.+entries_typed+entry_typed+items_typed+row_typed+typed_at.Lts-items_typed as items-typed-lts
 use Rattle.fields.proofs.row_typed.Reads as row-typed
 use Rattle.fields.proofs.row_typed.Kinds as row-typed-kinds
-use Rattle.fields.proofs.+entries_typed+items_typed+row_typed+typed_at.Lts-row_typed as row-typed-lts
+use Rattle.fields.proofs.+entries_typed+entry_typed+items_typed+row_typed+typed_at.Lts-row_typed as row-typed-lts
 use Rattle.fields.proofs.typed_at.Reads as typed-at
 use Rattle.fields.proofs.typed_at.Kinds as typed-at-kinds
-use Rattle.fields.proofs.+entries_typed+items_typed+row_typed+typed_at.Lts-typed_at as typed-at-lts
+use Rattle.fields.proofs.+entries_typed+entry_typed+items_typed+row_typed+typed_at.Lts-typed_at as typed-at-lts
 use Rattle.fields.proofs.all_seen.Reads as all-seen-reads
 use Rattle.fields.proofs.cell.Reads as cell-reads
 use Rattle.fields.proofs.head_kind.Reads as head-kind-reads
 use Rattle.fields.proofs.mark.Reads as mark-reads
+use Rattle.fields.proofs.quick_row.Reads as quick-row-reads
 use Rattle.fields.proofs.row_of.Reads as row-of-reads
 use Rattle.fields.proofs.simple_at.Reads as simple-at-reads
-use Rattle.fields.proofs.+entries_typed+items_typed+row_typed+typed_at.{statement}
-use Rattle.fields.proofs.+entries_typed+items_typed+row_typed+typed_at.Tie.{close}
+use Rattle.fields.proofs.+entries_typed+entry_typed+items_typed+row_typed+typed_at.{statement}
+use Rattle.fields.proofs.+entries_typed+entry_typed+items_typed+row_typed+typed_at.Tie.{close}
 
--- what falls: three times the levels left, and more before a value is taken up
+-- what falls: four times the levels left, and more before a value is taken up
 
 abbrev μ-entries-typed : Measures 3 entries-typed-kinds.ps ℕ
-μ-entries-typed κs a = 3 * a .1 .1 .1 .1 .1 .1 .1 .0 + 2
+μ-entries-typed κs a = 4 * a .1 .1 .1 .1 .1 .1 .1 .0 + 3
+
+abbrev μ-entry-typed : Measures 3 entry-typed-kinds.ps ℕ
+μ-entry-typed κs a = 4 * a .1 .1 .1 .1 .1 .1 .1 .0 + 2
 
 abbrev μ-items-typed : Measures 3 items-typed-kinds.ps ℕ
-μ-items-typed κs a = 3 * a .1 .1 .1 .1 .1 .1 .0 + 1
+μ-items-typed κs a = 4 * a .1 .1 .1 .1 .1 .1 .0 + 1
 
 abbrev μ-row-typed : Measures 3 row-typed-kinds.ps ℕ
-μ-row-typed κs a = 3 * a .1 .1 .1 .1 .1 .1 .1 .0 + 1
+μ-row-typed κs a = 4 * a .1 .1 .1 .1 .1 .1 .1 .0 + 1
 
 abbrev μ-typed-at : Measures 3 typed-at-kinds.ps ℕ
-μ-typed-at κs a = 3 * a .1 .1 .1 .1 .1 .0
+μ-typed-at κs a = 4 * a .1 .1 .1 .1 .1 .0
 
 abbrev entries-typed-at : ℕ → In 3 entries-typed-kinds.ps
 entries-typed-at t = and 3 entries-typed-kinds.ps (is 3 entries-typed-kinds.ps μ-entries-typed t) entries-typed.Pre
 
 abbrev entries-typed-below : ℕ → In 3 entries-typed-kinds.ps
 entries-typed-below t = and 3 entries-typed-kinds.ps (falls 3 entries-typed-kinds.ps _<_ μ-entries-typed t) entries-typed.Pre
+
+abbrev entry-typed-at : ℕ → In 3 entry-typed-kinds.ps
+entry-typed-at t = and 3 entry-typed-kinds.ps (is 3 entry-typed-kinds.ps μ-entry-typed t) entry-typed.Pre
+
+abbrev entry-typed-below : ℕ → In 3 entry-typed-kinds.ps
+entry-typed-below t = and 3 entry-typed-kinds.ps (falls 3 entry-typed-kinds.ps _<_ μ-entry-typed t) entry-typed.Pre
 
 abbrev items-typed-at : ℕ → In 3 items-typed-kinds.ps
 items-typed-at t = and 3 items-typed-kinds.ps (is 3 items-typed-kinds.ps μ-items-typed t) items-typed.Pre
@@ -79,7 +92,10 @@ typed-at-below t = and 3 typed-at-kinds.ps (falls 3 typed-at-kinds.ps _<_ μ-typ
 -- what each may ask of those that it calls, and learns from them
 
 abbrev entries-typed-claims : ℕ → entries-typed-lts.Claims
-entries-typed-claims t = (text-at-reads.Asked, text-at-reads.Learnt, row-of-reads.Asked, row-of-reads.Learnt, row-typed-below t, row-typed.Post, mark-reads.Asked, mark-reads.Learnt, all-seen-reads.Asked, all-seen-reads.Learnt)
+entries-typed-claims t = (text-at-reads.Asked, text-at-reads.Learnt, row-of-reads.Asked, row-of-reads.Learnt, entry-typed-below t, entry-typed.Post, mark-reads.Asked, mark-reads.Learnt, all-seen-reads.Asked, all-seen-reads.Learnt)
+
+abbrev entry-typed-claims : ℕ → entry-typed-lts.Claims
+entry-typed-claims t = (quick-row-reads.Asked, quick-row-reads.Learnt, row-typed-below t, row-typed.Post)
 
 abbrev items-typed-claims : ℕ → items-typed-lts.Claims
 items-typed-claims t = (typed-at-below t, typed-at.Post)
@@ -103,15 +119,15 @@ entries-typed-loop-holds t c = λ r h. h
 entries-typed-row-of-requires : (t : ℕ) → entries-typed-lts.Need-row-of-requires (entries-typed-claims t) (entries-typed-at t) entries-typed.Post entries-typed-Inv-loop entries-typed-μ-loop
 entries-typed-row-of-requires t c κs = (c .before .before .before .before .pre .1 .0, (c .text-at .ensures .0, (c .before .before .before .before .pre .1 .1 .0, (c .before .before .before .before .pre .1 .1 .1 .0, c .before .before .before .before .pre .1 .1 .1 .1 .1))))
 
-entries-typed-row-typed-requires : (t : ℕ) → entries-typed-lts.Need-row-typed-requires (entries-typed-claims t) (entries-typed-at t) entries-typed.Post entries-typed-Inv-loop entries-typed-μ-loop
-entries-typed-row-typed-requires t c κs = (search needs, (c .before .before .before .before .before .pre .1 .0, (c .before .before .before .before .before .pre .1 .1 .0, c .before .before .before .before .before .pre .1 .1 .1 .0)))
+entries-typed-entry-typed-requires : (t : ℕ) → entries-typed-lts.Need-entry-typed-requires (entries-typed-claims t) (entries-typed-at t) entries-typed.Post entries-typed-Inv-loop entries-typed-μ-loop
+entries-typed-entry-typed-requires t c κs = (search needs, (c .before .before .before .before .before .pre .1 .0, (c .before .before .before .before .before .pre .1 .1 .0, c .before .before .before .before .before .pre .1 .1 .1 .0)))
 
 entries-typed-returns : (t : ℕ) → entries-typed-lts.Need-returns (entries-typed-claims t) (entries-typed-at t) entries-typed.Post entries-typed-Inv-loop entries-typed-μ-loop
 entries-typed-returns t c =
     let a = c .before .before .before .before .before .before .before .args in
     let l = c .before .before .before .before .before .loop in
     let rows = rowsFrom (typeOf (a .depth)) (a .n) (a .first) in
-    l .inv 0 (entries-wrong (a .leads .now) (a .file .now) rows (c .before .before .before .before .before .before .before .pre .1 .1 .1 .1 .0) (l .left) (l .p) (l .seen) _ (c .before .before .before .before .loop-test .taken) (record { says = c .before .before .before .text-at .ensures .1 .1 }) (c .before .before .row-of .ensures (typeOf (a .depth))) (c .before .row-typed .ensures) (c .if1 .taken))
+    l .inv 0 (entries-wrong (a .leads .now) (a .file .now) rows (c .before .before .before .before .before .before .before .pre .1 .1 .1 .1 .0) (l .left) (l .p) (l .seen) _ (c .before .before .before .before .loop-test .taken) (record { says = c .before .before .before .text-at .ensures .1 .1 }) (c .before .before .row-of .ensures (typeOf (a .depth))) (c .before .entry-typed .ensures) (c .if1 .taken))
 
 entries-typed-mark-requires : (t : ℕ) → entries-typed-lts.Need-mark-requires (entries-typed-claims t) (entries-typed-at t) entries-typed.Post entries-typed-Inv-loop entries-typed-μ-loop
 entries-typed-mark-requires t c κs = c .before .before .before .before .before .before .before .pre .1 .1 .1 .0
@@ -121,7 +137,7 @@ entries-typed-loop-again t c =
     let a = c .before .before .before .before .before .before .before .before .args in
     let l = c .before .before .before .before .before .before .loop in
     let rows = rowsFrom (typeOf (a .depth)) (a .n) (a .first) in
-    λ r h. l .inv r (entries-next (a .leads .now) (a .file .now) rows (c .before .before .before .before .before .before .before .before .pre .1 .1 .1 .1 .0) (l .left) (l .p) (l .seen) _ (c .before .before .before .before .before .loop-test .taken) (record { says = c .before .before .before .before .text-at .ensures .1 .1 }) (c .before .before .before .row-of .ensures (typeOf (a .depth))) (c .before .before .row-typed .ensures) _ (c .before .if1 .left) (c .mark .ensures ∙ ap (λ (z : ℕ). marked z (l .seen) (c .before .before .before .row-of .result)) (sym (rows-count (typeOf (a .depth)) (a .n) (a .first)))) h)
+    λ r h. l .inv r (entries-next (a .leads .now) (a .file .now) rows (c .before .before .before .before .before .before .before .before .pre .1 .1 .1 .1 .0) (l .left) (l .p) (l .seen) _ (c .before .before .before .before .before .loop-test .taken) (record { says = c .before .before .before .before .text-at .ensures .1 .1 }) (c .before .before .before .row-of .ensures (typeOf (a .depth))) (c .before .before .entry-typed .ensures) _ (c .before .if1 .left) (c .mark .ensures ∙ ap (λ (z : ℕ). marked z (l .seen) (c .before .before .before .row-of .result)) (sym (rows-count (typeOf (a .depth)) (a .n) (a .first)))) h)
 
 entries-typed-all-seen-requires : (t : ℕ) → entries-typed-lts.Need-all-seen-requires (entries-typed-claims t) (entries-typed-at t) entries-typed.Post entries-typed-Inv-loop entries-typed-μ-loop
 entries-typed-all-seen-requires t c κs = (c .before .before .before .pre .1 .0, (c .before .before .before .pre .1 .1 .0, c .before .before .before .pre .1 .1 .1 .0))
@@ -139,6 +155,12 @@ entries-typed-returns-3 t c =
     let l = c .before .before .before .loop in
     let rows = rowsFrom (typeOf (a .depth)) (a .n) (a .first) in
     l .inv 0 (entries-lack (a .leads .now) (a .file .now) rows (l .left) (l .p) (l .seen) (c .before .before .loop-test .left) (c .before .all-seen .ensures (typeOf (a .depth))) (c .if2 .left))
+
+entry-typed-returns : (t : ℕ) → entry-typed-lts.Need-returns (entry-typed-claims t) (entry-typed-at t) entry-typed.Post
+entry-typed-returns t c = c .before .quick-row .ensures (c .if1 .taken) (c .before .before .before .args .leads .now)
+
+entry-typed-row-typed-requires : (t : ℕ) → entry-typed-lts.Need-row-typed-requires (entry-typed-claims t) (entry-typed-at t) entry-typed.Post
+entry-typed-row-typed-requires t c κs = (search needs, c .before .before .before .pre .1)
 
 abbrev items-typed-Inv-loop : items-typed-lts.InvT-loop
 items-typed-Inv-loop leads file types count at code depth left₀ p₀ left p =
@@ -241,10 +263,11 @@ typed-at-returns-8 t c =
     let large : 3 < c .before .before .before .before .before .before .before .before .before .before .before .before .cell .result = omega arith in
     value-as (typeOf (a .depth) (a .code)) (mapWith (rowsFrom (typeOf (a .depth - 1)) (c .before .before .before .before .before .before .before .before .before .before .before .cell2 .result % 64) (c .before .before .before .before .before .before .before .before .before .before .cell3 .result))) (type-read (a .depth) (a .code) (pos-of-ne-zero (c .before .before .before .before .before .before .before .before .before .before .before .before .before .before .if1 .left)) (c .before .before .before .before .before .before .before .before .before .before .before .before .before .if2 .left) (c .before .before .before .before .before .before .before .before .before .before .before .before .cell .ensures .0) (c .before .before .before .before .before .before .before .before .before .before .before .cell2 .ensures .0) (c .before .before .before .before .before .before .before .before .before .before .cell3 .ensures .0) ∙ build-map (typeOf (a .depth - 1)) (c .before .before .before .before .before .before .before .before .before .before .before .before .cell .result) (c .before .before .before .before .before .before .before .before .before .before .before .cell2 .result % 64) (c .before .before .before .before .before .before .before .before .before .before .cell3 .result) large) (mapWith-says (head-read (a .leads .now) (a .file .now) (a .at) (c .before .before .before .before .before .before .before .before .head-at .ensures .1) (c .before .before .before .before .before .before .n .given .1) (c .before .before .before .before .kind-at .ensures .1) (c .before .before .before .head-kind .ensures)) (rowsFrom (typeOf (a .depth - 1)) (c .before .before .before .before .before .before .before .before .before .before .before .cell2 .result % 64) (c .before .before .before .before .before .before .before .before .before .before .cell3 .result)) (c .before .if6 .left) (c .entries-typed .ensures))
 
-pub +entries-typed+items-typed+row-typed+typed-at-spec : {M : Type 1} → statement M
-+entries-typed+items-typed+row-typed+typed-at-spec =
+pub +entries-typed+entry-typed+items-typed+row-typed+typed-at-spec : {M : Type 1} → statement M
++entries-typed+entry-typed+items-typed+row-typed+typed-at-spec =
     close
     μ-entries-typed
+    μ-entry-typed
     μ-items-typed
     μ-row-typed
     μ-typed-at
@@ -258,7 +281,7 @@ pub +entries-typed+items-typed+row-typed+typed-at-spec : {M : Type 1} → statem
     (λ c κs. search needs)
     (entries-typed-row-of-requires t)
     (λ c. search needs)
-    (entries-typed-row-typed-requires t)
+    (entries-typed-entry-typed-requires t)
     (entries-typed-returns t)
     (entries-typed-mark-requires t)
     (λ c. search needs)
@@ -267,6 +290,14 @@ pub +entries-typed+items-typed+row-typed+typed-at-spec : {M : Type 1} → statem
     (entries-typed-all-seen-requires t)
     (entries-typed-returns-2 t)
     (entries-typed-returns-3 t))
+    (λ t. entry-typed-lts.spec
+    (entry-typed-claims t)
+    (entry-typed-at t)
+    entry-typed.Post
+    (λ c κs. c .before .pre .1)
+    (entry-typed-returns t)
+    (entry-typed-row-typed-requires t)
+    (λ c. c .row-typed .ensures))
     (λ t. items-typed-lts.spec
     (items-typed-claims t)
     (items-typed-at t)

@@ -1,0 +1,31 @@
+-- The row's type is that of a string, and a short string is one.
+use mathlib.Core.Path.{ap, _∙_}
+use native.Mathlib.Omega.{arith}
+use native.Mathlib.Nat.{pos-of-ne-zero}
+use borrow.Author.Needs.{needs}
+use Rattle.fields.specs.Types.{plain}
+use Rattle.fields.specs.Numbers.{typeOf}
+use Rattle.fields.specs.Laws.Numbers.{string-type}
+use Rattle.fields.specs.Laws.Steps.{value-as, row-says}
+use Rattle.fields.proofs.quick_row.Statement.{statement}
+use Rattle.fields.proofs.quick_row.Tie as tie
+
+returns-4 : tie.Need-returns-4
+returns-4 c =
+    let a = c .before .before .before .before .before .before .args in
+    λ h leads. row-says leads (a .file .now) (typeOf (a .depth)) (a .n) (a .first) (a .row) (omega arith) (c .before .before .cell .ensures .0) (value-as (typeOf (a .depth) _) (plain 3) (ap (typeOf (a .depth)) (c .before .if3 .left) ∙ string-type (a .depth) (pos-of-ne-zero (c .before .before .before .before .if1 .left))) (c .quick-end .ensures h leads))
+
+pub quick-row-spec : {M : Type 1} → statement M
+quick-row-spec =
+    tie.close
+    (tie.spec
+    (λ c h. absurd (omega arith))
+    (λ c h. absurd (omega arith))
+    (λ c. search needs)
+    (λ c. search needs)
+    (λ c. search needs)
+    (λ c. search needs)
+    (λ c κs. search needs)
+    (λ c h. absurd (omega arith))
+    (λ c κs. search needs)
+    returns-4)
