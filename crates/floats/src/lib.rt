@@ -180,7 +180,8 @@ fn write_packed(payload: &[u8], two: bool, delta: bool, divisor: f32, buffer: &m
     let mut o: usize = 0;
     let mut total: i32 = 0;
     while k <= payload.len() - i {
-        let number = steps::number_at(payload, i, size);
+        let rest = &payload[i..];
+        let number = steps::number_at(rest, 0, size);
         i += k;
         total = steps::add_delta(total, number);
         if !steps::is_limit(number, size) {

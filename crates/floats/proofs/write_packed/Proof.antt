@@ -2,18 +2,22 @@
 -- (`total-written-done`); each result is exact since all are.
 use mathlib.Core.Path.{_≡_, sym, ap, subst, _∙_}
 use mathlib.Core.Bool.{true}
-use Prim.Native.Nat.{_+_, _-_, _≤_}
+use mathlib.Core.List.{List}
+use Prim.Native.Nat.{ℕ, _+_, _-_, _≤_}
 use native.Mathlib.Omega.{arith}
-use lib.ListN.{length}
-use mir.Syntax.{w32}
+use lib.ListN.{length, take, drop, length-drop}
+use lib.Seq.{take-all}
+use mir.Syntax.{w8, w16, w32}
 use mir.Val.{toZ, ofZ}
 use mir.Facts.{toZ-ofZ}
 use borrow.Author.Needs.{needs}
 use borrow.Author.Tests.{not-true, not-false}
-use Rattle.numbers.specs.BigEndian.{signedAt}
+use Rattle.numbers.specs.BigEndian.{bytesIn, unsignedAt, signedAt}
+use Rattle.numbers.specs.Laws.BigEndian.{unsignedAt-drop}
 use Rattle.steps.specs.declared.Size.{Size}
+use Rattle.steps.specs.declared.Size.the-variants.{One, Two, Four}
 use Rattle.steps.specs.declared.Form.the-variants.{Packed}
-use Rattle.steps.specs.Width.{widthOf, upper, lower}
+use Rattle.steps.specs.Width.{widthOf, sizeOf, upper, lower}
 use Rattle.steps.specs.Delta.{plusDelta}
 use Rattle.steps.specs.Packing.{isLimit}
 use Rattle.steps.specs.Laws.Numbers.{size-pos}
@@ -34,28 +38,44 @@ abbrev μ-loop : tie.MeasureT-loop
 loop-holds : tie.Need-loop-holds Inv-loop μ-loop
 loop-holds c = let a = c .before .before .before .before .args in (omega arith, (λ room. total-written-start (bitsBy (a .divisor)) (c .before .packed-size .result) (a .delta) (a .payload .now) (a .buffer .now) room))
 
+-- the number at the start of what is left
+part : (z : Size) (s : List ℕ) (at : ℕ) → at + sizeOf z ≤ length s → signedAt (widthOf z) (take (length s - at) (drop at s)) 0 ≡ signedAt (widthOf z) s at
+unfolding signedAt
+part z s at h = by z h
+  where
+    first : (k : ℕ) → at + k ≤ length s → unsignedAt k (take (length s - at) (drop at s)) 0 ≡ unsignedAt k s at
+    first k h =
+        let l = length-drop at s in
+        let e : at + 0 ≡ at = omega arith in
+        rw (take-all (length s - at) (drop at s) (omega arith)) (unsignedAt-drop k s at 0 (omega arith) ∙ ap (unsignedAt k s) e)
+
+    by : (z : Size) → at + sizeOf z ≤ length s → toZ (widthOf z) (unsignedAt (bytesIn (widthOf z)) (take (length s - at) (drop at s)) 0) ≡ toZ (widthOf z) (unsignedAt (bytesIn (widthOf z)) s at)
+    by One h = ap (toZ w8) (first 1 h)
+    by Two h = ap (toZ w16) (first 2 h)
+    by Four h = ap (toZ w32) (first 4 h)
+
 -- the payload's results have room, and are exact
 has : (c : tie.At-loop Inv-loop μ-loop) → HasRoom (Packed (c .before .before .packed-size .result)) (c .before .before .before .before .before .args .payload .now) (length (c .before .before .before .before .before .args .buffer .now)) × ResultsExact (Packed (c .before .before .packed-size .result)) (c .before .before .before .before .before .args .delta) (c .before .before .before .before .before .args .payload .now)
 has c = let a = c .before .before .before .before .before in subst (λ (z : Size). HasRoom (Packed z) (a .args .payload .now) (length (a .args .buffer .now)) × ResultsExact (Packed z) (a .args .delta) (a .args .payload .now)) (sym (c .before .before .packed-size .ensures)) (a .pre .0, a .pre .1)
 
 -- the number that was read, and the total with it
-number : (c : tie.After-is-limit Inv-loop μ-loop) → toZ w32 (ofZ w32 (c .before .before .number-at .result)) ≡ signedAt (widthOf (c .before .before .before .before .before .before .packed-size .result)) (c .before .before .before .before .before .before .before .before .before .args .payload .now) (c .before .before .before .before .loop .i)
-number c = toZ-ofZ {w = w32} (record { sfits = c .before .before .number-at .ok }) ∙ c .before .before .number-at .ensures
+number : (c : tie.After-is-limit Inv-loop μ-loop) → toZ w32 (ofZ w32 (c .before .before .number-at .result)) ≡ signedAt (widthOf (c .before .before .before .before .before .before .before .packed-size .result)) (c .before .before .before .before .before .before .before .before .before .before .args .payload .now) (c .before .before .before .before .before .loop .i)
+number c = toZ-ofZ {w = w32} (record { sfits = c .before .before .number-at .ok }) ∙ c .before .before .number-at .ensures ∙ part (c .before .before .before .before .before .before .before .packed-size .result) (c .before .before .before .before .before .before .before .before .before .before .args .payload .now) (c .before .before .before .before .before .loop .i) (let e = c .before .before .before .before .before .before .bytes .ensures in omega arith)
 
-total : (c : tie.After-is-limit Inv-loop μ-loop) → toZ w32 (ofZ w32 (c .before .add-delta .result)) ≡ plusDelta (toZ w32 (c .before .before .before .before .loop .total)) (signedAt (widthOf (c .before .before .before .before .before .before .packed-size .result)) (c .before .before .before .before .before .before .before .before .before .args .payload .now) (c .before .before .before .before .loop .i))
-total c = toZ-ofZ {w = w32} (record { sfits = c .before .add-delta .ok }) ∙ c .before .add-delta .ensures ∙ ap (plusDelta (toZ w32 (c .before .before .before .before .loop .total))) (number c)
+total : (c : tie.After-is-limit Inv-loop μ-loop) → toZ w32 (ofZ w32 (c .before .add-delta .result)) ≡ plusDelta (toZ w32 (c .before .before .before .before .before .loop .total)) (signedAt (widthOf (c .before .before .before .before .before .before .before .packed-size .result)) (c .before .before .before .before .before .before .before .before .before .before .args .payload .now) (c .before .before .before .before .before .loop .i))
+total c = toZ-ofZ {w = w32} (record { sfits = c .before .add-delta .ok }) ∙ c .before .add-delta .ensures ∙ ap (plusDelta (toZ w32 (c .before .before .before .before .before .loop .total))) (number c)
 
-limit : (c : tie.After-is-limit Inv-loop μ-loop) → isLimit (upper (c .before .before .before .before .before .before .packed-size .result)) (lower (c .before .before .before .before .before .before .packed-size .result)) (signedAt (widthOf (c .before .before .before .before .before .before .packed-size .result)) (c .before .before .before .before .before .before .before .before .before .args .payload .now) (c .before .before .before .before .loop .i)) ≡ c .is-limit .result
-limit c = let z = c .before .before .before .before .before .before .packed-size .result in sym (c .is-limit .ensures ∙ ap (isLimit (upper z) (lower z)) (number c))
+limit : (c : tie.After-is-limit Inv-loop μ-loop) → isLimit (upper (c .before .before .before .before .before .before .before .packed-size .result)) (lower (c .before .before .before .before .before .before .before .packed-size .result)) (signedAt (widthOf (c .before .before .before .before .before .before .before .packed-size .result)) (c .before .before .before .before .before .before .before .before .before .before .args .payload .now) (c .before .before .before .before .before .loop .i)) ≡ c .is-limit .result
+limit c = let z = c .before .before .before .before .before .before .before .packed-size .result in sym (c .is-limit .ensures ∙ ap (isLimit (upper z) (lower z)) (number c))
 
 -- there is room for a result, and it is exact
-has-room : (c : tie.Then1 Inv-loop μ-loop) → (c .before .before .before .before .before .loop .o + 1 ≤ length (c .before .before .before .before .before .loop .buffer)) × (length (c .before .before .before .before .before .loop .buffer) ≡ length (c .before .before .before .before .before .before .before .before .before .before .args .buffer .now)) × (exact (toZ w32 (ofZ w32 (c .before .before .add-delta .result))) ≡ true)
+has-room : (c : tie.Then1 Inv-loop μ-loop) → (c .before .before .before .before .before .before .loop .o + 1 ≤ length (c .before .before .before .before .before .before .loop .buffer)) × (length (c .before .before .before .before .before .before .loop .buffer) ≡ length (c .before .before .before .before .before .before .before .before .before .before .before .args .buffer .now)) × (exact (toZ w32 (ofZ w32 (c .before .before .add-delta .result))) ≡ true)
 has-room c =
-    let a = c .before .before .before .before .before .before .before .before .before .before in
-    let z = c .before .before .before .before .before .before .before .packed-size .result in
-    let e = c .before .before .before .before .before .before .bytes .ensures in
-    let p = c .before .before .before .before .before .loop in
-    let r = has (c .before .before .before .before .before) in
+    let a = c .before .before .before .before .before .before .before .before .before .before .before in
+    let z = c .before .before .before .before .before .before .before .before .packed-size .result in
+    let e = c .before .before .before .before .before .before .before .bytes .ensures in
+    let p = c .before .before .before .before .before .before .loop in
+    let r = has (c .before .before .before .before .before .before) in
     let w = p .inv .1 (r .0) in
     let l = limit (c .before) ∙ not-true _ (c .if1 .taken) in (
       total-written-room (bitsBy (a .args .divisor)) z (a .args .delta) (a .args .payload .now) (a .args .buffer .now) (r .0) (p .i) (toZ w32 (p .total)) (p .o) (p .buffer) w (omega arith),
@@ -65,10 +85,10 @@ has-room c =
 
 loop-again : tie.Need-loop-again Inv-loop μ-loop
 loop-again c =
-    let a = c .before .before .before .before .before .before .before .before .before .before .before .before in
-    let z = c .before .before .before .before .before .before .before .before .before .packed-size .result in
-    let e = c .before .before .before .before .before .before .before .before .bytes .ensures in
-    let p = c .before .before .before .before .before .before .before .loop in
+    let a = c .before .before .before .before .before .before .before .before .before .before .before .before .before in
+    let z = c .before .before .before .before .before .before .before .before .before .before .packed-size .result in
+    let e = c .before .before .before .before .before .before .before .before .before .bytes .ensures in
+    let p = c .before .before .before .before .before .before .before .before .loop in
     let o = toZ-ofZ {w = w32} {z = c .before .before .before .before .add-delta .result} (record { sfits = c .before .before .before .before .add-delta .ok }) in
     let t = toZ-ofZ {w = w32} (record { sfits = c .total-after .ok }) ∙ c .total-after .ensures in (
       omega arith,
@@ -78,10 +98,10 @@ loop-again c =
 
 loop-again-2 : tie.Need-loop-again-2 Inv-loop μ-loop
 loop-again-2 c =
-    let a = c .before .before .before .before .before .before .before .before .before .before in
-    let z = c .before .before .before .before .before .before .before .packed-size .result in
-    let e = c .before .before .before .before .before .before .bytes .ensures in
-    let p = c .before .before .before .before .before .loop in (
+    let a = c .before .before .before .before .before .before .before .before .before .before .before in
+    let z = c .before .before .before .before .before .before .before .before .packed-size .result in
+    let e = c .before .before .before .before .before .before .before .bytes .ensures in
+    let p = c .before .before .before .before .before .before .loop in (
       omega arith,
       (λ room. rw e (total-written-more (bitsBy (a .args .divisor)) z (a .args .delta) (a .args .payload .now) (a .args .buffer .now) room (p .i) (toZ w32 (p .total)) (p .o) (p .buffer) (p .inv .1 room) (omega arith) (toZ w32 (ofZ w32 (c .before .before .add-delta .result))) (total (c .before)) (limit (c .before) ∙ not-false _ (c .if1 .left)))),
     )
@@ -108,18 +128,21 @@ write-packed-spec =
     (λ c κs. search needs)
     loop-holds
     (λ c. omega arith)
+    (λ c. search needs)
+    (λ c. search needs)
+    (λ c. search needs)
     (λ c κs. search needs)
     (λ c. omega arith)
     (λ c κs. search needs)
     (λ c κs. search needs)
-    (λ c κs. (has-room c .2, c .before .before .before .before .before .before .before .before .before .before .pre .2))
+    (λ c κs. (has-room c .2, c .before .before .before .before .before .before .before .before .before .before .before .pre .2))
     (λ c. let r = has-room (c .before) in omega (arith, r .0, r .1))
     (λ c. let r = has-room (c .before) in omega (arith, r .0, r .1))
     (λ c. let r = has-room (c .before) in omega (arith, r .0, r .1))
     (λ c κs. search needs)
-    (λ c. let n = size-pos (c .before .before .before .before .before .before .before .before .before .packed-size .result) in omega (arith, c .before .before .before .before .before .before .before .before .bytes .ensures))
+    (λ c. let n = size-pos (c .before .before .before .before .before .before .before .before .before .before .packed-size .result) in omega (arith, c .before .before .before .before .before .before .before .before .before .bytes .ensures))
     loop-again
-    (λ c. let n = size-pos (c .before .before .before .before .before .before .before .packed-size .result) in omega (arith, c .before .before .before .before .before .before .bytes .ensures))
+    (λ c. let n = size-pos (c .before .before .before .before .before .before .before .before .packed-size .result) in omega (arith, c .before .before .before .before .before .before .before .bytes .ensures))
     loop-again-2
     same-length
     returns)
