@@ -1,6 +1,5 @@
 -- Each arm is the definition's case. Assumes nothing.
-use mathlib.Core.Path.{ap, _∙_}
-use mathlib.Core.List.{append-assoc}
+use mathlib.Core.Path.{ap}
 use borrow.Author.Needs.{needs}
 use Rattle.text.specs.Laws.Put.{put-more, put-as}
 use Rattle.sentences.specs.Sentences.{fileText}

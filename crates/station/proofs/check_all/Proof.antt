@@ -1,5 +1,5 @@
 -- Every word from the first file on is looked at once. Assumes nothing.
-use Prim.Native.Nat.{_-_, _≤_}
+use Prim.Native.Nat.{_-_}
 use native.Mathlib.Omega.{arith}
 use borrow.Author.Needs.{needs}
 use Rattle.station.proofs.check_all.Statement.{statement}

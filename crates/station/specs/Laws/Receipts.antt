@@ -1,18 +1,16 @@
 -- Laws of the verdict in a receipt: it is the verdict on the file. Assumes nothing.
 use mathlib.Core.Path.{_≡_, refl, sym, _∙_, ap}
 use mathlib.Core.List.{List}
-use Prim.Native.Nat.{ℕ, _≤_, _<_, _%_}
+use Prim.Native.Nat.{ℕ, _%_}
 use native.Mathlib.Omega.{arith}
-use lib.ListN.{length, take}
 use Rattle.numbers.specs.BigEndian.{Bytes}
-use Rattle.structure.specs.Accepted.{Accepted, verdictOf}
+use Rattle.structure.specs.Accepted.{verdictOf}
 use Rattle.structure.specs.Laws.Accepted.{accepted-exactly}
 use Rattle.structure.specs.Laws.Summary.{verdict-most}
 use Rattle.receipt.specs.File.{ReceiptOf, accepts, refuses, Receipted}
 use Rattle.receipt.specs.Reading.{readingOf}
 use Rattle.receipt.specs.Laws.Reading.{reading-exactly}
 use Rattle.receipt.specs.declared.Receipt.{Receipt}
-use Rattle.receipt.specs.declared.Reading.{Reading}
 use Rattle.station.specs.Receipts.{verdictIn}
 
 -- the verdict of a file's receipt

@@ -1,18 +1,17 @@
 -- Whether the value under an outer key is a binary: its kind at its place says so. Assumes nothing.
-use mathlib.Core.Path.{_≡_, refl, sym, ap, _∙_}
-use mathlib.Core.Bool.{Bool, false}
+use mathlib.Core.Path.{_≡_, sym, ap, _∙_}
+use mathlib.Core.Bool.{false}
 use mathlib.Core.List.{List}
 use mathlib.Core.Option.{some}
 use Prim.Native.Nat.{ℕ}
 use borrow.Author.Tests.{eq-eqb, ne-eqb}
 use Rattle.refusal.specs.Table.{accepted}
 use Rattle.heads.specs.Head.{kindAt}
-use Rattle.heads.specs.declared.Kind.{Kind}
 use Rattle.messagepack.specs.Document.{Document, integer, float, string, binary, array, map}
 use Rattle.messagepack.specs.Rules.{Container}
 use Rattle.messagepack.specs.Walk.{containerNumber}
 use Rattle.messagepack.specs.Laws.Unique.{documentOf-is}
-use Rattle.values.specs.Parts.{entriesOf, look}
+use Rattle.values.specs.Parts.{look}
 use Rattle.values.specs.Heads.{isBinary}
 use Rattle.values.specs.Places.{At, PlaceSays}
 use Rattle.values.specs.Laws.Places.{place-none, place-some, OpenInteger, unsigned, signed, open-array, open-map, open-string, open-binary, open-float, open-integer}
