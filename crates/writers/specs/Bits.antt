@@ -2,7 +2,7 @@
 use mathlib.Core.Path.{_≡_}
 use mathlib.Core.Bool.{Bool, cond}
 use mathlib.Core.List.{List, [], _∷_, _++_}
-use Prim.Native.Nat.{ℕ, _+_}
+use Prim.Native.Nat.{ℕ, _+_, _/_, _%_}
 use lib.ListN.{drop}
 use lib.IntN.{ℤ}
 use lib.Dec.{leb}
@@ -31,3 +31,10 @@ toWrite z d xs p = bytesFor z (pack z (deltasFrom d (p .before) (drop (p .next) 
 -- the spot q in the buffer t goes on from the spot p in the buffer s: what is still to be written comes to one buffer from both
 abbrev pub GoesOn : Size → Bool → List ℤ → List ℕ → Spot → List ℕ → Spot → Type 0
 GoesOn z d xs s p t q = over t (q .at) (toWrite z d xs q) ≡ over s (p .at) (toWrite z d xs p)
+
+-- r has the four bytes of n in the other order
+pub record Swapped (n r : ℕ) : Type 0 where
+  pub first : r % 256 ≡ n / 256 / 256 / 256 % 256
+  pub second : r / 256 % 256 ≡ n / 256 / 256 % 256
+  pub third : r / 256 / 256 % 256 ≡ n / 256 % 256
+  pub fourth : r / 256 / 256 / 256 % 256 ≡ n % 256

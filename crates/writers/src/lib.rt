@@ -14,6 +14,7 @@ ghost use lib.Dec.{leb};
 ghost use Rattle.numbers.specs.BigEndian.{bytesOf};
 ghost use Rattle.steps.specs.Delta.{deltaIf};
 ghost use Rattle.steps.specs.Payload.{allIn};
+ghost use Rattle.writers.specs.Bits.{Swapped};
 ghost use Rattle.writers.specs.Placed.{over};
 use steps::Range;
 
@@ -97,13 +98,25 @@ fn put_two(buffer: &mut [u8], at: usize, bits: u32)
     buffer[at + 1] = numbers::low_byte(bits);
 }
 
-// All four bytes.
+// All four bytes, by the number that has them in the other order: its lowest byte is stored first, as the machine does at once.
 fn put_four(buffer: &mut [u8], at: usize, bits: u32)
     requires { ⌜ at + 4 ≤ length (now buffer) ⌝ }
     ensures { λ r. ⌜ now (buffer .exit) ≡ over (now (buffer .entry)) at (bytesOf 4 bits) ⌝ }
 {
-    buffer[at] = numbers::low_byte(bits / 256 / 256 / 256);
-    buffer[at + 1] = numbers::low_byte(bits / 256 / 256);
-    buffer[at + 2] = numbers::low_byte(bits / 256);
-    buffer[at + 3] = numbers::low_byte(bits);
+    let other = swapped(bits);
+    buffer[at] = numbers::low_byte(other);
+    buffer[at + 1] = numbers::low_byte(other / 256);
+    buffer[at + 2] = numbers::low_byte(other / 256 / 256);
+    buffer[at + 3] = numbers::low_byte(other / 256 / 256 / 256);
+}
+
+// The four bytes of a number in the other order.
+fn swapped(bits: u32) -> u32
+    ensures { λ r. ⌜ Swapped bits r ⌝ }
+{
+    let a = bits / 256 / 256 / 256;
+    let b = bits / 256 / 256 % 256;
+    let c = bits / 256 % 256;
+    let d = bits % 256;
+    ((d * 256 + c) * 256 + b) * 256 + a
 }

@@ -88,15 +88,18 @@ fn limits_of(x: i32, size: Size, low: u32, span: u32) -> usize
     limits_of_long(x, size)
 }
 
-// How many limits a value of any size takes: one for each time that it reaches the limit.
+// How many limits a value of any size takes: one for each time that it reaches the limit. Both signs are divided before the sign is
+// asked for: it is hard to foretell, and a division by a constant costs less than a wrong guess.
 fn limits_of_long(x: i32, size: Size) -> usize
     ensures { λ r. ⌜ (r + 1 ≡ length (packOne (upper size) (lower size) x)) × (r < 4294967296) ⌝ }
 {
     let bits = numbers::to_u32(x);
+    let above = bits / upper(size);
+    let below = negated(bits) / lower(size);
     if bits < 0x8000_0000 {
-        return numbers::u32_to_usize(bits / upper(size));
+        return numbers::u32_to_usize(above);
     }
-    numbers::u32_to_usize(negated(bits) / lower(size))
+    numbers::u32_to_usize(below)
 }
 
 // Packed numbers from `start` on: short values by a loop of their own, up to the next that is not.

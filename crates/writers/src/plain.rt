@@ -91,12 +91,11 @@ fn write_numbers(values: &[i32], size: Size, buffer: &mut [u8], start: usize)
     requires { ⌜ (allIn (rangeOf (Form.Plain size)) (now values) ≡ true) × (start + length (bytesFor size (now values)) ≤ length (now buffer)) ⌝ }
     ensures { λ r. ⌜ now (buffer .exit) ≡ over (now (buffer .entry)) start (bytesFor size (now (values .entry))) ⌝ }
 {
-    let k = steps::bytes(size);
     let mut at = start;
     let mut i: usize = 0;
     while i < values.len() {
         put(buffer, at, numbers::to_u32(values[i]), size);
-        at += k;
+        at += steps::bytes(size);
         i += 1;
     }
 }

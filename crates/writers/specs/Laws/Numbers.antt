@@ -1,7 +1,8 @@
--- Laws of the bytes of numbers: one number more, and a number by its 32 bits. Assumes nothing.
+-- Laws of the bytes of numbers: one number more, a number by its 32 bits, and its bytes in the other order. Assumes nothing.
 use mathlib.Core.Path.{_≡_, refl, sym, ap, _∙_}
 use mathlib.Core.List.{List, [], _∷_, _++_, append-assoc}
-use Prim.Native.Nat.{ℕ, suc, _+_, _-_, _*_, _^_, _<_}
+use Prim.Native.Nat.{ℕ, suc, _+_, _-_, _*_, _/_, _%_, _^_, _<_}
+use native.Mathlib.Nat.{mod-eq-of-lt}
 use native.Mathlib.Omega.{arith}
 use lib.IntN.{ℤ, pos, negsuc}
 use lib.Signed.{mag}
@@ -14,6 +15,7 @@ use Rattle.steps.specs.declared.Size.{Size}
 use Rattle.steps.specs.declared.Size.the-variants.{One, Two, Four}
 use Rattle.steps.specs.Width.{widthOf, sizeOf, lower}
 use Rattle.steps.specs.Numbers.{bytesFor}
+use Rattle.writers.specs.Bits.{Swapped}
 
 pub bytesFor-cons : (z : Size) (x : ℤ) (xs : List ℤ) → bytesFor z (x ∷ xs) ≡ bytesOf (sizeOf z) (ofZ (widthOf z) x) ++ bytesFor z xs
 unfolding bytesFor
@@ -47,3 +49,18 @@ pub size-product : (z : Size) (n : ℕ) → n * 4 < 9223372036854775808 → n * 
 size-product One n h = omega arith
 size-product Two n h = omega arith
 size-product Four n h = omega arith
+
+-- four bytes put together in the other order
+digits : (a b c d r : ℕ) → a < 256 → b < 256 → c < 256 → d < 256 → r ≡ ((d * 256 + c) * 256 + b) * 256 + a
+    → (r % 256 ≡ a) × (r / 256 % 256 ≡ b) × (r / 256 / 256 % 256 ≡ c) × (r / 256 / 256 / 256 % 256 ≡ d)
+digits a b c d r ha hb hc hd e =
+    let p : r / 256 ≡ (d * 256 + c) * 256 + b = omega arith in
+    let q : r / 256 / 256 ≡ d * 256 + c = omega arith in
+    let t : r / 256 / 256 / 256 ≡ d = omega arith in
+    (omega arith, omega arith, omega arith, omega arith)
+
+pub swapped-bytes : (n : ℕ) → n < 4294967296 → Swapped n (((n % 256 * 256 + n / 256 % 256) * 256 + n / 256 / 256 % 256) * 256 + n / 256 / 256 / 256)
+swapped-bytes n h =
+    let l : n / 256 / 256 / 256 < 256 = omega arith in
+    let w = digits (n / 256 / 256 / 256) (n / 256 / 256 % 256) (n / 256 % 256) (n % 256) _ l (omega arith) (omega arith) (omega arith) refl in
+    record { first = w .0 ∙ sym (mod-eq-of-lt l); second = w .1; third = w .2; fourth = w .3 }

@@ -14,17 +14,22 @@ use Rattle.writers.proofs.packed.limits_of_long.Tie as tie
 
 returns : tie.Need-returns
 returns c =
-    let a = c .before .before .before .before in
-    let u = c .before .before .before .to-u32 .ensures ∙ ap (ofZ w32) (toZ-ofZ {w = w32} (a .fits .x)) in
-    let q = c .u32-to-usize .ensures ∙ ap (λ (n : ℕ). c .before .before .before .to-u32 .result / n) (c .before .upper .ensures) in
-    (ap (λ (n : ℕ). n + 1) q ∙ sym (length-packOne-up (a .args .size) (c .before .before .before .to-u32 .result) (a .args .x) (a .fits .x) u (c .before .before .if1 .taken)), omega (arith, c .u32-to-usize .ensures, div-le-self (c .before .before .before .to-u32 .result) (c .before .upper .result), c .before .before .before .to-u32 .ok))
+    let a = c .before .before .before .before .before .before in
+    let t = c .before .before .before .before .before .to-u32 in
+    let d = c .before .before .before .before .upper in
+    let u = t .ensures ∙ ap (ofZ w32) (toZ-ofZ {w = w32} (a .fits .x)) in
+    let q = c .u32-to-usize .ensures ∙ ap (λ (n : ℕ). t .result / n) (d .ensures) in
+    (ap (λ (n : ℕ). n + 1) q ∙ sym (length-packOne-up (a .args .size) (t .result) (a .args .x) (a .fits .x) u (c .before .if1 .taken)), omega (arith, c .u32-to-usize .ensures, div-le-self (t .result) (d .result), t .ok))
 
 returns-2 : tie.Need-returns-2
 returns-2 c =
-    let a = c .before .before .before .before .before in
-    let u = c .before .before .before .before .to-u32 .ensures ∙ ap (ofZ w32) (toZ-ofZ {w = w32} (a .fits .x)) in
-    let q = c .u32-to-usize2 .ensures ∙ ap₂ (λ (m n : ℕ). m / n) (c .before .before .negated .ensures) (c .before .lower .ensures) in
-    (ap (λ (n : ℕ). n + 1) q ∙ sym (length-packOne-down (a .args .size) (c .before .before .before .before .to-u32 .result) (a .args .x) (a .fits .x) u (c .before .before .before .if1 .left)), omega (arith, c .u32-to-usize2 .ensures, div-le-self (c .before .before .negated .result) (c .before .lower .result), c .before .before .negated .ok))
+    let a = c .before .before .before .before .before .before in
+    let t = c .before .before .before .before .before .to-u32 in
+    let m = c .before .before .before .negated in
+    let d = c .before .before .lower in
+    let u = t .ensures ∙ ap (ofZ w32) (toZ-ofZ {w = w32} (a .fits .x)) in
+    let q = c .u32-to-usize2 .ensures ∙ ap₂ (λ (m n : ℕ). m / n) (m .ensures) (d .ensures) in
+    (ap (λ (n : ℕ). n + 1) q ∙ sym (length-packOne-down (a .args .size) (t .result) (a .args .x) (a .fits .x) u (c .before .if1 .left)), omega (arith, c .u32-to-usize2 .ensures, div-le-self (m .result) (d .result), m .ok))
 
 pub limits-of-long-spec : {M : Type 1} → statement M
 limits-of-long-spec =
@@ -32,11 +37,11 @@ limits-of-long-spec =
     (tie.spec
     (λ c κs. search needs)
     (λ c κs. search needs)
-    (λ c. omega (arith, limits (c .before .before .before .args .size) .0, c .upper .ensures))
-    (λ c κs. search needs)
-    returns
+    (λ c. omega (arith, limits (c .before .before .args .size) .0, c .upper .ensures))
     (λ c κs. search needs)
     (λ c κs. search needs)
     (λ c. omega (arith, limits (c .before .before .before .before .args .size) .2, c .lower .ensures))
+    (λ c κs. search needs)
+    returns
     (λ c κs. search needs)
     returns-2)
