@@ -6,7 +6,7 @@ use native.Mathlib.Omega.{arith}
 use lib.ListN.{length, take, drop, set, length-set}
 use borrow.Author.Needs.{needs}
 use Rattle.values.specs.declared.Part.{Part}
-use Rattle.decoding.specs.Laws.Calls.{copied-start, copied-more, copied-all}
+use Rattle.payloads.specs.Laws.Writing.{laid-next, laid-all}
 use Rattle.fields.specs.Table.{fieldCount}
 use Rattle.opening.specs.Opening.{startsOf, lengthsOf}
 use Rattle.opening.specs.Laws.Opening.{starts-count, lengths-count, start-noted, length-noted}
@@ -27,7 +27,7 @@ abbrev μ-loop : tie.MeasureT-loop
 loop-holds : tie.Need-loop-holds Inv-loop μ-loop
 loop-holds c =
     let a = c .before .before .before .args in
-    (omega arith, refl, refl, copied-start (startsOf (a .file .now)) (a .starts .now), copied-start (lengthsOf (a .file .now)) (a .lengths .now))
+    (omega arith, refl, refl, refl, refl)
 
 part-at-requires : tie.Need-part-at-requires Inv-loop μ-loop
 part-at-requires c κs = c .before .before .before .before .before .before .before .pre .0
@@ -42,8 +42,8 @@ loop-again c =
       omega arith,
       length-set (l .starts) (l .i) _ ∙ l .inv .1,
       length-set (l .lengths) (l .i) _ ∙ l .inv .2,
-      ap (set (l .starts) (l .i)) (ap (λ (p : Part). p .at) e ∙ start-noted (n .0) (l .i) t) ∙ copied-more (startsOf (a .file .now)) (a .starts .now) (l .starts) (l .i) (omega (arith, starts-count (a .file .now))) (omega (arith, starts-count (a .file .now), n .1 .0)) (l .inv .3),
-      ap (set (l .lengths) (l .i)) (ap (λ (p : Part). p .count) e ∙ length-noted (n .0) (l .i) t) ∙ copied-more (lengthsOf (a .file .now)) (a .lengths .now) (l .lengths) (l .i) (omega (arith, lengths-count (a .file .now))) (omega (arith, lengths-count (a .file .now), n .1 .1)) (l .inv .4),
+      laid-next (startsOf (a .file .now)) (a .starts .now) (l .starts) (l .i) _ 0 (omega (arith, starts-count (a .file .now))) (omega (arith, starts-count (a .file .now), n .1 .0)) (ap (λ (p : Part). p .at) e ∙ start-noted (n .0) (l .i) t) (l .inv .3),
+      laid-next (lengthsOf (a .file .now)) (a .lengths .now) (l .lengths) (l .i) _ 0 (omega (arith, lengths-count (a .file .now))) (omega (arith, lengths-count (a .file .now), n .1 .1)) (ap (λ (p : Part). p .count) e ∙ length-noted (n .0) (l .i) t) (l .inv .4),
     )
 
 returns : tie.Need-returns Inv-loop μ-loop
@@ -51,8 +51,8 @@ returns c =
     let a = c .before .before .before .before .before .args in
     let l = c .before .loop in
     let t = c .loop-test .left in (
-      copied-all (startsOf (a .file .now)) (a .starts .now) (l .starts) (l .i) (omega (arith, starts-count (a .file .now), l .inv .0)) (l .inv .3),
-      copied-all (lengthsOf (a .file .now)) (a .lengths .now) (l .lengths) (l .i) (omega (arith, lengths-count (a .file .now), l .inv .0)) (l .inv .4),
+      laid-all (startsOf (a .file .now)) (a .starts .now) (l .starts) (l .i) (omega (arith, starts-count (a .file .now), l .inv .0)) (l .inv .3),
+      laid-all (lengthsOf (a .file .now)) (a .lengths .now) (l .lengths) (l .i) (omega (arith, lengths-count (a .file .now), l .inv .0)) (l .inv .4),
     )
 
 pub put-parts-spec : {M : Type 1} → statement M
