@@ -59,7 +59,8 @@ fn sum_from(leads: &[u8; 256], file: &[u8], n: usize, at: usize) -> Sum
     Sum::Is(total)
 }
 
-// The integer at a place, as `crate::integer_at` has it, and where the value ends. The commonest, those in their lead byte, are found first.
+// The integer at a place, as `crate::integer_at` has it, and where the value ends. The commonest, those in their lead byte and
+// those of two bytes after it, are found first.
 fn next_integer(leads: &[u8; 256], file: &[u8], at: usize) -> Integer
     ensures { λ r. ⌜ Walked (now (leads .entry)) (now (file .entry)) at (λ x e. (r .value ≡ integerOf x) × (r .end ≡ e)) ⌝ }
 {
@@ -70,6 +71,15 @@ fn next_integer(leads: &[u8; 256], file: &[u8], at: usize) -> Integer
                 value: numbers::u8_to_i32(b),
                 end: at + 1,
             };
+        }
+        if b == 0xcd {
+            if 3 <= file.len() - at {
+                let n = numbers::u16_to_usize(numbers::read_u16(file, at + 1));
+                return Integer {
+                    value: crate::unsigned(n),
+                    end: at + 3,
+                };
+            }
         }
     }
     Integer {

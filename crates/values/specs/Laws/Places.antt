@@ -13,13 +13,14 @@ use lib.Dec.{eqb, lit<, lit≤}
 use lib.IntN.{ℤ, pos}
 use lib.ListN.{length, take, drop, getD, length-append}
 use lib.Seq.{drop-length}
-use Rattle.heads.specs.Lead.{moreOf}
+use Rattle.heads.specs.Lead.{kindOf, moreOf}
 use Rattle.heads.specs.Head.{HeadOf, kindAt, headAt}
 use Rattle.heads.specs.declared.Kind.{Kind}
 use Rattle.heads.specs.declared.Head.{Head}
 use Rattle.heads.specs.Span.{Span}
 use Rattle.heads.specs.Laws.Span.{span-none, holds, fits}
-use Rattle.heads.specs.Laws.Head.{Told, head-told, kind-in, head-held}
+use Rattle.heads.specs.Laws.Head.{Told, head-told, kind-in, head-held, head-number}
+use Rattle.numbers.specs.BigEndian.{unsignedAt}
 use Rattle.heads.specs.Laws.Table.{moreOf-bound, moreOf-four, low-lead, string-lead}
 use Rattle.numbers.specs.Laws.BigEndian.{length-bytesOf}
 use Rattle.numbers.specs.Laws.Tests.{clash}
@@ -286,6 +287,22 @@ module _ {s : List ℕ} {p e : ℕ} (x : Document) (a : At s p x e) {n r : ℕ} 
   same-number : {k : Kind} {m q : ℕ} → Told s p k m q → (m ≡ n) × (q ≡ r)
   same-number t = let g = sym (t .head) ∙ h in (cc, cc)
 
+  -- an integer by an unsigned head ends with it
+  pub read-end : kindAt s p ≡ Kind.Unsigned → r ≡ e
+  read-end q = go x a (read-heads x a q)
+    where
+      go : (y : Document) → At s p y e → heads y Kind.Unsigned ≡ true → r ≡ e
+      go (integer v) b f = by (open-integer b)
+        where
+          by : OpenInteger s p v e → r ≡ e
+          by (unsigned m t i) = sym (same-number t .1)
+          by (signed k m t w le g i) = sym (same-number t .1)
+      go (float bits) b f = clash f
+      go (string t) b f = clash f
+      go (binary t) b f = clash f
+      go (array ds) b f = clash f
+      go (map es) b f = clash f
+
   pub read-unsigned : kindAt s p ≡ Kind.Unsigned → unsignedBy n ≡ integerOf x
   unfolding Keeps
   read-unsigned q = go x a (read-heads x a q)
@@ -328,19 +345,15 @@ read-low {s} {p} {e} x a lt small =
     let k : kindAt s p ≡ Kind.Unsigned = kind-in s p lt ∙ l .kind in
     let h : headAt s p ≡ Head.At (getD s p 0) (p + 1) = sym (head-held s p {size = 1} (rw (l .more)) refl (omega arith) (sym (l .held))) in
     let u : unsignedBy (getD s p 0) ≡ integerOf x = read-unsigned x a h k in
-    (sym (rw (le-leb (getD s p 0) 2147483647 (omega arith))) ∙ u, go x a (read-heads x a k) h)
-  where
-    go : (y : Document) → At s p y e → heads y Kind.Unsigned ≡ true → headAt s p ≡ Head.At (getD s p 0) (p + 1) → p + 1 ≡ e
-    go (integer v) b f h = by (open-integer b)
-      where
-        by : OpenInteger s p v e → p + 1 ≡ e
-        by (unsigned m t i) = sym (same-number (integer v) b h t .1)
-        by (signed k m t w le g i) = sym (same-number (integer v) b h t .1)
-    go (float bits) b f h = clash f
-    go (string t) b f h = clash f
-    go (binary t) b f h = clash f
-    go (array ds) b f h = clash f
-    go (map es) b f h = clash f
+    (sym (rw (le-leb (getD s p 0) 2147483647 (omega arith))) ∙ u, read-end x a h k)
+
+-- an integer of two bytes after its lead byte
+pub read-two : {s : List ℕ} {p e : ℕ} (x : Document) → At s p x e → p + 3 ≤ length s → getD s p 0 ≡ 0xcd → {n : ℕ} → n ≡ unsignedAt 2 s (p + 1) → (unsignedBy n ≡ integerOf x) × (p + 3 ≡ e)
+unfolding kindOf moreOf
+read-two {s} {p} {e} x a le b {n} i =
+    let k : kindAt s p ≡ Kind.Unsigned = kind-in s p (omega arith) ∙ ap kindOf b in
+    let h : headAt s p ≡ Head.At n (p + 3) = sym (head-number s p 1 {size = 3} (rw b) refl le i) in
+    (read-unsigned x a h k, read-end x a h k)
 
 -- what stands below half is small, and so is what is left above it
 pub half-small : (size : ℕ) → halfOf size ≤ 2147483648
