@@ -201,7 +201,7 @@ fn note(key: &[u8], value: usize, places: Places) -> Places
     }
 }
 
-fn pick(test: bool, a: usize, b: usize) -> usize
+pub fn pick(test: bool, a: usize, b: usize) -> usize
     ensures { λ r. ⌜ r ≡ cond test a b ⌝ }
 {
     if test { a } else { b }

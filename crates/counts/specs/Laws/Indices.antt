@@ -1,17 +1,32 @@
 -- Values of an array that are judged one by one, each at its place: what is left of them decides.
 -- Assumes nothing.
 use mathlib.Core.Path.{_≡_, refl, sym, ap, subst, _∙_}
-use mathlib.Core.Bool.{Bool, true, false, _&&_}
+use mathlib.Core.Bool.{Bool, true, false, cond, _&&_}
 use mathlib.Core.List.{List}
 use mathlib.Core.Option.{Option}
-use Prim.Native.Nat.{ℕ, suc, _-_, _≤_, _<_}
+use Prim.Native.Nat.{ℕ, suc, _+_, _-_, _≤_, _<_}
 use native.Mathlib.Omega.{arith}
-use Rattle.messagepack.specs.Document.{Document, Documents, none, item, count}
-use Rattle.values.specs.Places.{AtAll, PlaceSays}
+use borrow.Author.Tests.{le-leb}
+use lib.ListN.{length, getD, take, drop}
+use Rattle.text.specs.Ascii.{ascii}
+use Rattle.text.specs.Equal.{equal}
+use Rattle.heads.specs.declared.Kind.{Kind}
+use Rattle.heads.specs.Head.{kindAt}
+use Rattle.messagepack.specs.Document.{Document, Documents, Entries, none, item, count}
+use Rattle.values.specs.Places.{At, AtAll, AtEntries, TextAt, PlaceSays}
+use Rattle.values.specs.Seeking.{Seeking}
+use Rattle.values.specs.declared.Part.{Part}
+use Rattle.values.specs.Heads.{isMap}
+use Rattle.values.specs.declared.Over.{Over}
+use Rattle.values.specs.Standing.{Standing, pastOver}
+use Rattle.values.specs.Laws.Standing.{standing-none, stepped-on, steps-short}
+use Rattle.values.specs.Laws.Seeking.{Left, turn, seeking-start, seeking-turn, seeking-end, part-equal}
 use Rattle.fields.specs.Tests.{all}
 use Rattle.values.specs.Laws.Integers.{Next, next-of}
-use Rattle.values.specs.Laws.Places.{place-none}
-use Rattle.values.specs.Parts.{itemsIn}
+use Rattle.values.specs.Laws.Places.{at-standing, place-none, no-entries}
+use Rattle.values.specs.Parts.{entriesOf, look, itemsIn}
+use Rattle.counts.specs.IndexPlaces.{ListIn}
+use Rattle.counts.specs.declared.indices.List as l
 
 -- a place 0 has no values
 pub none-judged : {s : List ℕ} {p : ℕ} {o : Option Document} (test : Document → Bool) → PlaceSays s p o → p ≡ 0 → true ≡ all test (itemsIn o)
@@ -55,3 +70,24 @@ judging-end {ds = ds} {test = test} {left = left} k l = go (k .rest) (k .counts)
     go : (r : Documents) → count r ≡ left → all test ds ≡ all test r → true ≡ all test ds
     go none c q = sym q
     go (item d r) c q = absurd (omega arith)
+
+-- what is no map has no list of chains
+pub list-none : {s : List ℕ} {p e : ℕ} (x : Document) → At s p x e → {k : Kind} → kindAt s p ≡ k → isMap k ≡ false → {r : l.List} → r .at ≡ 0 → r .end ≡ e → ListIn s (entriesOf x) e r
+list-none {s} x a q f z e =
+    let n = no-entries x a q f in
+    record { says = subst (λ (j : ℕ). PlaceSays s j (look (ascii "chainIndexList") (entriesOf x))) (sym z) (seeking-end (entriesOf x) seeking-start (omega (arith, n .counts))); ends = e }
+
+-- a turn of a search for a name that goes on to the end of the entries
+pub seek-on : {s name : List ℕ} {p left e found : ℕ} {es : Entries} (l : Left s p left e) → Seeking s name es (l .rest) found → 0 < left → (key : Part) → ((x : Document) (f : ℕ) → At s p x f → TextAt s x f key) → {b : Bool} {q g : ℕ} → b ≡ equal (take (key .at + key .count - key .at) (drop (key .at) s)) name → g ≡ cond b (key .at + key .count) found → ((f : ℕ) → Standing s 1 (key .at + key .count) f → q ≡ f) → (m : Left s q (left - 1) e) × Seeking s name es (m .rest) g
+seek-on {s} {name} {e = e} {es = es} l k pos key f is picks past =
+    let u = turn l pos key f in
+    let end = past (u .q) (at-standing (u .value)) in
+    let same = part-equal s name (key .at) (key .count) (sym is) in
+    let r = seeking-turn k u in
+    (record { rest = u .after; all = subst (λ (j : ℕ). AtEntries s j (u .after) e) (sym end) (u .all); counts = u .counts }, subst (λ (j : ℕ). Seeking s name es (u .after) j) (sym picks) (rw same at r))
+
+-- a short string ends behind its bytes
+pub short-end : (s : List ℕ) (p : ℕ) → p < length s → {n e : ℕ} → 0xa0 ≤ getD s p 0 → getD s p 0 < 0xc0 → n ≡ getD s p 0 - 0xa0 → p + 1 + n ≤ length s → Standing s 1 p e → p + 1 + n ≡ e
+short-end s p lt {n} {e} low high is le st =
+    let o : Over.On (p + 1 + n) 0 ≡ pastOver (length s) n (p + 1) = rw (le-leb _ _ le) in
+    standing-none s 0 _ e (omega arith) (stepped-on s p (steps-short s p lt low high is o) refl .goes 0 e st)

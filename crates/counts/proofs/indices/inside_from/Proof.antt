@@ -1,6 +1,6 @@
 -- What is left of the maps decides, since those before list indices of chains only.
 use mathlib.Core.Path.{sym, _∙_}
-use Rattle.values.specs.Laws.Places.{at-standing}
+use Rattle.values.specs.Parts.{under}
 use Rattle.counts.specs.Indices.{chainsInside}
 use borrow.Author.Tests.{not-true, not-false}
 use Rattle.counts.specs.Laws.Indices.{Judging, judging-start, judging-next, judging-more, judging-out, judging-end}
@@ -21,16 +21,18 @@ loop-holds c = λ t ds e a k. judging-start a k
 returns : tie.Need-returns Inv-loop μ-loop
 returns c =
     λ t ds e a k.
-    let j = c .before .before .before .loop .inv t ds e a k in
-    let n = judging-next j (c .before .before .loop-test .taken) in
-    judging-out j (c .before .before .loop-test .taken) (sym (c .before .chains-inside .ensures t (n .d) (n .q) (n .first)) ∙ not-true _ (c .if1 .taken))
+    let j = c .before .before .before .before .loop .inv t ds e a k in
+    let n = judging-next j (c .before .before .before .loop-test .taken) in
+    let l = c .before .before .list-at .ensures t (n .d) (n .q) (n .first) in
+    judging-out j (c .before .before .before .loop-test .taken) (sym (c .before .inside .ensures t (under "chainIndexList" (n .d)) (l .says)) ∙ not-true _ (c .if1 .taken))
 
 loop-again : tie.Need-loop-again Inv-loop μ-loop
 loop-again c =
     λ t ds e a k.
     let j = c .before .before .before .before .loop .inv t ds e a k in
     let n = judging-next j (c .before .before .before .loop-test .taken) in
-    judging-more j (c .before .before .before .loop-test .taken) (sym (c .before .before .chains-inside .ensures t (n .d) (n .q) (n .first)) ∙ not-false _ (c .before .if1 .left)) (c .skip .ensures t (n .q) (at-standing (n .first)))
+    let l = c .before .before .list-at .ensures t (n .d) (n .q) (n .first) in
+    judging-more j (c .before .before .before .loop-test .taken) (sym (c .before .inside .ensures t (under "chainIndexList" (n .d)) (l .says)) ∙ not-false _ (c .if1 .left)) (l .ends)
 
 returns-2 : tie.Need-returns-2 Inv-loop μ-loop
 returns-2 c = λ t ds e a k. judging-end (c .before .loop .inv t ds e a k) (c .loop-test .left)
@@ -43,8 +45,8 @@ inside-from-spec =
     μ-loop
     loop-holds
     (λ c κs. search needs)
-    returns
     (λ c κs. search needs)
+    returns
     (λ c. search needs)
     (λ c. search needs)
     loop-again
