@@ -3,7 +3,6 @@ use mathlib.Core.Path.{_≡_, refl, ap, _∙_}
 use Prim.Native.Nat.{suc, _+_, _-_, _*_, _≤_}
 use native.Mathlib.Omega.{arith}
 use lib.ListN.{length}
-use borrow.Author.Needs.{needs}
 use Rattle.steps.specs.Width.{sizeOf}
 use Rattle.payloads.specs.Limits.{packedSize, limitsIn, limitAt}
 use Rattle.payloads.specs.Laws.Limits.{place-next, place-within, limits-few, limits-more}

@@ -1,6 +1,6 @@
 -- The total tells of each result, so that those before the place are judged (`summed-next`), and at the end all are (`summed-end`).
 use mathlib.Core.Path.{_≡_, sym, ap, _∙_}
-use mathlib.Core.Bool.{Bool, cond, _||_, _&&_}
+use mathlib.Core.Bool.{cond}
 use mathlib.Core.Option.{some}
 use mathlib.Core.List.{List}
 use Prim.Native.Nat.{ℕ, _+_, _-_, _≤_}
@@ -14,7 +14,7 @@ use borrow.Author.Needs.{needs}
 use Rattle.numbers.specs.BigEndian.{signedAt}
 use Rattle.steps.specs.declared.Size.{Size}
 use Rattle.steps.specs.declared.Form.the-variants.{Packed}
-use Rattle.steps.specs.Width.{widthOf, sizeOf, upper, lower}
+use Rattle.steps.specs.Width.{widthOf, upper, lower}
 use Rattle.steps.specs.Delta.{plusDelta}
 use Rattle.steps.specs.Packing.{isLimit}
 use Rattle.steps.specs.Payload.{readIn}

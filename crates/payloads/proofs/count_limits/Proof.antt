@@ -1,10 +1,8 @@
 -- Each block adds the limits in it; what is left behind the last block is added at the end.
 use mathlib.Core.Path.{_≡_, refl, ap, _∙_}
-use Prim.Native.Nat.{ℕ, _+_, _-_, _*_, _≤_}
+use Prim.Native.Nat.{ℕ, _+_, _-_, _≤_}
 use native.Mathlib.Omega.{arith}
-use lib.ListN.{length}
 use borrow.Author.Needs.{needs}
-use Rattle.steps.specs.Width.{sizeOf}
 use Rattle.payloads.specs.Limits.{packedSize, limitsIn}
 use Rattle.payloads.specs.Laws.Limits.{block-within, limits-few, limits-after}
 use Rattle.payloads.proofs.count_limits.Statement.{statement}

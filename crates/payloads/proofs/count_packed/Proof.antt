@@ -1,19 +1,19 @@
 -- Where no row of limits is long every sum is inside 32 bits, so that each other number ends a result (`limits-other`, `limits-all`);
 -- else the other loop does the work.
-use mathlib.Core.Path.{_≡_, sym, ap, subst, _∙_}
+use mathlib.Core.Path.{sym, ap, _∙_}
 use mathlib.Core.Bool.{false}
 use Prim.Native.Nat.{ℕ, _-_, _*_, _<_, _≤_}
 use native.Mathlib.Omega.{arith}
 use lib.ListN.{length}
 use borrow.Author.Needs.{needs}
-use borrow.Author.Tests.{not-true, not-false}
+use borrow.Author.Tests.{not-false}
 use Rattle.steps.specs.declared.Size.{Size}
 use Rattle.steps.specs.declared.Form.the-variants.{Packed}
 use Rattle.steps.specs.Width.{sizeOf}
 use Rattle.steps.specs.Payload.{readIn}
 use Rattle.payloads.specs.Items.{outcomeRefusal}
-use Rattle.payloads.specs.Scan.{scanOf, refusalOf}
-use Rattle.payloads.specs.Limits.{packedSize, limitsIn, endsAtLimit, Short}
+use Rattle.payloads.specs.Scan.{scanOf}
+use Rattle.payloads.specs.Limits.{packedSize}
 use Rattle.payloads.specs.Laws.Limits.{count-within, limits-few, limits-unfinished, limits-other, limits-all}
 use Rattle.payloads.specs.Laws.Refusal.{outcome-scan}
 use Rattle.payloads.proofs.count_packed.Statement.{statement}

@@ -1,15 +1,14 @@
 -- The last number is the one whose limit is asked for; of no numbers there is none.
-use mathlib.Core.Path.{_≡_, sym, ap, ap₂, _∙_}
-use Prim.Native.Nat.{ℕ, _-_, _*_}
+use mathlib.Core.Path.{sym, ap₂, _∙_}
+use Prim.Native.Nat.{ℕ, _-_}
 use native.Mathlib.Omega.{arith}
 use lib.IntN.{ℤ}
 use mir.Syntax.{w32}
-use mir.Val.{toZ, ofZ}
 use mir.Facts.{toZ-ofZ}
 use borrow.Author.Needs.{needs}
 use Rattle.numbers.specs.BigEndian.{signedAt}
 use Rattle.steps.specs.declared.Size.{Size}
-use Rattle.steps.specs.Width.{widthOf, sizeOf, upper, lower}
+use Rattle.steps.specs.Width.{widthOf, upper, lower}
 use Rattle.steps.specs.Packing.{isLimit}
 use Rattle.payloads.specs.Limits.{packedSize}
 use Rattle.payloads.specs.Laws.Limits.{place-within, ends-none, ends-last}

@@ -1,8 +1,7 @@
 -- Where each block has a number that is no limit, no row of limits is long (`broken-more`, `broken-short`).
-use mathlib.Core.Path.{_≡_, sym, ap, _∙_}
+use mathlib.Core.Path.{_≡_, ap, _∙_}
 use Prim.Native.Nat.{ℕ, _-_, _≤_}
 use native.Mathlib.Omega.{arith}
-use borrow.Author.Needs.{needs}
 use Rattle.payloads.specs.Limits.{packedSize, limitsIn}
 use Rattle.payloads.specs.Laws.Limits.{block-within, Broken, broken-start, broken-more, broken-short}
 use Rattle.payloads.proofs.has_row.Statement.{statement}

@@ -12,7 +12,7 @@ use lib.IntN.{ℤ, pos, negsuc, _+ℤ_}
 use lib.Signed.{mag}
 use lib.Dec.{ltb}
 use mir.Syntax.{w8, w16}
-use mir.Val.{toZ, SFits}
+use mir.Val.{toZ}
 use borrow.Author.Tests.{ltb-true, ltb-false, ne-eqb}
 use Rattle.refusal.specs.Table.{accepted, numberNotAllowed, lengthDiffers}
 use Rattle.numbers.specs.BigEndian.{signedAt}
@@ -136,7 +136,6 @@ module _ (z : Size) (s : List ℕ) where
 -- few limits are in short rows
 pub short-few : (two : Bool) (s : List ℕ) (k : ℕ) → limitsIn (packedSize two) s 0 k ≤ mostLimits two → Short two s k
 short-few two s k h j l =
-    let z = packedSize two in
     let a = row-limits (packedSize two) s j in
     let e : j + (k - j) ≡ k = omega arith in
     let b = ap (limitsIn (packedSize two) s 0) e in
@@ -314,7 +313,6 @@ few-next two s k h q w =
     let p = place-next (packedSize two) k in
     let m = limits-next (packedSize two) s k in
     let f = limits-few (packedSize two) s 0 k in
-    let x = isLimit (upper (packedSize two)) (lower (packedSize two)) (signedAt (widthOf (packedSize two)) s (sizeOf (packedSize two) * k)) in
     let n : suc k - limitsIn (packedSize two) s 0 (suc k) ≡ (k - limitsIn (packedSize two) s 0 k) + cond (isLimit (upper (packedSize two)) (lower (packedSize two)) (signedAt (widthOf (packedSize two)) s (sizeOf (packedSize two) * k))) 0 1 = ap (λ (t : ℕ). suc k - t) m ∙ counted (isLimit (upper (packedSize two)) (lower (packedSize two)) (signedAt (widthOf (packedSize two)) s (sizeOf (packedSize two) * k))) (limitsIn (packedSize two) s 0 k) f in
     rw (p, n, ends-next (packedSize two) s k, row-next (packedSize two) s k) (one-more two s (sizeOf (packedSize two) * k) (k - limitsIn (packedSize two) s 0 k) (endsAtLimit (packedSize two) s k) (rowAt (packedSize two) s k) w (omega arith) q (isLimit (upper (packedSize two)) (lower (packedSize two)) (signedAt (widthOf (packedSize two)) s (sizeOf (packedSize two) * k))) refl)
   where

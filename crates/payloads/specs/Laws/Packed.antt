@@ -27,7 +27,7 @@ use Rattle.payloads.specs.Results.{HasRoom, Wrote}
 use Rattle.payloads.specs.Laws.Items.{from, after, from-turn, from-end, from-some, packed-is}
 use Rattle.payloads.specs.Laws.Exact.{exact-append}
 use Rattle.payloads.specs.Laws.Scan.{map-id, map-both}
-use Rattle.payloads.specs.Laws.Writing.{WrittenTo, written-start, written-length, written-room, written-left, written-one, written-end, written-wrong}
+use Rattle.payloads.specs.Laws.Writing.{WrittenTo, written-start, written-length, written-left, written-one, written-end, written-wrong}
 
 -- The results of the values p are done before the place: how many, the last, and whether all are exact. A result that has begun has the
 -- sum `part` so far.
@@ -119,9 +119,6 @@ module _ {B : Type 0} (g : ℤ → B) (z : Size) (d : Bool) (s : List ℕ) (old 
       packed-written-more a e = subst (λ (l : Option (List ℤ)). WrittenTo g (Packed z) d s old room l o new x) (step (More a) e) (w .1)
 
       module _ (r : ℤ) (e : turnOf z part (signedAt (widthOf z) s at) ≡ Done r) where
-        pub packed-written-room : o + 1 ≤ length new
-        packed-written-room = written-room g (Packed z) d s old room (from z s part (w .0) at) o new x (w .1) r 1 (from z s (pos 0) false (at + sizeOf z)) (step (Done r) e)
-
         pub packed-written-done : (y : ℤ) (b c : B) → y ≡ advance d x r → b ≡ g y → WrittenPacked (at + sizeOf z) (pos 0) (o + 1) (set new o b) y
         packed-written-done y b c q k =
             (false, written-one g (Packed z) d s old room (from z s part (w .0) at) o new x (w .1) r 1 (from z s (pos 0) false (at + sizeOf z)) (step (Done r) e) refl y b c q k)
