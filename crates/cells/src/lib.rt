@@ -78,7 +78,7 @@ fn number_in(payload: &[u8], form: Form, delta: bool, index: usize) -> i32
         Form::Plain(size) => steps::number_at(payload, index * steps::bytes(size), size),
         Form::Packed(size) => match size {
             Size::One => packed_at(payload, Size::One, delta, index),
-            Size::Two => two_at(payload, delta, index),
+            Size::Two => packed_at(payload, Size::Two, delta, index),
             Size::Four => packed_at(payload, Size::Four, delta, index),
         },
         Form::Runs(_) => run_at(payload, delta, index),
@@ -96,32 +96,11 @@ fn packed_at(payload: &[u8], size: Size, delta: bool, index: usize) -> i32
     let mut left = index;
     let mut total: i32 = 0;
     while k <= payload.len() - at {
-        let number = steps::number_at(payload, at, size);
+        let rest = &payload[at..];
+        let number = steps::number_at(rest, 0, size);
         at += k;
         total = steps::add_delta(total, number);
         if !steps::is_limit(number, size) {
-            if left == 0 {
-                return total;
-            }
-            left -= 1;
-            total = payloads::total_after(total, false, delta);
-        }
-    }
-    0
-}
-
-// The result at an index of packed numbers of two bytes that have one there: a loop of its own, since most packed columns are of these.
-fn two_at(payload: &[u8], delta: bool, index: usize) -> i32
-    ensures { λ r. ⌜ ResultAt (Form.Packed Size.Two) delta (now (payload .entry)) index r ⌝ }
-{
-    let mut at: usize = 0;
-    let mut left = index;
-    let mut total: i32 = 0;
-    while 2 <= payload.len() - at {
-        let number = steps::number_at(payload, at, Size::Two);
-        at += 2;
-        total = steps::add_delta(total, number);
-        if !steps::is_limit(number, Size::Two) {
             if left == 0 {
                 return total;
             }

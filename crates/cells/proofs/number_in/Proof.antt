@@ -48,10 +48,10 @@ returns-2 : tie.Need-returns-2
 returns-2 c = λ l q h. toZ-ofZ {w = w32} (record { sfits = c .packed-at .ok }) ∙ c .packed-at .ensures l (by-form (c .before .before .before .before .before .before .before) (c .before .before .before .before .form2 .given .1 ∙ ap Packed (c .before .enum-told .given .1)) q) h
 
 returns-3 : tie.Need-returns-3
-returns-3 c = λ l q h. toZ-ofZ {w = w32} (record { sfits = c .two-at .ok }) ∙ c .two-at .ensures l (by-form (c .before .before .before .before .before .before .before) (c .before .before .before .before .form2 .given .1 ∙ ap Packed (c .before .enum-told2 .given .1)) q) h
+returns-3 c = λ l q h. toZ-ofZ {w = w32} (record { sfits = c .packed-at2 .ok }) ∙ c .packed-at2 .ensures l (by-form (c .before .before .before .before .before .before .before) (c .before .before .before .before .form2 .given .1 ∙ ap Packed (c .before .enum-told2 .given .1)) q) h
 
 returns-4 : tie.Need-returns-4
-returns-4 c = λ l q h. toZ-ofZ {w = w32} (record { sfits = c .packed-at2 .ok }) ∙ c .packed-at2 .ensures l (by-form (c .before .before .before .before .before .before .before) (c .before .before .before .before .form2 .given .1 ∙ ap Packed (c .before .enum-told3 .given .1)) q) h
+returns-4 c = λ l q h. toZ-ofZ {w = w32} (record { sfits = c .packed-at3 .ok }) ∙ c .packed-at3 .ensures l (by-form (c .before .before .before .before .before .before .before) (c .before .before .before .before .form2 .given .1 ∙ ap Packed (c .before .enum-told3 .given .1)) q) h
 
 returns-5 : tie.Need-returns-5
 returns-5 c = λ l q h. toZ-ofZ {w = w32} (record { sfits = c .run-at .ok }) ∙ c .run-at .ensures (c .before .enum-told4 .given .0 .0) l (by-form (c .before .before .before .before) (c .before .enum-told4 .given .1) q) h

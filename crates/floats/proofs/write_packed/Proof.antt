@@ -22,6 +22,7 @@ use Rattle.steps.specs.Delta.{plusDelta}
 use Rattle.steps.specs.Packing.{isLimit}
 use Rattle.steps.specs.Laws.Numbers.{size-pos}
 use Rattle.payloads.specs.Results.{HasRoom, Wrote, ResultsExact}
+use Rattle.payloads.specs.Laws.Packed.{part-first}
 use Rattle.payloads.specs.Laws.Totals.{WrittenTotal, total-written-start, total-written-length, total-written-more, total-written-room, total-written-exact, total-written-done, total-written-end}
 use Rattle.payloads.specs.Exact.{exact}
 use Rattle.floats.specs.Steps.{bitsBy}
@@ -38,29 +39,13 @@ abbrev μ-loop : tie.MeasureT-loop
 loop-holds : tie.Need-loop-holds Inv-loop μ-loop
 loop-holds c = let a = c .before .before .before .before .args in (omega arith, (λ room. total-written-start (bitsBy (a .divisor)) (c .before .packed-size .result) (a .delta) (a .payload .now) (a .buffer .now) room))
 
--- the number at the start of what is left
-part : (z : Size) (s : List ℕ) (at : ℕ) → at + sizeOf z ≤ length s → signedAt (widthOf z) (take (length s - at) (drop at s)) 0 ≡ signedAt (widthOf z) s at
-unfolding signedAt
-part z s at h = by z h
-  where
-    first : (k : ℕ) → at + k ≤ length s → unsignedAt k (take (length s - at) (drop at s)) 0 ≡ unsignedAt k s at
-    first k h =
-        let l = length-drop at s in
-        let e : at + 0 ≡ at = omega arith in
-        rw (take-all (length s - at) (drop at s) (omega arith)) (unsignedAt-drop k s at 0 (omega arith) ∙ ap (unsignedAt k s) e)
-
-    by : (z : Size) → at + sizeOf z ≤ length s → toZ (widthOf z) (unsignedAt (bytesIn (widthOf z)) (take (length s - at) (drop at s)) 0) ≡ toZ (widthOf z) (unsignedAt (bytesIn (widthOf z)) s at)
-    by One h = ap (toZ w8) (first 1 h)
-    by Two h = ap (toZ w16) (first 2 h)
-    by Four h = ap (toZ w32) (first 4 h)
-
 -- the payload's results have room, and are exact
 has : (c : tie.At-loop Inv-loop μ-loop) → HasRoom (Packed (c .before .before .packed-size .result)) (c .before .before .before .before .before .args .payload .now) (length (c .before .before .before .before .before .args .buffer .now)) × ResultsExact (Packed (c .before .before .packed-size .result)) (c .before .before .before .before .before .args .delta) (c .before .before .before .before .before .args .payload .now)
 has c = let a = c .before .before .before .before .before in subst (λ (z : Size). HasRoom (Packed z) (a .args .payload .now) (length (a .args .buffer .now)) × ResultsExact (Packed z) (a .args .delta) (a .args .payload .now)) (sym (c .before .before .packed-size .ensures)) (a .pre .0, a .pre .1)
 
 -- the number that was read, and the total with it
 number : (c : tie.After-is-limit Inv-loop μ-loop) → toZ w32 (ofZ w32 (c .before .before .number-at .result)) ≡ signedAt (widthOf (c .before .before .before .before .before .before .before .packed-size .result)) (c .before .before .before .before .before .before .before .before .before .before .args .payload .now) (c .before .before .before .before .before .loop .i)
-number c = toZ-ofZ {w = w32} (record { sfits = c .before .before .number-at .ok }) ∙ c .before .before .number-at .ensures ∙ part (c .before .before .before .before .before .before .before .packed-size .result) (c .before .before .before .before .before .before .before .before .before .before .args .payload .now) (c .before .before .before .before .before .loop .i) (let e = c .before .before .before .before .before .before .bytes .ensures in omega arith)
+number c = toZ-ofZ {w = w32} (record { sfits = c .before .before .number-at .ok }) ∙ c .before .before .number-at .ensures ∙ part-first (c .before .before .before .before .before .before .before .packed-size .result) (c .before .before .before .before .before .before .before .before .before .before .args .payload .now) (c .before .before .before .before .before .loop .i) (let e = c .before .before .before .before .before .before .bytes .ensures in omega arith)
 
 total : (c : tie.After-is-limit Inv-loop μ-loop) → toZ w32 (ofZ w32 (c .before .add-delta .result)) ≡ plusDelta (toZ w32 (c .before .before .before .before .before .loop .total)) (signedAt (widthOf (c .before .before .before .before .before .before .before .packed-size .result)) (c .before .before .before .before .before .before .before .before .before .before .args .payload .now) (c .before .before .before .before .before .loop .i))
 total c = toZ-ofZ {w = w32} (record { sfits = c .before .add-delta .ok }) ∙ c .before .add-delta .ensures ∙ ap (plusDelta (toZ w32 (c .before .before .before .before .before .loop .total))) (number c)
