@@ -1,24 +1,24 @@
 /*
  * libmmtf.a: an MMTF reader whose calls are proved to meet their contracts.
  *
- * Today: the check of a whole file and of its container alone, a file opened with the places of all its fields, views by
- * name, columns: decoded, encoded, and one cell alone, the matrices of transforms, receipts: written for a file, and read,
- * and the meaning of each refusal number in words. For x86-64 Linux.
+ * The library checks a file or its container alone, opens a file with the places of all its fields, finds values by name,
+ * decodes and encodes columns, reads one cell, gives the matrices of transforms, writes and reads receipts, and says each
+ * refusal number in words. It is for x86-64 Linux.
  *
  * Every call takes whatever bytes and numbers it is given, and always ends with an answer. It keeps nothing between calls,
  * allocates nothing and writes to nothing but its buffer and its out parameters, so threads may call at the same time. The
  * answer is a refusal number, 0 for none, but for mmtf_version; mmtf_meaning says a number in words. On refusal no buffer and
  * no out parameter changes.
  *
- * What the caller keeps, since no call can test it:
+ * What the caller must guarantee, since no call can test it:
  * - A pointer with a length is valid for that many elements, and nothing else writes to them while the call runs. Where the
  *   length is 0 nothing is read or written through the pointer, and it may be null.
  * - A buffer has no element in common with what is read, nor with another buffer.
  * - An out parameter points to an object of its type, which is no other out parameter and no part of what is read or of the
  *   buffer.
  * - Floats are rounded to nearest, as C starts: mmtf_decode_float32 and mmtf_cell divide.
- * - There is room on the stack: 96 KiB are enough for a call. Of mmtf_verdict, mmtf_fields and mmtf_write_receipt 60 KiB were
- *   measured, of every other call at most 29 KiB, at twelve levels, the most.
+ * - There is room on the stack: 96 KiB are enough for every call. The most that was measured is 60 KiB for mmtf_verdict,
+ *   mmtf_fields and mmtf_write_receipt, and 29 KiB for every other call.
  */
 #ifndef MMTF_H
 #define MMTF_H
@@ -107,7 +107,7 @@ uint8_t mmtf_meaning(uint8_t number, uint8_t *buffer, size_t room, uint64_t *wri
 /*
  * Checks the container of the file of n bytes.
  *
- * Answers MMTF_ACCEPTED exactly if the bytes are a writing of a map that keeps the limits: at most 67,108,864 bytes, 12
+ * Answers MMTF_ACCEPTED exactly when the bytes are a writing of a map that keeps the limits: at most 67,108,864 bytes, 12
  * levels, 256 entries in a map, integers of 32 bits with a sign, keys that are strings and differ within their map, and
  * strings in UTF-8. Else it answers the number of the first fault of a walk from the first byte, 1 to 11.
  *
@@ -119,7 +119,7 @@ uint8_t mmtf_container(const uint8_t *file, size_t n);
 /*
  * Checks the whole file of n bytes: container, fields, columns and counts.
  *
- * Answers MMTF_ACCEPTED exactly if the file is accepted as a structure. Else the answer is the number of the first fault in
+ * Answers MMTF_ACCEPTED exactly when the file is accepted as a structure. Else the answer is the number of the first fault in
  * this order:
  * - The container's number, 1 to 11, as mmtf_container gives it.
  * - MMTF_FIELD_MISSING: one of the 16 required fields is not an outer key. Keys are compared as bytes; fields that are not
@@ -205,9 +205,9 @@ enum mmtf_field {
 
 /*
  * Opens the file of n bytes: checks all of it, as mmtf_verdict does, and says where each named field stands, so that its
- * columns can be decoded with no further look at the file.
+ * columns can be decoded without walking the file again.
  *
- * starts and lengths have room elements each. Answers MMTF_ACCEPTED exactly if the file is accepted as a structure and room is
+ * starts and lengths have room elements each. Answers MMTF_ACCEPTED exactly when the file is accepted as a structure and room is
  * MMTF_FIELD_COUNT or more. Then *presence is the set of the named fields that are present, a bit for each, and for each field
  * i the part that mmtf_view finds under its name is file[starts[i]] up to file[starts[i] + lengths[i] - 1]; of an absent field
  * both are 0. Elements from MMTF_FIELD_COUNT on are as they were. Else *presence and all elements are as they were, and the
@@ -455,7 +455,7 @@ uint8_t mmtf_write_receipt(uint32_t station, uint32_t job, const uint8_t *file, 
 /*
  * Reads the n bytes as one receipt.
  *
- * Answers MMTF_ACCEPTED, with its ten numbers in the order of the lines, exactly if the bytes are a receipt by the rules
+ * Answers MMTF_ACCEPTED, with its ten numbers in the order of the lines, exactly when the bytes are a receipt by the rules
  * above. Else it answers MMTF_RECEIPT_MALFORMED, and the numbers are as they were. No file is looked at: whether there is one
  * with these counts is not asked.
  */

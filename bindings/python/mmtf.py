@@ -17,7 +17,7 @@ are never copied, and while the library reads them other threads run on. Nor is 
 then the interpreter's lock is kept during the call, so that no other thread of Python writes to it. Copied for the call
 is read-only memory that is no whole bytes object, as the part that `view` gives or a mapped file, and memory with gaps.
 `column` finds a column in a file and decodes it without a copy. A `File` is checked once, and then finds its fields with
-no further look at the file.
+no further walk of the file.
 
 Numbers. Every int is taken, and none is cut to fit a parameter of C. One that C cannot hold is refused as the rules
 refuse one that is out of range: an index or the number of an assembly or a transform with 28, a station or a job with
@@ -90,7 +90,7 @@ def _meaning(number: int) -> str:
 
 @dataclasses.dataclass(frozen=True)
 class Verdict:
-    """The library's answer about a whole file. It is true exactly if the file is accepted.
+    """The library's answer about a whole file. It is true exactly when the file is accepted.
 
     >>> str(Verdict(0)), str(Verdict(3))
     ('accepted', 'refused with 3: a lead byte is not in the subset')
@@ -185,13 +185,13 @@ def container(data: Any) -> Verdict:
 
 
 def fields(data: Any) -> dict[str, Part]:
-    """The named fields of a file and the part of each, as `view` finds it, in the order of the fields, by one look at the
-    file. Refused with the file's verdict, 1 to 24.
+    """The named fields of a file and the part of each, as `view` finds it, in the order of the fields, in one call.
+    Refused with the file's verdict, 1 to 24.
 
     >>> fields(bytes([0x80]))
     Traceback (most recent call last):
         ...
-    mmtf.Refused: The file is refused with 12, a required field is missing.
+    mmtf.Refused: The file is refused with 12: a required field is missing.
     """
     file = File(data)
     _refuse(file.verdict.number, "The file")
@@ -199,7 +199,7 @@ def fields(data: Any) -> dict[str, Part]:
 
 
 class File:
-    """A file that is checked once, when it is made, and then finds its fields with no further look at it.
+    """A file that is checked once, when it is made, and then finds its fields with no further walk of it.
 
     verdict     the `Verdict` on the file
     presence    the set of its named fields, a bit for each in the order of `NAMES`; of a refused file 0
