@@ -1,17 +1,17 @@
 /*
  * column FILE NAME: writes the values of a column of a file, one to a line.
  *
- * Shows the way from a file to a column's values: mmtf_view finds the column, mmtf_header says its codec and how much room its
- * values need, and the decoder of its kind writes them into a buffer. Coordinates come as floats here; mmtf_decode_fixed_point
- * gives the same column as integers and divisor, with nothing lost.
+ * It shows the way from a file to a column's values: mmtf_view finds the column, mmtf_header says its codec and how much room
+ * its values need, and the decoder of its kind writes them into a buffer. Coordinates come as floats here;
+ * mmtf_decode_fixed_point gives the same column as integers and divisor, with nothing lost.
  *
- * To compile it, at the top of the repository, after rt staticlib mmtf:
+ * Compile it at the top of the repository, after rt staticlib mmtf, by:
  *
  *     gcc -std=c11 -Wall -Wextra -Iinclude -o target/column examples/column.c target/staticlib/libmmtf.a
  */
 #include "common.h"
 
-/* A column as its header tells of it, with a buffer for its elements. An element of names is a byte, of 32 bits else. */
+/* A column as its header describes it, with a buffer for its elements: bytes for characters and names, else 32 bits each. */
 struct column {
     const uint8_t *bytes;
     size_t n;
@@ -22,7 +22,7 @@ struct column {
     uint64_t count;
 };
 
-/* The integers of a column, by the decoder of its kind. */
+/* Decodes the integers of a column, by the decoder of its kind, and writes them. */
 static uint8_t write_integers(struct column *c,
     uint8_t (*decode)(const uint8_t *, size_t, int32_t *, size_t, uint64_t *)) {
     const int32_t *integers = c->buffer;
@@ -33,7 +33,7 @@ static uint8_t write_integers(struct column *c,
     return refusal;
 }
 
-/* Floats come as their 32 bits. */
+/* Decodes the floats of a column, which come as their 32 bits, and writes them. */
 static uint8_t write_floats(struct column *c) {
     const uint32_t *bits = c->buffer;
     const uint8_t refusal = mmtf_decode_float32(c->bytes, c->n, c->buffer, (size_t)c->length, &c->count);
@@ -45,7 +45,7 @@ static uint8_t write_floats(struct column *c) {
     return refusal;
 }
 
-/* Characters, or names of a size, each without the 0 bytes at its end. */
+/* Decodes characters, or names of a size, and writes each without the 0 bytes at its end. */
 static uint8_t write_names(struct column *c, size_t size,
     uint8_t (*decode)(const uint8_t *, size_t, uint8_t *, size_t, uint64_t *)) {
     const char *names = c->buffer;
@@ -56,7 +56,7 @@ static uint8_t write_names(struct column *c, size_t size,
     return refusal;
 }
 
-/* The values, by the kind of the codec. */
+/* Writes the values of a column, by the kind of its codec. */
 static uint8_t write_values(struct column *c) {
     switch (c->codec) {
     case 2: case 16: return write_integers(c, mmtf_decode_int8);
@@ -68,7 +68,7 @@ static uint8_t write_values(struct column *c) {
     }
 }
 
-/* Reads the header, lends a buffer for as many elements as it tells of, and writes the values. */
+/* Reads the header, makes a buffer for as many elements as it says, and writes the values. */
 static uint8_t write_column(const uint8_t *bytes, size_t n) {
     struct column c = {.bytes = bytes, .n = n};
     uint8_t refusal = mmtf_header(bytes, n, &c.codec, &c.length, &c.parameter);

@@ -1,8 +1,8 @@
 /*
- * What the examples share: a file read as a whole, the sentence about a refusal, and output that was written or not.
+ * What the examples share: reading a whole file, saying a refusal in a sentence, and ending the output.
  *
- * Their statuses are the same: 0 where the file is accepted or the data were written, 1 where the file is refused, and 2 where
- * nothing was produced. Data go to standard output, and sentences to standard error.
+ * Their statuses are the same: 0 if the file is accepted or the data were written, 1 if the file is refused, and 2 if nothing
+ * was produced. Data go to standard output, and sentences to standard error.
  */
 #ifndef COMMON_H
 #define COMMON_H
@@ -19,8 +19,8 @@
 enum status { STATUS_DONE = 0, STATUS_REFUSED = 1, STATUS_NOTHING = 2 };
 
 /*
- * The file's bytes up to so many, and how many there are; or null, after a sentence. One byte more than MMTF_FILE_LIMIT is
- * enough for the library to see that a file is too large.
+ * Reads at most the given number of bytes of a file, and says in *n how many there are. Answers null, after a sentence, where
+ * the file cannot be read. One byte more than MMTF_FILE_LIMIT is enough for the library to see that a file is too large.
  */
 static inline uint8_t *read_file(const char *name, size_t most, size_t *n) {
     FILE *stream = fopen(name, "rb");
@@ -50,7 +50,7 @@ static inline int say_refused(uint8_t refusal) {
     return STATUS_REFUSED;
 }
 
-/* Flushes standard output, which may be closed or on a full disk: only then the data count as written, with this status. */
+/* Flushes standard output, which may be closed or on a full disk, and answers the status that is given if all was written. */
 static inline int end_output(int status) {
     if (fflush(stdout) != 0 || ferror(stdout)) {
         fprintf(stderr, "The output was not written whole: %s.\n", strerror(errno));

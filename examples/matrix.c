@@ -1,16 +1,16 @@
 /*
  * matrix FILE: checks a file and writes the matrix of the first transform of its first assembly, a row to a line.
  *
- * Shows mmtf_verdict and mmtf_matrix. A transform moves chains to their place in an assembly; the fourth number of a row is the
- * translation. A file that has no transform is told on standard error, with status 2.
+ * It shows mmtf_verdict and mmtf_matrix. A transform moves chains to their place in an assembly; the fourth number of a row is
+ * the translation. If the file has no transform, a sentence on standard error says so, and the status is 2.
  *
- * To compile it, at the top of the repository, after rt staticlib mmtf:
+ * Compile it at the top of the repository, after rt staticlib mmtf, by:
  *
  *     gcc -std=c11 -Wall -Wextra -Iinclude -o target/matrix examples/matrix.c target/staticlib/libmmtf.a
  */
 #include "common.h"
 
-/* The matrix on standard output, or a sentence that there is none. */
+/* Writes the matrix to standard output, or says that there is none. */
 static int write_matrix(const char *name, const uint8_t *file, size_t n) {
     float rows[4][4];
     const uint8_t refusal = mmtf_matrix(file, n, 0, 0, rows);

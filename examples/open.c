@@ -2,16 +2,16 @@
  * open FILE: opens a file, and writes a line for each column that it has: the field's number, where its part starts, its
  * bytes, and how many cells it decodes to.
  *
- * Shows how a program that wants many columns looks at a file once: mmtf_fields answers the verdict and where each named field
- * stands, mmtf_header says how much room a column's values need, and no column is looked for again.
+ * It shows how a program that wants many columns checks a file once: mmtf_fields answers the verdict and where each named
+ * field stands, mmtf_header says how much room a column's values need, and no column is looked for again.
  *
- * To compile it, at the top of the repository, after rt staticlib mmtf:
+ * Compile it at the top of the repository, after rt staticlib mmtf, by:
  *
  *     gcc -std=c11 -Wall -Wextra -Iinclude -o target/open examples/open.c target/staticlib/libmmtf.a
  */
 #include "common.h"
 
-/* The fields that are columns: all from the coordinates to the names of chains but the two arrays of integers. */
+/* Whether a field is a column: all from the coordinates to the names of chains are, but for the two arrays of integers. */
 static int is_column(int field) {
     return field >= MMTF_X_COORD_LIST && field <= MMTF_CHAIN_NAME_LIST && field != MMTF_GROUPS_PER_CHAIN &&
         field != MMTF_CHAINS_PER_MODEL;
@@ -28,7 +28,7 @@ static uint8_t decode(const uint8_t *column, size_t n, int32_t codec, void *buff
     }
 }
 
-/* How many cells a column decodes to, or that it was refused. */
+/* Counts the cells that a column decodes to, or answers why it is refused. */
 static uint8_t count_cells(const uint8_t *column, size_t n, uint64_t *cells) {
     int32_t codec, length, parameter;
     uint8_t refusal = mmtf_header(column, n, &codec, &length, &parameter);

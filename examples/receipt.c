@@ -1,20 +1,20 @@
 /*
  * receipt STATION JOB FILE: checks a file and writes its receipt to standard output.
  *
- * Shows mmtf_write_receipt, mmtf_read_receipt and mmtf_meaning. A refused file has a receipt too, with status 1; the sentence on
- * standard error says the verdict. A file of more than 65,536 bytes, the most that a station holds, gets no receipt; the
- * library's calls take any length.
+ * It shows mmtf_write_receipt, mmtf_read_receipt and mmtf_meaning. A refused file gets a receipt too, with status 1; the
+ * sentence on standard error says the verdict. A file of more than 65,536 bytes, the most that a station holds, gets no
+ * receipt; the library's calls take any length.
  *
- * To compile it, at the top of the repository, after rt staticlib mmtf:
+ * Compile it at the top of the repository, after rt staticlib mmtf, by:
  *
  *     gcc -std=c11 -Wall -Wextra -Iinclude -o target/receipt examples/receipt.c target/staticlib/libmmtf.a
  */
 #include "common.h"
 
-/* The most bytes of a file. */
+/* The most bytes of a file that get a receipt. */
 enum { MOST = 65536 };
 
-/* Whether a word has digits and nothing else, and their number; one of more than 32 bits becomes 0, which is no station. */
+/* Says whether a word is digits and nothing else, and gives their number, or 0 if that needs more than 32 bits. */
 static int read_number(const char *word, uint32_t *number) {
     uint64_t value = 0;
     for (const char *digit = word; *digit != '\0'; digit++) {
@@ -27,7 +27,7 @@ static int read_number(const char *word, uint32_t *number) {
     return *word != '\0';
 }
 
-/* The number that a word says, if it is 1 to the most; or 0, after a sentence. */
+/* Answers the number that a word says if it is 1 up to the most, and otherwise 0, after a sentence. */
 static uint32_t number_of(const char *name, const char *word, uint32_t most, const char *range) {
     uint32_t number;
     if (!read_number(word, &number)) {
@@ -41,7 +41,7 @@ static uint32_t number_of(const char *name, const char *word, uint32_t most, con
     return number;
 }
 
-/* The receipt on standard output, and then the verdict that stands in it on standard error. */
+/* Writes the receipt to standard output, and then its verdict to standard error. */
 static int write_out(const char *name, const uint8_t *receipt, size_t n) {
     uint32_t numbers[MMTF_RECEIPT_NUMBERS];
     fwrite(receipt, 1, n, stdout);
@@ -57,7 +57,7 @@ static int write_out(const char *name, const uint8_t *receipt, size_t n) {
     return STATUS_DONE;
 }
 
-/* The receipt of a file by a station and its job, which are in range, so that only the room could be refused. */
+/* Makes the receipt of a file and writes it. The station and the job are in range, so only the room could be refused. */
 static int write_receipt(uint32_t station, uint32_t job, const char *name, const uint8_t *file, size_t n) {
     uint8_t receipt[MMTF_RECEIPT_ROOM];
     uint64_t written;

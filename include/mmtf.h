@@ -7,16 +7,16 @@
  *
  * Every call takes whatever bytes and numbers it is given, and always ends with an answer. It keeps nothing between calls,
  * allocates nothing and writes to nothing but its buffer and its out parameters, so threads may call at the same time. The
- * answer is a refusal number, 0 for none, but for mmtf_version; mmtf_meaning says a number in words. On refusal no buffer and
- * no out parameter changes.
+ * answer of every call but mmtf_version is a refusal number, 0 for none; mmtf_meaning says a number in words. On refusal no
+ * buffer and no out parameter changes.
  *
  * What the caller must guarantee, since no call can test it:
  * - A pointer with a length is valid for that many elements, and nothing else writes to them while the call runs. Where the
  *   length is 0 nothing is read or written through the pointer, and it may be null.
  * - A buffer has no element in common with what is read, nor with another buffer.
- * - An out parameter points to an object of its type, which is no other out parameter and no part of what is read or of the
- *   buffer.
- * - Floats are rounded to nearest, as C starts: mmtf_decode_float32 and mmtf_cell divide.
+ * - An out parameter points to an object of its type, which is not another out parameter and not part of what is read or of
+ *   the buffer.
+ * - Floats are rounded to nearest, as they are when a C program starts: mmtf_decode_float32 and mmtf_cell divide.
  * - There is room on the stack: 96 KiB are enough for every call. The most that was measured is 60 KiB for mmtf_verdict,
  *   mmtf_fields and mmtf_write_receipt, and 29 KiB for every other call.
  */
@@ -41,17 +41,17 @@ extern "C" {
 #define MMTF_VERSION_NUMBER (MMTF_VERSION_MAJOR * 10000 + MMTF_VERSION_MINOR * 100 + MMTF_VERSION_PATCH)
 #define MMTF_VERSION "0.8.0"
 
-/* Answers the version of the library: MMTF_VERSION_NUMBER where the library and this header belong together. */
+/* Answers the version of the library. It is MMTF_VERSION_NUMBER where the library and this header belong together. */
 uint32_t mmtf_version(void);
 
-/* The limits. What is over one is refused, as each call says. */
+/* The limits. Whatever exceeds a limit is refused, as each call says. */
 #define MMTF_FILE_LIMIT 67108864   /* bytes of a file */
 #define MMTF_NESTING_LIMIT 12      /* levels of arrays and maps, the outer map among them */
 #define MMTF_ENTRY_LIMIT 256       /* entries of a map */
 #define MMTF_LENGTH_LIMIT 16777216 /* results of a column */
 #define MMTF_NAME_LIMIT 255        /* bytes of a name in a column of strings */
 #define MMTF_EXACT_LIMIT 16777216  /* size of an integer or a divisor that is exact in single precision */
-#define MMTF_COUNT_LIMIT 16777216  /* models, chains, groups, atoms and bonds, of each */
+#define MMTF_COUNT_LIMIT 16777216  /* models, and likewise chains, groups, atoms and bonds */
 #define MMTF_GROUP_TYPE_LIMIT 4096 /* group types */
 #define MMTF_STATION_LIMIT 99      /* stations, counted from 1 */
 #define MMTF_JOB_LIMIT 999999      /* jobs, counted from 1 */
@@ -97,7 +97,7 @@ enum mmtf_refusal {
  * Hands over the meaning of a refusal number in words, as they stand beside the numbers above: in ASCII, without a full stop.
  *
  * Answers MMTF_ACCEPTED with the words at the buffer's start and the number of their bytes in *written; every byte of the
- * buffer beyond is as it was, and no end mark is written. Every number above has its words, MMTF_ACCEPTED too. Else the
+ * buffer beyond is as it was, and no end mark is written. Every number above has its words, MMTF_ACCEPTED too. Otherwise the
  * buffer and *written are as they were, and the answer is the first of these that applies:
  * - MMTF_NO_SUCH_ENTRY: there is no such refusal number.
  * - MMTF_BUFFER_TOO_SMALL: there are more bytes than the buffer has room for.
@@ -109,41 +109,43 @@ uint8_t mmtf_meaning(uint8_t number, uint8_t *buffer, size_t room, uint64_t *wri
  *
  * Answers MMTF_ACCEPTED exactly when the bytes are a writing of a map that keeps the limits: at most 67,108,864 bytes, 12
  * levels, 256 entries in a map, integers of 32 bits with a sign, keys that are strings and differ within their map, and
- * strings in UTF-8. Else it answers the number of the first fault of a walk from the first byte, 1 to 11.
+ * strings in UTF-8. Otherwise it answers the number of the first fault of a walk from the first byte, 1 to 11.
  *
- * Fields, columns and counts are not looked at, so that an answer 0 does not say that the file is accepted as a structure:
- * that is asked of mmtf_verdict.
+ * Fields, columns and counts are not looked at, so the answer 0 does not say that the file is accepted as a structure:
+ * mmtf_verdict says that.
  */
 uint8_t mmtf_container(const uint8_t *file, size_t n);
 
 /*
  * Checks the whole file of n bytes: container, fields, columns and counts.
  *
- * Answers MMTF_ACCEPTED exactly when the file is accepted as a structure. Else the answer is the number of the first fault in
- * this order:
+ * Answers MMTF_ACCEPTED exactly when the file is accepted as a structure. Otherwise the answer is the number of the first
+ * fault in this order:
  * - The container's number, 1 to 11, as mmtf_container gives it.
  * - MMTF_FIELD_MISSING: one of the 16 required fields is not an outer key. Keys are compared as bytes; fields that are not
  *   named are skipped.
- * - MMTF_FIELD_TYPE: a named field that is there is not of its type, at any place in it: a value of another kind, a number of
- *   floats that is not just 6 (unitCell) or 16 (an operator, a matrix), or a required key missing in a map of groupList,
- *   bioAssemblyList or entityList. An integer is no float. Keys that are not named are skipped there too.
+ * - MMTF_FIELD_TYPE: a named field that is present is not of its type, at any place in it: a value is of another kind, the
+ *   number of floats is not exactly 6 (unitCell) or 16 (an operator, a matrix), or a required key is missing in a map of
+ *   groupList, bioAssemblyList or entityList. An integer does not count as a float. Keys that are not named are skipped in
+ *   these maps too.
  * - MMTF_VERSION_NOT_1: mmtfVersion does not begin with "1." and a digit.
  * - The columns' own numbers, MMTF_COLUMN_SHORT to MMTF_LENGTH_DIFFERS, column by column in the order of the fields, as the
  *   decoders of their kinds give them; names in a field have 4 bytes each, and any other size is MMTF_HEADER_RANGE. Whether
  *   fixed point numbers are exact in single precision is not asked.
- * - MMTF_TOO_MANY_GROUP_TYPES: more than 4,096 group types.
+ * - MMTF_TOO_MANY_GROUP_TYPES: there are more than 4,096 group types.
  * - MMTF_VALUE_OUTSIDE: numBonds, numAtoms, numGroups, numChains or numModels is not 0 to 16,777,216, or an entry of
  *   groupsPerChain or chainsPerModel is below 0.
- * - MMTF_COUNTS_DISAGREE: the entries of chainsPerModel are not numModels or do not add up to numChains; those of
- *   groupsPerChain are not numChains or do not add up to numGroups; or a column of groups, chains or atoms has not as many
- *   cells as there are of these.
- * - Of each group type in turn, used or not: MMTF_COUNTS_DISAGREE, its three lists of atoms are not equally long, its
- *   bondAtomList is odd, or its bondOrderList is not half of that or is there alone; MMTF_INDEX_OUTSIDE, a bond's index is
- *   not inside its atoms; MMTF_VALUE_OUTSIDE, a bond's order is not 1 to 4.
+ * - MMTF_COUNTS_DISAGREE: chainsPerModel does not have numModels entries, or they do not add up to numChains; groupsPerChain
+ *   does not have numChains entries, or they do not add up to numGroups; or a column of groups, chains or atoms does not have
+ *   as many cells as there are of these.
+ * - For each group type in turn, whether it is used or not: MMTF_COUNTS_DISAGREE if its three lists of atoms are not equally
+ *   long, its bondAtomList has an odd length, or its bondOrderList is not half as long or is there alone; then
+ *   MMTF_INDEX_OUTSIDE if an index of a bond is not inside its atoms; then MMTF_VALUE_OUTSIDE if the order of a bond is not 1
+ *   to 4.
  * - MMTF_INDEX_OUTSIDE: an entry of groupTypeList is not inside groupList.
  * - MMTF_COUNTS_DISAGREE: the atoms of all groups, each counted by its type, are not numAtoms.
- * - MMTF_COUNTS_DISAGREE: the bonds likewise, with the pairs of the outer bondAtomList, are not numBonds; or that list is
- *   odd, or the outer bondOrderList is not half of it or is there alone.
+ * - MMTF_COUNTS_DISAGREE: the bonds of all groups, each counted by its type, and the pairs of the outer bondAtomList are
+ *   together not numBonds; or that list has an odd length, or the outer bondOrderList is not half as long or is there alone.
  * - MMTF_INDEX_OUTSIDE: an index of the outer bondAtomList is not inside the atoms. Then MMTF_VALUE_OUTSIDE: an order of the
  *   outer bondOrderList is not 1 to 4.
  * - MMTF_VALUE_OUTSIDE: an entry of secStructList is not -1 to 7, or one of sequenceIdList is below -1.
@@ -154,8 +156,8 @@ uint8_t mmtf_container(const uint8_t *file, size_t n);
 uint8_t mmtf_verdict(const uint8_t *file, size_t n);
 
 /*
- * The named fields by their numbers: the order of the fields, from 0 on. Bit i of a set of fields, 1 << i, is that of field i,
- * and so is element i of what mmtf_fields hands over.
+ * The numbers of the named fields, in the order of the fields from 0 on. Bit i of a set of fields, 1 << i, belongs to field i,
+ * and so does element i of what mmtf_fields hands over.
  */
 enum mmtf_field {
     MMTF_MMTF_VERSION = 0,          /* mmtfVersion */
@@ -207,11 +209,11 @@ enum mmtf_field {
  * Opens the file of n bytes: checks all of it, as mmtf_verdict does, and says where each named field stands, so that its
  * columns can be decoded without walking the file again.
  *
- * starts and lengths have room elements each. Answers MMTF_ACCEPTED exactly when the file is accepted as a structure and room is
- * MMTF_FIELD_COUNT or more. Then *presence is the set of the named fields that are present, a bit for each, and for each field
- * i the part that mmtf_view finds under its name is file[starts[i]] up to file[starts[i] + lengths[i] - 1]; of an absent field
- * both are 0. Elements from MMTF_FIELD_COUNT on are as they were. Else *presence and all elements are as they were, and the
- * answer is the first of these that applies:
+ * starts and lengths have room elements each. Answers MMTF_ACCEPTED exactly when the file is accepted as a structure and room
+ * is MMTF_FIELD_COUNT or more. Then *presence is the set of the named fields that are present, a bit for each, and for each
+ * field i the part that mmtf_view finds under its name is file[starts[i]] up to file[starts[i] + lengths[i] - 1]; for an
+ * absent field both are 0. Elements from MMTF_FIELD_COUNT on are as they were. Otherwise *presence and all elements are as they
+ * were, and the answer is the first of these that applies:
  * - The file's own number, 1 to 24, as mmtf_verdict gives it.
  * - MMTF_BUFFER_TOO_SMALL: room is less than MMTF_FIELD_COUNT. Then nothing is read or written through starts and lengths.
  */
@@ -220,9 +222,10 @@ uint8_t mmtf_fields(const uint8_t *file, size_t n, uint64_t *presence, uint64_t 
 /*
  * Finds the part of the file of n bytes that holds the value of the outer key whose m bytes are the name.
  *
- * Answers MMTF_ACCEPTED, with the part at file[*start] up to file[*start + *length - 1]: of a string or a binary its body,
- * of any other value the whole, lead byte included. An empty body starts right after its head. Else the answer is the
- * container's number, 1 to 11, or MMTF_NO_SUCH_FIELD where no outer key is the name, and *start and *length are as they were.
+ * Answers MMTF_ACCEPTED, with the part at file[*start] up to file[*start + *length - 1]. For a string or a binary it is the
+ * body, and for any other value the whole value, lead byte included. An empty body starts right after its head. Otherwise the
+ * answer is the container's number, 1 to 11, or MMTF_NO_SUCH_FIELD where no outer key is the name, and *start and *length are
+ * as they were.
  *
  * The name is compared as bytes, whatever they are; it needs no end mark. Only outer keys count. Each call checks the
  * container first: it relies on no earlier call. mmtf_fields gives the parts of all named fields at once.
@@ -252,15 +255,15 @@ uint8_t mmtf_view(const uint8_t *file, size_t n, const uint8_t *name, size_t m, 
  * 16     int8         runs
  *
  * Every decoder checks the column first, and refuses it by the first of these that applies:
- * - MMTF_COLUMN_SHORT: under 12 bytes.
+ * - MMTF_COLUMN_SHORT: the column has fewer than 12 bytes.
  * - MMTF_CODEC_UNKNOWN: the codec is none of the sixteen, or not of the kind that the call decodes.
- * - MMTF_HEADER_RANGE: the length is not 0 to 16,777,216, the divisor not 1 or more, or the size of names not 1 to 255. A
+ * - MMTF_HEADER_RANGE: the length is not 0 to 16,777,216, the divisor is below 1, or the size of names is not 1 to 255. A
  *   parameter that the codec does not use is not looked at.
- * - MMTF_PAYLOAD_SIZE: the payload does not fill the length (codecs 1 to 5 and 11), or its bytes are no multiple of 8 (runs)
- *   or odd (packed 16-bit numbers).
- * - MMTF_NUMBER_NOT_ALLOWED, over the whole payload: a run's count below 1; a character or a byte of a name that is not 0 to
- *   127; in a name, a byte that is not 0 after one that is; a value of codec 16 that is not -128 to 127; a packed result that
- *   is unfinished at the end, or whose sum goes outside 32 bits at any of its numbers.
+ * - MMTF_PAYLOAD_SIZE: the payload does not exactly fill the length (codecs 1 to 5 and 11), or the number of its bytes is not
+ *   a multiple of 8 (runs) or is odd (packed 16-bit numbers).
+ * - MMTF_NUMBER_NOT_ALLOWED: the payload has, at any place, a run with a count below 1; a character or a byte of a name that
+ *   is not 0 to 127; a byte of a name that is not 0 and follows one that is; a value of codec 16 that is not -128 to 127; or a
+ *   packed result that is unfinished at the end, or whose sum goes outside 32 bits at any of its numbers.
  * - MMTF_LENGTH_DIFFERS: the payload has more or fewer results than the length says.
  * - MMTF_NOT_EXACT, by mmtf_decode_float32 only.
  * - MMTF_BUFFER_TOO_SMALL: there are more elements than the buffer has room for. An empty column needs no room.
@@ -275,14 +278,14 @@ uint8_t mmtf_view(const uint8_t *file, size_t n, const uint8_t *name, size_t m, 
 /*
  * Reads the header of a column of any kind, so that a program knows which decoder to call and how much room to lend.
  *
- * Answers MMTF_ACCEPTED with the codec, 1 to 16, the length, 0 to 16,777,216, and the parameter: the divisor of codecs 9 to
- * 13, the size of names of codec 5, and 0 of every other codec, whatever stands there. Else the answer is MMTF_COLUMN_SHORT,
- * MMTF_CODEC_UNKNOWN (none of the sixteen), MMTF_HEADER_RANGE or MMTF_PAYLOAD_SIZE, in the order above, and the out
- * parameters are as they were. The numbers of the payload are not looked at.
+ * Answers MMTF_ACCEPTED with the codec, 1 to 16, the length, 0 to 16,777,216, and the parameter: the divisor for codecs 9 to
+ * 13, the size of names for codec 5, and 0 for every other codec, whatever stands there. Otherwise the answer is
+ * MMTF_COLUMN_SHORT, MMTF_CODEC_UNKNOWN (none of the sixteen), MMTF_HEADER_RANGE or MMTF_PAYLOAD_SIZE, in the order above, and
+ * the out parameters are as they were. The numbers of the payload are not looked at.
  */
 uint8_t mmtf_header(const uint8_t *column, size_t n, int32_t *codec, int32_t *length, int32_t *parameter);
 
-/* Decodes an int32 column, by codec 4, 7, 8, 14 or 15. The sums of codec 8 wrap modulo 2^32. Room is for so many integers. */
+/* Decodes an int32 column, by codec 4, 7, 8, 14 or 15. The sums of codec 8 wrap modulo 2^32. The room is in integers. */
 uint8_t mmtf_decode_int32(const uint8_t *column, size_t n, int32_t *buffer, size_t room, uint64_t *count);
 
 /* Decodes an int8 column, by codec 2 or 16. Each element is -128 to 127, handed over in 32 bits. */
@@ -296,15 +299,15 @@ uint8_t mmtf_decode_chars(const uint8_t *column, size_t n, uint8_t *buffer, size
 
 /*
  * Decodes a column of strings, by codec 5: the bytes of the names, one name after the other, each with its 0 bytes at the
- * end. The elements are bytes, so that room and *count are in bytes; *count divided by the size is the number of names. The
- * size is the column's parameter, as mmtf_header gives it.
+ * end. The elements are bytes, so room and *count are in bytes; *count divided by the size is the number of names. The size is
+ * the column's parameter, as mmtf_header gives it.
  */
 uint8_t mmtf_decode_strings(const uint8_t *column, size_t n, uint8_t *buffer, size_t room, uint64_t *count);
 
 /*
  * Decodes a fixed point column, by codecs 9 to 13: its integers into the buffer, and its divisor, 1 or more, into *divisor.
- * The value of an integer is the integer divided by the divisor; nothing is divided here, so that nothing is lost. The sums
- * of codec 10 wrap modulo 2^32. A column of codec 1 is MMTF_CODEC_UNKNOWN here.
+ * The number that an integer stands for is the integer divided by the divisor; nothing is divided here, so nothing is lost.
+ * The sums of codec 10 wrap modulo 2^32. A column of codec 1 is refused with MMTF_CODEC_UNKNOWN here.
  */
 uint8_t mmtf_decode_fixed_point(const uint8_t *column, size_t n,
     int32_t *buffer, size_t room, uint64_t *count, int32_t *divisor);
@@ -313,9 +316,10 @@ uint8_t mmtf_decode_fixed_point(const uint8_t *column, size_t n,
  * Decodes a float32 or a fixed point column, by codec 1 or 9 to 13, to floats of single precision. Each element is the 32
  * bits of a float (IEEE 754 binary32): memcpy makes floats of them.
  *
- * Codec 1 keeps every bit, those of a NaN too. Of codecs 9 to 13 each element is one division of integer by divisor, rounded
- * to nearest, ties to even. It is refused with MMTF_NOT_EXACT, after MMTF_LENGTH_DIFFERS and before MMTF_BUFFER_TOO_SMALL, if
- * an integer of the column or the divisor is above 16,777,216 in size; by its divisor an empty column too.
+ * Codec 1 keeps every bit, those of a NaN too. By codecs 9 to 13 each element is one division of an integer by the divisor,
+ * rounded to nearest, ties to even. Such a column is refused with MMTF_NOT_EXACT, after MMTF_LENGTH_DIFFERS and before
+ * MMTF_BUFFER_TOO_SMALL, if an integer of the column or the divisor is above 16,777,216 in size. An empty column is refused so
+ * too, by its divisor.
  */
 uint8_t mmtf_decode_float32(const uint8_t *column, size_t n, uint32_t *buffer, size_t room, uint64_t *count);
 
@@ -329,13 +333,13 @@ enum mmtf_cell_kind {
 /*
  * Asks for the one cell at index, counted from 0, of a column of any kind but strings.
  *
- * Answers MMTF_ACCEPTED with *kind as above and the value in *integer or in *real; the other of the two is as it was. Else no
- * out parameter has changed, and the answer is the first of these that applies:
+ * Answers MMTF_ACCEPTED with *kind as above and the value in *integer or in *real; the other of the two is as it was.
+ * Otherwise no out parameter has changed, and the answer is the first of these that applies:
  * - The column's own number, MMTF_COLUMN_SHORT to MMTF_LENGTH_DIFFERS in the order above, for the whole column.
- * - MMTF_CODEC_UNKNOWN: a column of strings.
+ * - MMTF_CODEC_UNKNOWN: it is a column of strings.
  * - MMTF_NO_SUCH_ENTRY: the index is not below the column's length.
- * - MMTF_NOT_EXACT: of a fixed point column, this cell's integer or the divisor is above 16,777,216 in size. The integers of
- *   other cells do not count.
+ * - MMTF_NOT_EXACT: the column is fixed point, and this cell's integer or the divisor is above 16,777,216 in size. The
+ *   integers of other cells do not count.
  *
  * A NaN of codec 1 comes as a NaN, but its payload bits are not kept: mmtf_decode_float32 keeps them. Every other float of
  * codec 1 comes with its bits.
@@ -347,16 +351,16 @@ uint8_t mmtf_cell(const uint8_t *column, size_t n, uint64_t index, uint8_t *kind
  * Runs are the longest, packing writes the limit of a value's sign as long as what is left reaches it, and a parameter that
  * the codec does not use is 0. What is written is decoded to the same elements. It refuses by the first of these that applies:
  * - MMTF_CODEC_UNKNOWN: the codec is none of the sixteen, or not of the kind that the call encodes.
- * - MMTF_HEADER_RANGE: more than 16,777,216 results (of strings, names), a divisor below 1, a size of names that is not 1 to
- *   255, or bytes of names that are no multiple of the size.
- * - MMTF_NUMBER_NOT_ALLOWED: an element that the codec cannot hold, as each call says.
+ * - MMTF_HEADER_RANGE: there are more than 16,777,216 results (for strings: names), the divisor is below 1, the size of names
+ *   is not 1 to 255, or the number of bytes of names is not a multiple of the size.
+ * - MMTF_NUMBER_NOT_ALLOWED: there is an element that the codec cannot hold, as each call says.
  * - MMTF_BUFFER_TOO_SMALL: the column has more bytes than the buffer has room for.
  *
- * On MMTF_ACCEPTED the buffer begins with the column, *written says how many bytes it has, and every byte of the buffer
- * beyond is as it was. On refusal the buffer and *written are as they were.
+ * On MMTF_ACCEPTED the buffer begins with the column, *written says how many bytes the column has, and every byte of the
+ * buffer beyond is as it was. On refusal the buffer and *written are as they were.
  */
 
-/* Encodes m integers as an int32 column, by codec 4, 7, 8, 14 or 15. Each of them holds every integer. */
+/* Encodes m integers as an int32 column, by codec 4, 7, 8, 14 or 15. Each of these codecs holds every integer. */
 uint8_t mmtf_encode_int32(int32_t codec, const int32_t *values, size_t m, uint8_t *buffer, size_t room, uint64_t *written);
 
 /* Encodes m integers as an int8 column, by codec 2 or 16. MMTF_NUMBER_NOT_ALLOWED: one is not -128 to 127. */
@@ -377,21 +381,21 @@ uint8_t mmtf_encode_strings(int32_t codec, int32_t size, const uint8_t *bytes, s
 
 /*
  * Encodes m integers and their divisor as a fixed point column, by codecs 9 to 13. MMTF_NUMBER_NOT_ALLOWED: by codec 11, one
- * is not -32,768 to 32,767. The others hold every integer.
+ * is not -32,768 to 32,767. The other codecs hold every integer.
  */
 uint8_t mmtf_encode_fixed_point(int32_t codec, int32_t divisor, const int32_t *values, size_t m,
     uint8_t *buffer, size_t room, uint64_t *written);
 
-/* Encodes m floats, given as their 32 bits, by codec 1. It holds all of them, bit for bit. */
+/* Encodes m floats, given as their 32 bits, by codec 1. Codec 1 holds every float, bit for bit. */
 uint8_t mmtf_encode_float32(int32_t codec, const uint32_t *bits, size_t m, uint8_t *buffer, size_t room, uint64_t *written);
 
 /*
- * Hands over the matrix of a transform of the file of n bytes: of the assembly with this number in bioAssemblyList, the
- * transform with this number in its transformList, both counted from 0.
+ * Hands over the matrix of a transform of the file of n bytes. The assembly is that with this number in bioAssemblyList, and
+ * the transform that with this number in its transformList, both counted from 0.
  *
  * Answers MMTF_ACCEPTED with the 16 floats by rows: rows[0] has the first four, and the translation is rows[0][3], rows[1][3],
- * rows[2][3]. Each float comes with its bits, but a NaN only as a NaN. Else the rows are as they were, and the answer is the
- * first of these that applies:
+ * rows[2][3]. Each float comes with its bits, but for a NaN, which comes as some NaN. Otherwise the rows are as they were, and
+ * the answer is the first of these that applies:
  * - The container's number, 1 to 11.
  * - MMTF_NO_SUCH_FIELD: there is no bioAssemblyList.
  * - MMTF_FIELD_TYPE: bioAssemblyList is not of its type, at any place in it, whichever transform is asked for. No other field
@@ -416,7 +420,7 @@ uint8_t mmtf_matrix(const uint8_t *file, size_t n, uint64_t assembly, uint64_t t
  * fields     how many of the 39 named fields are in the file, 16 to 39
  * units      1
  *
- * So it is with verdict 0. If the verdict is another, every line below it is 0: a refused file costs no unit.
+ * These are the numbers with verdict 0. With any other verdict every line below it is 0: a refused file costs no unit.
  */
 
 /* The places of the numbers that mmtf_read_receipt hands over. */
@@ -433,19 +437,19 @@ enum mmtf_receipt_number {
     MMTF_RECEIPT_UNITS = 9
 };
 
-/* How many numbers these are. */
+/* How many numbers a receipt has. */
 #define MMTF_RECEIPT_NUMBERS 10
 
 /* The bytes of the longest receipt. A buffer with this room is never too small. */
 #define MMTF_RECEIPT_ROOM 128
 
 /*
- * Writes the receipt of the file of n bytes, by a station and its job.
+ * Writes the receipt of the file of n bytes, for a station and its job.
  *
  * Answers MMTF_ACCEPTED with the receipt at the buffer's start and the number of its bytes in *written; every byte of the
- * buffer beyond is as it was, and no end mark is written. A refused file gets its receipt too, one of more than 67,108,864
- * bytes with verdict 1, so that this answer says nothing of the file: the receipt's verdict does. Else the buffer and
- * *written are as they were, and the answer is the first of these that applies:
+ * buffer beyond is as it was, and no end mark is written. A refused file gets its receipt too, and a file of more than
+ * 67,108,864 bytes gets one with verdict 1. So this answer says nothing about the file: the receipt's verdict does. Otherwise
+ * the buffer and *written are as they were, and the answer is the first of these that applies:
  * - MMTF_RECEIPT_MALFORMED: the station is not 1 to 99, or the job is not 1 to 999,999.
  * - MMTF_BUFFER_TOO_SMALL: the receipt has more bytes than the buffer has room for.
  */
@@ -456,8 +460,8 @@ uint8_t mmtf_write_receipt(uint32_t station, uint32_t job, const uint8_t *file, 
  * Reads the n bytes as one receipt.
  *
  * Answers MMTF_ACCEPTED, with its ten numbers in the order of the lines, exactly when the bytes are a receipt by the rules
- * above. Else it answers MMTF_RECEIPT_MALFORMED, and the numbers are as they were. No file is looked at: whether there is one
- * with these counts is not asked.
+ * above. Otherwise it answers MMTF_RECEIPT_MALFORMED, and the numbers are as they were. No file is looked at, so it is not
+ * asked whether there is one with these counts.
  */
 uint8_t mmtf_read_receipt(const uint8_t *bytes, size_t n, uint32_t numbers[MMTF_RECEIPT_NUMBERS]);
 

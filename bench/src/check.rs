@@ -1,4 +1,4 @@
-//! The whole check, files opened, and matrices, by both.
+//! Measures the whole check, files opened, and matrices, by the library and the Rust.
 
 use std::hint::black_box;
 

@@ -1,6 +1,6 @@
-//! Every codec, on cells like those of structure files and on those that make
-//! the most work for it: decoded, as floats, encoded, and one cell, by both; and
-//! the copy of the cells in memory.
+//! Measures every codec, on cells like those of structure files and on those that
+//! make the most work for it: decoded, as floats, encoded, and one cell, by the
+//! library and the Rust; and the copy of the cells in memory.
 
 use std::process::ExitCode;
 

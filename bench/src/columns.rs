@@ -1,5 +1,5 @@
-//! Decoding, encoding and single cells, by both: how they are measured, all
-//! columns of the largest structure file, and hostile runs.
+//! Measures decoding, encoding and single cells, by the library and the Rust: how
+//! this is done, all columns of the largest structure file, and hostile runs.
 
 use std::cell::RefCell;
 use std::hint::black_box;

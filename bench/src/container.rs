@@ -1,4 +1,4 @@
-//! The container walk and views by name, by both.
+//! Measures the container walk and views by name, by the library and the Rust.
 
 use std::hint::black_box;
 

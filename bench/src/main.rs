@@ -1,7 +1,8 @@
-//! The same work by libmmtf.a and by the independent Rust, side by side, in
-//! tables of Markdown. Without an argument: every workload, every codec, whole
-//! files opened, cost against size, and stack. With the name of a part, that part
-//! alone. Status 1 if a codec or a call of the header is not measured.
+//! Measures the same work by libmmtf.a and by the independent Rust, side by side,
+//! and prints tables of Markdown. Without an argument it measures every workload,
+//! every codec, whole files opened, cost against size, and stack; with the name of
+//! a part it measures that part alone. Its status is 1 if a codec or a call of the
+//! header is not measured.
 
 mod check;
 mod check_data;

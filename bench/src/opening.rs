@@ -1,5 +1,6 @@
-//! A whole file opened: one check that gives the places of the named fields, and
-//! then every named column decoded from its place, by both.
+//! Measures a whole file opened, by the library and the Rust: one check that gives
+//! the places of the named fields, and then every named column decoded from its
+//! place.
 
 use std::cell::RefCell;
 use std::hint::black_box;

@@ -1,4 +1,4 @@
-//! Receipts written for files, and read, by both.
+//! Measures receipts written for files, and read, by the library and the Rust.
 
 use std::cell::RefCell;
 use std::hint::black_box;

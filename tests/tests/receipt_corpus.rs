@@ -59,7 +59,7 @@ fn every_prefix() {
     }
 }
 
-/// With a bit changed in each byte: a receipt shows a unit exactly if the file
+/// With a bit changed in each byte: a receipt shows a unit exactly when the file
 /// is accepted.
 #[test]
 fn every_byte_changed() {
