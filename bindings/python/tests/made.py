@@ -1,4 +1,9 @@
-"""Files and columns made for the tests, without the module: documents as MessagePack, and a file for each refusal."""
+"""Files, columns and values made for the tests, without the package.
+
+A document is written as MessagePack with long heads (`document`) or short ones (`shortest`). `structure` is a file with
+nothing in it that is accepted, `refused_files` has one for each number of a verdict, and `generated_column`,
+`generated_value` and `damaged` make others by chance.
+"""
 
 from __future__ import annotations
 
@@ -26,6 +31,51 @@ def document(value: Any) -> bytes:
         return b"\xdc" + struct.pack(">H", len(value)) + b"".join(map(document, value))
     entries = b"".join(document(key) + document(entry) for key, entry in value.items())
     return b"\xde" + struct.pack(">H", len(value)) + entries
+
+
+def shortest(value: Any) -> bytes:
+    """A value as MessagePack with the shortest heads, and of two as short the one without a sign."""
+    if isinstance(value, int):
+        if -32 <= value < 128:
+            return bytes([value % 256])
+        forms = [("B", 0xCC, 2**8), ("b", 0xD0, 2**7), ("H", 0xCD, 2**16), ("h", 0xD1, 2**15), ("I", 0xCE, 2**32),
+                 ("i", 0xD2, 2**31)]
+        form, lead = next((form, lead) for form, lead, end in forms if (0 if form.isupper() else -end) <= value < end)
+        return bytes([lead]) + struct.pack(">" + form, value)
+    if isinstance(value, float):
+        return document(value)
+    if isinstance(value, (str, bytes)):
+        body = value if isinstance(value, bytes) else value.encode()
+        return head(len(body), *((0, 0, 0xC4) if isinstance(value, bytes) else (0xA0, 32, 0xD9))) + body
+    if isinstance(value, list):
+        return head(len(value), 0x90, 16, 0xDB) + b"".join(map(shortest, value))
+    entries = b"".join(shortest(key) + shortest(entry) for key, entry in value.items())
+    return head(len(value), 0x80, 16, 0xDD) + entries
+
+
+def head(number: int, small: int, end: int, lead: int) -> bytes:
+    """A head: a byte for a number below an end; else the lead byte for a byte, or the next for two, or for four. Arrays and
+    maps have none for a byte."""
+    if number < end:
+        return bytes([small + number])
+    if number < 2**8 and lead not in (0xDB, 0xDD):
+        return struct.pack(">BB", lead, number)
+    return struct.pack(">BH", lead + 1, number) if number < 2**16 else struct.pack(">BI", lead + 2, number)
+
+
+def generated_value(chance: random.Random, depth: int) -> Any:
+    """A value of any kind, its floats of single precision, its arrays and maps at most so deep."""
+    kind = chance.randrange(6 if depth else 4)
+    if kind == 0:
+        return chance.choice([0, 127, 128, 255, 256, 65535, 65536, 2**31 - 1, -1, -32, -33, -128, -129, -32769, -2**31])
+    if kind == 1:
+        return struct.unpack(">f", struct.pack(">f", chance.gauss(0, 100)))[0]
+    if kind == 2:
+        return "".join(chance.choices("aé中\0\U0001f9ec", k=chance.choice([0, 1, 11, 40, 300])))
+    if kind == 3:
+        return chance.randbytes(chance.choice([0, 1, 40, 300]))
+    inner = [generated_value(chance, depth - 1) for _ in range(chance.choice([0, 1, 3, 20]))]
+    return inner if kind == 4 else {f"key {number}": value for number, value in enumerate(inner)}
 
 
 def column(codec: int, length: int, parameter: int, payload: bytes = b"") -> bytes:
@@ -123,11 +173,13 @@ def generated_column(chance: random.Random) -> bytes:
 
 
 def plain(chance: random.Random, codec: int) -> tuple[int, bytes]:
+    """Results of equal size: how many, and the payload."""
     length = chance.randrange(12)
     return length, chance.randbytes(length * PLAIN_WIDTH[codec])
 
 
 def names(chance: random.Random, _: int) -> tuple[int, bytes]:
+    """Names of four bytes, with zeros at their ends."""
     length = chance.randrange(8)
     return length, b"".join(bytes(chance.choices(b"ABC", k=chance.randrange(5))).ljust(4, b"\0") for _ in range(length))
 
@@ -164,5 +216,6 @@ def damaged(chance: random.Random, whole: bytes) -> bytes:
 
 
 def damaged_copies(chance: random.Random, whole: bytes, many: int) -> Iterator[bytes]:
+    """Copies of the same bytes, each damaged once."""
     for _ in range(many):
         yield damaged(chance, whole)

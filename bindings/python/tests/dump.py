@@ -1,4 +1,8 @@
-"""What tests/c/dump.c writes about a file, by the Python module instead: the same text, byte for byte."""
+"""What tests/c/dump.c writes about a file, by the Python package instead: the same text, byte for byte.
+
+`of_file` asks every call about a file, and then treats the file itself and the value of each key as a column, which it
+decodes by every kind and encodes again. A test writes the lines beside those of the C program and compares them.
+"""
 
 from __future__ import annotations
 
@@ -7,7 +11,7 @@ import math
 import struct
 from typing import Any, Callable, Iterator
 
-import mmtf
+import nozhuiteca
 
 # The named fields, a field that the structure files have besides, and names of none.
 NAMES = (
@@ -24,16 +28,16 @@ FEW, SMALL = 100, 100_000
 
 def of_file(data: Any) -> Iterator[str]:
     """The lines of the text about a file."""
-    yield f"file of {len(data)} bytes: container {mmtf.container(data).number}, verdict {mmtf.verdict(data).number}"
-    yield from mmtf.receipt(data, 7, 12).decode("ascii").splitlines()
-    yield "fields" + answered(fields, mmtf.fields, data)
+    yield f"file of {len(data)} bytes: container {nozhuiteca.container(data):d}, verdict {nozhuiteca.verdict(data):d}"
+    yield from nozhuiteca.receipt(data, 7, 12).decode("ascii").splitlines()
+    yield "fields" + answered(fields, nozhuiteca.fields, data)
     yield from of_matrices(data)
     yield from of_column(data)
     for name in NAMES:
-        yield f"view of {name}:" + answered(hexadecimal, mmtf.view, data, name)
+        yield f"view of {name}:" + answered(hexadecimal, nozhuiteca.view, data, name)
         try:
-            part = mmtf.view(data, name)
-        except mmtf.Refused:
+            part = nozhuiteca.view(data, name)
+        except nozhuiteca.RefusedError:
             continue
         yield from of_column(part)
 
@@ -42,7 +46,7 @@ def of_matrices(data: Any) -> Iterator[str]:
     """The matrices of each assembly up to the first transform that there is not, up to an assembly without a first one."""
     assembly = transform = 0
     while True:
-        answer = answered(matrix, mmtf.matrix, data, assembly, transform)
+        answer = answered(matrix, nozhuiteca.matrix, data, assembly, transform)
         yield f"matrix {assembly} {transform}" + answer
         if "refused" not in answer:
             transform += 1
@@ -54,7 +58,7 @@ def of_matrices(data: Any) -> Iterator[str]:
 
 def of_column(column: Any) -> Iterator[str]:
     """All that is asked of a column."""
-    yield "header" + answered(lambda fields: "".join(f" {field}" for field in fields), mmtf.header, column)
+    yield "header" + answered(lambda fields: "".join(f" {field}" for field in fields), nozhuiteca.header, column)
     own, length, parameter = struct.unpack(">iii", column[:12]) if len(column) >= 12 else (0, 0, 0)
     for kind in ("int32", "int16", "int8"):
         yield from there_and_back(column, own, kind, integers)
@@ -64,49 +68,54 @@ def of_column(column: Any) -> Iterator[str]:
     yield from there_and_back(column, own, "strings", lambda names: strings(names, parameter), parameter)
     length = max(0, length)
     for index in (0, length // 2, (length - 1) % 2**64, length):
-        yield f"cell {index}" + answered(one_cell, mmtf.cell, column, index)
+        yield f"cell {index}" + answered(one_cell, nozhuiteca.cell, column, index)
 
 
 def there_and_back(column: Any, own: int, kind: str, text: Callable[[Any], str], size: int = 4) -> Iterator[str]:
     """A column decoded to a kind, and encoded again: by its own codec, by others too if it has few and small integers."""
     try:
-        values = mmtf.decode(column, kind)
-    except mmtf.Refused as error:
-        yield f"{kind} refused {error.number}"
+        values = nozhuiteca.decode(column, kind)
+    except nozhuiteca.RefusedError as error:
+        yield f"{kind} refused {error.number:d}"
         return
     yield kind + text(values)
-    others = kind.startswith("int") and is_small(values) or kind == "fixed_point" and is_small(values.integers)
-    for codec in (codec for codec in mmtf.CODECS if mmtf.CODECS[codec] == kind):
+    others = kind.startswith("int") and is_small(values) or kind == "fixed_point" and is_small(values.values)
+    for codec in (codec for codec in nozhuiteca.CODECS if nozhuiteca.CODECS[codec] == kind):
         if codec == own or others:
-            yield f"encoded by {codec}" + answered(hexadecimal, lambda: mmtf.encode(values, codec, size=size))
+            yield f"encoded by {codec}" + answered(hexadecimal, lambda: nozhuiteca.encode(values, codec, size=size))
 
 
 def answered(text: Callable[[Any], str], call: Callable[..., Any], *words: Any) -> str:
     """The text of a call's result, or its refusal."""
     try:
         return text(call(*words))
-    except mmtf.Refused as error:
-        return f" refused {error.number}"
+    except nozhuiteca.RefusedError as error:
+        return f" refused {error.number:d}"
 
 
 def is_small(values: Any) -> bool:
+    """Whether there are few integers, none of them large."""
     return len(values) <= FEW and all(-SMALL <= value <= SMALL for value in values)
 
 
 def hexadecimal(data: Any) -> str:
+    """Bytes in hexadecimal digits."""
     return " " + bytes(data).hex()
 
 
-def fields(parts: dict[str, mmtf.Part]) -> str:
+def fields(parts: dict[str, nozhuiteca.Part]) -> str:
+    """The places of the named fields."""
     return "".join([f" {name} {start} {length}" for name, (start, length) in parts.items()]) + " "
 
 
 def integers(values: Any) -> str:
+    """Integers in decimal digits."""
     return "".join([f" {value}" for value in values])
 
 
-def fixed_point(value: mmtf.FixedPoint) -> str:
-    return f" by {value.divisor}:" + integers(value.integers)
+def fixed_point(value: nozhuiteca.FixedPoint) -> str:
+    """The divisor, and the integers."""
+    return f" by {value.divisor}:" + integers(value.values)
 
 
 def floats(values: array.array[float]) -> str:
@@ -125,10 +134,12 @@ def single(value: float) -> str:
 
 
 def matrix(rows: Any) -> str:
+    """The sixteen floats of a matrix, by rows."""
     return "".join(single(value) for row in rows for value in row) + " "
 
 
 def one_cell(value: int | str | float) -> str:
+    """A cell's kind and value."""
     if isinstance(value, float):
         return " float" + single(value)
     return f" character {ord(value)}" if isinstance(value, str) else f" integer {value}"
