@@ -1,9 +1,10 @@
-// The meanings of the refusal numbers in words: written for a caller who has a number, and put into the sentences of the program.
+// The meanings of the refusal numbers in words: written for a caller who has a number, and put into the sentences of the program. The table is
+// read by `words_in`, which reads any table of numbered words.
 ghost use mathlib.Core.Path.{_≡_};
 ghost use lib.ListN.{length};
 ghost use Rattle.text.specs.Put.{Put};
 ghost use Rattle.meanings.specs.Meanings.{meaningOf, meaningAnswer, meaningBuffer};
-ghost use Rattle.meanings.specs.Steps.{rows, lineEnd};
+ghost use Rattle.meanings.specs.Steps.{wordsIn, lineEnd};
 use refusal::Answer;
 
 // Room for the longest meaning.
@@ -62,25 +63,31 @@ pub fn put_meaning(buffer: &mut [u8], at: usize, number: u8) -> usize
         \x1ba number is not exact in single precision\n\
         \x1cthere is no such entry\n\
         \x1dthe receipt is malformed\n",
-        number,
+        number as u32,
     );
     text::put(buffer, at, words)
 }
 
-// The words after a number in the table; none where no row has it.
-fn words_in<'a>(table: &'a [u8], number: u8) -> &'a [u8]
-    requires { ⌜ now table ≡ rows ⌝ }
-    ensures { λ r. ⌜ now r ≡ meaningOf number ⌝ }
+// The words after a number in a table, whose rows are a byte with the number, the words, and a line feed; none where no row has the number.
+pub fn words_in<'a>(table: &'a [u8], number: u32) -> &'a [u8]
+    ensures { λ r. ⌜ now r ≡ wordsIn (now (table .entry)) number ⌝ }
 {
     let mut row: usize = 0;
     while row < table.len() {
         let end = line_end(table, row + 1);
-        if table[row] == number {
+        if wide(table[row]) == number {
             return &table[row + 1..end];
         }
         row = end + 1;
     }
     &table[0..0]
+}
+
+// A byte as a number of 32 bits.
+fn wide(byte: u8) -> u32
+    ensures { λ r. ⌜ r ≡ byte ⌝ }
+{
+    byte as u32
 }
 
 // Where the line of a place ends: at its line feed, or where the bytes end.

@@ -1,2 +1,3 @@
 -- What is proved of the definitions of `sentences`.
 pub mod Shown
+pub mod Steps

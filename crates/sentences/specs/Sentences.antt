@@ -1,6 +1,9 @@
--- The sentences of the program, one line each. No lemma stands here. Assumes nothing.
+-- The sentences of the program, one line each. A sentence is a form in which marks stand for what differs: @ for the file where the sentence
+-- begins with it, & for the file elsewhere, $ for the name of a part of it, % for a word, # for the number of a refusal, * for its meaning, and
+-- ! for the system's reason. No lemma stands here. Assumes nothing.
 use mathlib.Core.Bool.{Bool, cond}
 use mathlib.Core.List.{List, [], _∷_, _++_}
+use Prim.Native.Char.{code}
 use Prim.Native.Nat.{ℕ}
 use lib.Dec.{eqb}
 use lib.ListN.{take}
@@ -9,7 +12,7 @@ use Rattle.text.specs.Decimal.{decimal}
 use Rattle.text.specs.Equal.{equal}
 use Rattle.text.specs.Ascii.{ascii}
 use Rattle.meanings.specs.Meanings.{meaningOf}
-use Rattle.sentences.specs.Shown.{shown, fileName}
+use Rattle.sentences.specs.Shown.{replaced, shown, fileName}
 use Rattle.sentences.specs.Reasons.{reasonText}
 use Rattle.sentences.specs.declared.Advice.{Advice}
 use Rattle.sentences.specs.declared.OfFile.{OfFile}
@@ -25,50 +28,82 @@ isGzip file = equal (take 2 file) (31 ∷ 139 ∷ [])
 abbrev pub adviceOf : List ℕ → ℕ → Advice
 adviceOf file n = cond (isGzip file) Advice.Gzip (cond (eqb n leadByteUnknown) Advice.Floats Advice.None)
 
-abbrev pub adviceText : Advice → List ℕ
-adviceText Advice.None = []
-adviceText Advice.Floats = ascii " If it has 64-bit floats (lead byte cb), write them as 32-bit floats."
-adviceText Advice.Gzip = ascii " It is compressed by gzip: unpack it first, with gunzip."
+-- an accepted file
+abbrev pub acceptedForm : List ℕ
+acceptedForm = ascii "@ is accepted."
 
--- a refusal, by its number and its meaning
-abbrev pub refusalText : ℕ → List ℕ
-refusalText n = ascii "refused with " ++ (decimal n ++ (ascii ": " ++ (meaningOf n ++ ascii ".")))
+-- a refused file, and what to do about it
+abbrev pub refusedForm : Advice → List ℕ
+refusedForm Advice.None = ascii "@ is refused with #: *."
+refusedForm Advice.Floats = ascii "@ is refused with #: *. If it has 64-bit floats (lead byte cb), write them as 32-bit floats."
+refusedForm Advice.Gzip = ascii "@ is refused with #: *. It begins as a gzip file does: unpack it first, with gunzip."
 
--- the verdict on a file
-abbrev pub verdictText : List ℕ → ℕ → Advice → List ℕ
-verdictText file n advice =
-    cond (eqb n accepted) (fileName file ++ ascii " is accepted.\n") (fileName file ++ (ascii " is " ++ (refusalText n ++ (adviceText advice ++ ascii "\n"))))
+-- a file that was not judged
+abbrev pub fileForm : OfFile → List ℕ
+fileForm OfFile.TooLong = ascii "@ is not judged: it has more than 65,536 bytes, the most that this program reads. The library takes files of up to 67,108,864 bytes."
+fileForm (OfFile.Unreadable n) = ascii "@ cannot be read: !."
 
--- what is said of a file that was not judged
-abbrev pub fileText : List ℕ → OfFile → List ℕ
-fileText file OfFile.TooLong = fileName file ++ ascii " has more than 65,536 bytes, the most that are read.\n"
-fileText file (OfFile.Unreadable n) = fileName file ++ (ascii " cannot be read: " ++ (reasonText n ++ ascii ".\n"))
+-- a part of a file
+abbrev pub partForm : OfPart → List ℕ
+partForm OfPart.NoField = ascii "@ has no field \"$\"."
+partForm OfPart.NoColumn = ascii "Field \"$\" of & is not a column: its value is not a binary."
+partForm OfPart.NotShown = ascii "Column \"$\" of & is not shown: it has more than 65,536 values."
+partForm OfPart.Nested = ascii "Field \"$\" of & is not shown as text: it is a map, or an array that holds a map or another array. With --raw its bytes are written."
+partForm OfPart.IsColumn = ascii "Field \"$\" of & is a column: \"station column\" shows its values, and \"station view --raw\" its bytes."
+partForm (OfPart.Refused n) = ascii "Column \"$\" of & is refused with #: *."
 
--- that a file has no field of a name
-abbrev pub noFieldText : List ℕ → List ℕ → List ℕ
-noFieldText file name = fileName file ++ (ascii " has no field \"" ++ (shown name ++ ascii "\".\n"))
+-- a word
+abbrev pub wordForm : OfWord → List ℕ
+wordForm OfWord.NoCommand = ascii "\"%\" is not a command. The command \"station help\" lists them."
+wordForm OfWord.NoStation = ascii "The station must be a number from 1 to 99, and \"%\" is not."
+wordForm OfWord.NoJob = ascii "The job must be a number from 1 to 999,999, and \"%\" is not."
 
--- what is said of a field or a column of a file
-abbrev pub ofText : List ℕ → List ℕ → List ℕ → List ℕ → List ℕ
-ofText what name file said = what ++ (shown name ++ (ascii "\" of " ++ (fileName file ++ said)))
+-- output that was not written
+abbrev pub unwrittenForm : List ℕ
+unwrittenForm = ascii "The output was not written whole: !."
 
-abbrev pub partText : List ℕ → List ℕ → OfPart → List ℕ
-partText file name OfPart.NoField = noFieldText file name
-partText file name OfPart.NoColumn = ofText (ascii "field \"") name file (ascii " is not a column: its value is not a binary.\n")
-partText file name OfPart.NotShown = ofText (ascii "column \"") name file (ascii " is not shown: it has more than 65,536 values.\n")
-partText file name (OfPart.Refused n) = ofText (ascii "column \"") name file (ascii " is " ++ (refusalText n ++ ascii "\n"))
+-- the form of a sentence
+abbrev pub formOf : Sentence → List ℕ
+formOf (Sentence.Verdict n advice) = cond (eqb n accepted) acceptedForm (refusedForm advice)
+formOf (Sentence.File said) = fileForm said
+formOf (Sentence.Part said) = partForm said
+formOf (Sentence.Word said) = wordForm said
+formOf (Sentence.Unwritten n) = unwrittenForm
 
--- what is said of a word
-abbrev pub wordText : List ℕ → OfWord → List ℕ
-wordText word OfWord.NoCommand = ascii "\"" ++ (shown word ++ ascii "\" is not a command: station help lists them.\n")
-wordText word OfWord.NoNumber = ascii "\"" ++ (shown word ++ ascii "\" is not a number.\n")
-wordText word OfWord.NoStation = ascii "station " ++ (shown word ++ ascii " is not 1 to 99.\n")
-wordText word OfWord.NoJob = ascii "job " ++ (shown word ++ ascii " is not 1 to 999,999.\n")
+-- the number of the refusal that a sentence says
+abbrev pub refusalOf : Sentence → ℕ
+refusalOf (Sentence.Verdict n advice) = n
+refusalOf (Sentence.File said) = 0
+refusalOf (Sentence.Part (OfPart.Refused n)) = n
+refusalOf (Sentence.Part OfPart.NoField) = 0
+refusalOf (Sentence.Part OfPart.NoColumn) = 0
+refusalOf (Sentence.Part OfPart.NotShown) = 0
+refusalOf (Sentence.Part OfPart.Nested) = 0
+refusalOf (Sentence.Part OfPart.IsColumn) = 0
+refusalOf (Sentence.Word said) = 0
+refusalOf (Sentence.Unwritten n) = 0
+
+-- the number of the system's error that a sentence says
+abbrev pub reasonOf : Sentence → ℕ
+reasonOf (Sentence.Verdict n advice) = 0
+reasonOf (Sentence.File (OfFile.Unreadable n)) = n
+reasonOf (Sentence.File OfFile.TooLong) = 0
+reasonOf (Sentence.Part said) = 0
+reasonOf (Sentence.Word said) = 0
+reasonOf (Sentence.Unwritten n) = n
+
+-- what stands for a byte of a form: a mark for its text, and any other byte for itself
+abbrev pub markText : List ℕ → List ℕ → ℕ → ℕ → ℕ → List ℕ
+markText subject name refusal reason mark =
+    cond (eqb mark (code "@")) (fileName (ascii "Standard input") subject)
+    (cond (eqb mark (code "&")) (fileName (ascii "standard input") subject)
+    (cond (eqb mark (code "$")) (shown name)
+    (cond (eqb mark (code "%")) (shown subject)
+    (cond (eqb mark (code "#")) (decimal refusal)
+    (cond (eqb mark (code "*")) (meaningOf refusal)
+    (cond (eqb mark (code "!")) (reasonText reason)
+    (mark ∷ [])))))))
 
 -- the sentence about a subject, a file or a word, with the name of a part
 abbrev pub sentenceText : List ℕ → List ℕ → Sentence → List ℕ
-sentenceText subject name (Sentence.Verdict n advice) = verdictText subject n advice
-sentenceText subject name (Sentence.File said) = fileText subject said
-sentenceText subject name (Sentence.Part said) = partText subject name said
-sentenceText subject name (Sentence.Word said) = wordText subject said
-sentenceText subject name (Sentence.Unwritten n) = ascii "The output was not written whole: " ++ (reasonText n ++ ascii ".\n")
+sentenceText subject name sentence = replaced (markText subject name (refusalOf sentence) (reasonOf sentence)) (formOf sentence) ++ ascii "\n"

@@ -1,11 +1,13 @@
-// The sentences that the program says, one line each: of a file, of a part of it, of a word, and of the output. Every call is total.
+// The sentences that the program says, one line each: of a file, of a part of it, of a word, and of the output. Every call is total. A sentence is
+// a form of a table in which marks stand for what differs.
 ghost use mathlib.Core.Path.{_≡_};
-ghost use mathlib.Core.List.{_++_};
 ghost use Rattle.text.specs.Put.{Put};
 ghost use Rattle.text.specs.Ascii.{ascii};
-ghost use Rattle.sentences.specs.Shown.{printing, shownByte, shown, fileName};
-ghost use Rattle.sentences.specs.Reasons.{errorText, rareText, reasonText};
-ghost use Rattle.sentences.specs.Sentences.{isGzip, adviceOf, adviceText, refusalText, verdictText, fileText, noFieldText, ofText, partText, wordText, sentenceText};
+ghost use Rattle.meanings.specs.Meanings.{textIn};
+ghost use Rattle.sentences.specs.Shown.{replaced, printing, shownByte, shown, fileName};
+ghost use Rattle.sentences.specs.Reasons.{errorText, reasonText};
+ghost use Rattle.sentences.specs.Sentences.{isGzip, adviceOf, refusalOf, reasonOf, markText, sentenceText};
+ghost use Rattle.sentences.specs.Steps.{forms, verdictRow, rowOf};
 
 // What a person can do about a refused file.
 pub enum Advice {
@@ -25,13 +27,14 @@ pub enum OfPart {
     NoField,
     NoColumn,
     NotShown,
+    Nested,
+    IsColumn,
     Refused(u8),
 }
 
 // What is said of a word.
 pub enum OfWord {
     NoCommand,
-    NoNumber,
     NoStation,
     NoJob,
 }
@@ -72,186 +75,199 @@ fn is_gzip(file: &[u8]) -> bool
 pub fn put_sentence(buffer: &mut [u8], subject: &[u8], name: &[u8], sentence: Sentence) -> usize
     ensures { λ r. ⌜ Put (now (buffer .entry)) 0 (sentenceText (now (subject .entry)) (now (name .entry)) sentence) (now (buffer .exit)) r ⌝ }
 {
-    match sentence {
-        Sentence::Verdict(number, advice) => put_verdict(buffer, subject, number, advice),
-        Sentence::File(said) => put_file(buffer, subject, said),
-        Sentence::Part(said) => put_part(buffer, subject, name, said),
-        Sentence::Word(said) => put_word(buffer, subject, said),
-        Sentence::Unwritten(reason) => put_because(
-            buffer,
-            0,
-            b"The output was not written whole: ",
-            reason,
-        ),
-    }
-}
-
-// Puts the verdict on a file.
-fn put_verdict(buffer: &mut [u8], file: &[u8], number: u8, advice: Advice) -> usize
-    ensures { λ r. ⌜ Put (now (buffer .entry)) 0 (verdictText (now (file .entry)) number advice) (now (buffer .exit)) r ⌝ }
-{
-    let is = put_name(buffer, 0, file);
-    if number == refusal::ACCEPTED {
-        return text::put(buffer, is, b" is accepted.\n");
-    }
-    let refused = text::put(buffer, is, b" is ");
-    let advised = put_refusal(buffer, refused, number);
-    let end = put_advice(buffer, advised, advice);
+    let row = row_of(sentence);
+    let refusal = refusal_of(sentence);
+    let reason = reason_of(sentence);
+    let end = put_form(buffer, subject, name, row, refusal, reason);
     text::put_byte(buffer, end, b'\n')
 }
 
-// Puts what to do about a refused file.
-fn put_advice(buffer: &mut [u8], at: usize, advice: Advice) -> usize
-    ensures { λ r. ⌜ Put (now (buffer .entry)) at (adviceText advice) (now (buffer .exit)) r ⌝ }
+// The row of a sentence's form in the table of forms.
+fn row_of(sentence: Sentence) -> u32
+    ensures { λ r. ⌜ r ≡ rowOf sentence ⌝ }
 {
+    match sentence {
+        Sentence::Verdict(number, advice) => verdict_row(number, advice),
+        Sentence::File(said) => match said {
+            OfFile::TooLong => 5,
+            OfFile::Unreadable(_) => 6,
+        },
+        Sentence::Part(said) => match said {
+            OfPart::NoField => 7,
+            OfPart::NoColumn => 8,
+            OfPart::NotShown => 9,
+            OfPart::Nested => 10,
+            OfPart::IsColumn => 11,
+            OfPart::Refused(_) => 12,
+        },
+        Sentence::Word(said) => match said {
+            OfWord::NoCommand => 13,
+            OfWord::NoStation => 14,
+            OfWord::NoJob => 15,
+        },
+        Sentence::Unwritten(_) => 16,
+    }
+}
+
+// The row of the verdict on a file.
+fn verdict_row(number: u8, advice: Advice) -> u32
+    ensures { λ r. ⌜ r ≡ verdictRow number advice ⌝ }
+{
+    if number == refusal::ACCEPTED {
+        return 1;
+    }
     match advice {
-        Advice::None => at,
-        Advice::Floats => text::put(
-            buffer,
-            at,
-            b" If it has 64-bit floats (lead byte cb), write them as 32-bit floats.",
-        ),
-        Advice::Gzip => text::put(
-            buffer,
-            at,
-            b" It is compressed by gzip: unpack it first, with gunzip.",
-        ),
+        Advice::None => 2,
+        Advice::Floats => 3,
+        Advice::Gzip => 4,
     }
 }
 
-// Puts what is said of a file that was not judged.
-fn put_file(buffer: &mut [u8], file: &[u8], said: OfFile) -> usize
-    ensures { λ r. ⌜ Put (now (buffer .entry)) 0 (fileText (now (file .entry)) said) (now (buffer .exit)) r ⌝ }
+// The number of the refusal that a sentence says, or 0.
+fn refusal_of(sentence: Sentence) -> u8
+    ensures { λ r. ⌜ r ≡ refusalOf sentence ⌝ }
 {
-    let next = put_name(buffer, 0, file);
-    match said {
-        OfFile::TooLong => text::put(
-            buffer,
-            next,
-            b" has more than 65,536 bytes, the most that are read.\n",
-        ),
-        OfFile::Unreadable(reason) => put_because(buffer, next, b" cannot be read: ", reason),
+    match sentence {
+        Sentence::Verdict(number, _) => number,
+        Sentence::File(_) => 0,
+        Sentence::Part(said) => match said {
+            OfPart::NoField => 0,
+            OfPart::NoColumn => 0,
+            OfPart::NotShown => 0,
+            OfPart::Nested => 0,
+            OfPart::IsColumn => 0,
+            OfPart::Refused(number) => number,
+        },
+        Sentence::Word(_) => 0,
+        Sentence::Unwritten(_) => 0,
     }
 }
 
-// Puts what is said of a part of a file.
-fn put_part(buffer: &mut [u8], file: &[u8], name: &[u8], said: OfPart) -> usize
-    ensures { λ r. ⌜ Put (now (buffer .entry)) 0 (partText (now (file .entry)) (now (name .entry)) said) (now (buffer .exit)) r ⌝ }
+// The number of the system's error that a sentence says, or 0.
+fn reason_of(sentence: Sentence) -> u32
+    ensures { λ r. ⌜ r ≡ reasonOf sentence ⌝ }
 {
-    match said {
-        OfPart::NoField => put_no_field(buffer, file, name),
-        OfPart::NoColumn => put_of(
-            buffer,
-            b"field \"",
-            name,
-            file,
-            b" is not a column: its value is not a binary.\n",
-        ),
-        OfPart::NotShown => put_of(
-            buffer,
-            b"column \"",
-            name,
-            file,
-            b" is not shown: it has more than 65,536 values.\n",
-        ),
-        OfPart::Refused(number) => {
-            let refused = put_of(buffer, b"column \"", name, file, b" is ");
-            let end = put_refusal(buffer, refused, number);
-            text::put_byte(buffer, end, b'\n')
-        }
+    match sentence {
+        Sentence::Verdict(_, _) => 0,
+        Sentence::File(said) => match said {
+            OfFile::TooLong => 0,
+            OfFile::Unreadable(reason) => reason,
+        },
+        Sentence::Part(_) => 0,
+        Sentence::Word(_) => 0,
+        Sentence::Unwritten(reason) => reason,
     }
 }
 
-// Puts that a file has no field of a name.
-fn put_no_field(buffer: &mut [u8], file: &[u8], name: &[u8]) -> usize
-    ensures { λ r. ⌜ Put (now (buffer .entry)) 0 (noFieldText (now (file .entry)) (now (name .entry))) (now (buffer .exit)) r ⌝ }
+// Puts the form in a row of the table at the start of a buffer, each mark replaced. The table has for each form a byte with its row, the form, and a
+// line feed.
+fn put_form(
+    buffer: &mut [u8],
+    subject: &[u8],
+    name: &[u8],
+    row: u32,
+    refusal: u8,
+    reason: u32,
+) -> usize
+    ensures { λ r. ⌜ Put (now (buffer .entry)) 0 (replaced (markText (now (subject .entry)) (now (name .entry)) refusal reason) (textIn forms row)) (now (buffer .exit)) r ⌝ }
 {
-    let has = put_name(buffer, 0, file);
-    let field = text::put(buffer, has, b" has no field \"");
-    let end = put_shown(buffer, field, name);
-    text::put(buffer, end, b"\".\n")
+    let form = meanings::words_in(
+        b"\x01@ is accepted.\n\
+        \x02@ is refused with #: *.\n\
+        \x03@ is refused with #: *. If it has 64-bit floats (lead byte cb), write them as 32-bit floats.\n\
+        \x04@ is refused with #: *. It begins as a gzip file does: unpack it first, with gunzip.\n\
+        \x05@ is not judged: it has more than 65,536 bytes, the most that this program reads. The library takes files of up to 67,108,864 bytes.\n\
+        \x06@ cannot be read: !.\n\
+        \x07@ has no field \"$\".\n\
+        \x08Field \"$\" of & is not a column: its value is not a binary.\n\
+        \x09Column \"$\" of & is not shown: it has more than 65,536 values.\n\
+        \x0aField \"$\" of & is not shown as text: it is a map, or an array that holds a map or another array. With --raw its bytes are written.\n\
+        \x0bField \"$\" of & is a column: \"station column\" shows its values, and \"station view --raw\" its bytes.\n\
+        \x0cColumn \"$\" of & is refused with #: *.\n\
+        \x0d\"%\" is not a command. The command \"station help\" lists them.\n\
+        \x0eThe station must be a number from 1 to 99, and \"%\" is not.\n\
+        \x0fThe job must be a number from 1 to 999,999, and \"%\" is not.\n\
+        \x10The output was not written whole: !.\n",
+        row,
+    );
+    put_replaced(buffer, form, subject, name, refusal, reason)
 }
 
-// Puts what is said of a field or a column of a file.
-fn put_of(buffer: &mut [u8], what: &[u8], name: &[u8], file: &[u8], said: &[u8]) -> usize
-    ensures { λ r. ⌜ Put (now (buffer .entry)) 0 (ofText (now (what .entry)) (now (name .entry)) (now (file .entry)) (now (said .entry))) (now (buffer .exit)) r ⌝ }
+// Puts a form at the start of a buffer, each mark replaced.
+fn put_replaced(
+    buffer: &mut [u8],
+    form: &[u8],
+    subject: &[u8],
+    name: &[u8],
+    refusal: u8,
+    reason: u32,
+) -> usize
+    ensures { λ r. ⌜ Put (now (buffer .entry)) 0 (replaced (markText (now (subject .entry)) (now (name .entry)) refusal reason) (now (form .entry))) (now (buffer .exit)) r ⌝ }
 {
-    let begin = put_around(buffer, what, name, b"\" of ");
-    let end = put_name(buffer, begin, file);
-    text::put(buffer, end, said)
+    let mut next: usize = 0;
+    let mut i: usize = 0;
+    while i < form.len() {
+        next = put_mark(buffer, next, form[i], subject, name, refusal, reason);
+        i += 1;
+    }
+    next
 }
 
-// Puts what is said of a word.
-fn put_word(buffer: &mut [u8], word: &[u8], said: OfWord) -> usize
-    ensures { λ r. ⌜ Put (now (buffer .entry)) 0 (wordText (now (word .entry)) said) (now (buffer .exit)) r ⌝ }
+// Puts what stands for a byte of a form.
+fn put_mark(
+    buffer: &mut [u8],
+    at: usize,
+    mark: u8,
+    subject: &[u8],
+    name: &[u8],
+    refusal: u8,
+    reason: u32,
+) -> usize
+    ensures { λ r. ⌜ Put (now (buffer .entry)) at (markText (now (subject .entry)) (now (name .entry)) refusal reason mark) (now (buffer .exit)) r ⌝ }
 {
-    match said {
-        OfWord::NoCommand => put_around(
-            buffer,
-            b"\"",
-            word,
-            b"\" is not a command: station help lists them.\n",
-        ),
-        OfWord::NoNumber => put_around(buffer, b"\"", word, b"\" is not a number.\n"),
-        OfWord::NoStation => put_around(buffer, b"station ", word, b" is not 1 to 99.\n"),
-        OfWord::NoJob => put_around(buffer, b"job ", word, b" is not 1 to 999,999.\n"),
+    match mark {
+        b'@' => put_name(buffer, at, subject, b"Standard input"),
+        b'&' => put_name(buffer, at, subject, b"standard input"),
+        b'$' => put_shown(buffer, at, name),
+        b'%' => put_shown(buffer, at, subject),
+        b'#' => text::put_decimal(buffer, at, refusal as u32),
+        b'*' => meanings::put_meaning(buffer, at, refusal),
+        b'!' => put_reason(buffer, at, reason),
+        _ => text::put_byte(buffer, at, mark),
     }
 }
 
-// Puts a word between two texts at the start of a buffer.
-fn put_around(buffer: &mut [u8], before: &[u8], word: &[u8], after: &[u8]) -> usize
-    ensures { λ r. ⌜ Put (now (buffer .entry)) 0 (now (before .entry) ++ (shown (now (word .entry)) ++ now (after .entry))) (now (buffer .exit)) r ⌝ }
-{
-    let begin = text::put(buffer, 0, before);
-    let end = put_shown(buffer, begin, word);
-    text::put(buffer, end, after)
-}
-
-// Puts a refusal and its meaning.
-fn put_refusal(buffer: &mut [u8], at: usize, number: u8) -> usize
-    ensures { λ r. ⌜ Put (now (buffer .entry)) at (refusalText number) (now (buffer .exit)) r ⌝ }
-{
-    let digits = text::put(buffer, at, b"refused with ");
-    let colon = text::put_decimal(buffer, digits, number as u32);
-    let meaning = text::put(buffer, colon, b": ");
-    let end = meanings::put_meaning(buffer, meaning, number);
-    text::put_byte(buffer, end, b'.')
-}
-
-// Puts what failed and the system's reason.
-fn put_because(buffer: &mut [u8], at: usize, what: &[u8], reason: u32) -> usize
-    ensures { λ r. ⌜ Put (now (buffer .entry)) at (now (what .entry) ++ (reasonText reason ++ ascii ".\n")) (now (buffer .exit)) r ⌝ }
-{
-    let begin = text::put(buffer, at, what);
-    let end = put_reason(buffer, begin, reason);
-    text::put(buffer, end, b".\n")
-}
-
-// Puts the reason of a system's error in words.
+// Puts the reason of a system's error in words, or its number. The table has for each error a byte with its number, the words, and a line feed.
 fn put_reason(buffer: &mut [u8], at: usize, reason: u32) -> usize
     ensures { λ r. ⌜ Put (now (buffer .entry)) at (reasonText reason) (now (buffer .exit)) r ⌝ }
 {
-    match reason {
-        2 => text::put(buffer, at, b"No such file or directory"),
-        13 => text::put(buffer, at, b"Permission denied"),
-        20 => text::put(buffer, at, b"Not a directory"),
-        21 => text::put(buffer, at, b"Is a directory"),
-        36 => text::put(buffer, at, b"File name too long"),
-        _ => put_rare_reason(buffer, at, reason),
+    let words = meanings::words_in(
+        b"\x02No such file or directory\n\
+        \x04Interrupted system call\n\
+        \x05Input/output error\n\
+        \x06No such device or address\n\
+        \x09Bad file descriptor\n\
+        \x0cCannot allocate memory\n\
+        \x0dPermission denied\n\
+        \x14Not a directory\n\
+        \x15Is a directory\n\
+        \x17Too many open files in system\n\
+        \x18Too many open files\n\
+        \x1aText file busy\n\
+        \x1bFile too large\n\
+        \x1cNo space left on device\n\
+        \x1eRead-only file system\n\
+        \x20Broken pipe\n\
+        \x24File name too long\n\
+        \x28Too many levels of symbolic links\n\
+        \x4bValue too large for defined data type\n\
+        \x7aDisk quota exceeded\n",
+        reason,
+    );
+    if words.len() == 0 {
+        return put_error(buffer, at, reason);
     }
-}
-
-// Puts the reason of a rarer error in words, or its number.
-fn put_rare_reason(buffer: &mut [u8], at: usize, reason: u32) -> usize
-    ensures { λ r. ⌜ Put (now (buffer .entry)) at (rareText reason) (now (buffer .exit)) r ⌝ }
-{
-    match reason {
-        5 => text::put(buffer, at, b"Input/output error"),
-        9 => text::put(buffer, at, b"Bad file descriptor"),
-        28 => text::put(buffer, at, b"No space left on device"),
-        40 => text::put(buffer, at, b"Too many levels of symbolic links"),
-        _ => put_error(buffer, at, reason),
-    }
+    text::put(buffer, at, words)
 }
 
 // Puts the number of an error.
@@ -262,14 +278,14 @@ fn put_error(buffer: &mut [u8], at: usize, reason: u32) -> usize
     text::put_decimal(buffer, digits, reason)
 }
 
-// Puts the name of a file: standard input has the name "-".
-fn put_name(buffer: &mut [u8], at: usize, file: &[u8]) -> usize
-    ensures { λ r. ⌜ Put (now (buffer .entry)) at (fileName (now (file .entry))) (now (buffer .exit)) r ⌝ }
+// Puts the name of a file; `input` is that of standard input, which the command names "-".
+fn put_name(buffer: &mut [u8], at: usize, file: &[u8], input: &[u8]) -> usize
+    ensures { λ r. ⌜ Put (now (buffer .entry)) at (fileName (now (input .entry)) (now (file .entry))) (now (buffer .exit)) r ⌝ }
 {
     if text::same_bytes(file, b"-") {
-        return text::put(buffer, at, b"standard input");
+        return text::put(buffer, at, input);
     }
-    if text::same_bytes(file, b"") {
+    if file.len() == 0 {
         return text::put(buffer, at, b"\"\"");
     }
     put_shown(buffer, at, file)
@@ -295,9 +311,9 @@ fn put_shown_byte(buffer: &mut [u8], at: usize, byte: u8) -> usize
     if prints(byte) {
         return text::put_byte(buffer, at, byte);
     }
-    let high = text::put(buffer, at, b"\\x");
-    let low = text::put_byte(buffer, high, text::digit((byte / 16) as u32));
-    text::put_byte(buffer, low, text::digit((byte % 16) as u32))
+    let high = text::digit((byte / 16) as u32);
+    let low = text::digit((byte % 16) as u32);
+    text::put(buffer, at, &[b'\\', b'x', high, low])
 }
 
 // Whether a byte prints: it is neither below 32 nor 127.

@@ -53,8 +53,8 @@ filePlace Unknown = 3
 
 -- a number that a command asks for, 1 to a limit
 abbrev pub askedBy : Number → ℕ → Asked
-askedBy Number.None limit = Asked.NoNumber
-askedBy (Number.Is n) limit = cond (ltb n 1) Asked.Outside (cond (ltb limit n) Asked.Outside (Asked.Is n))
+askedBy Number.None limit = Asked.None
+askedBy (Number.Is n) limit = cond (ltb n 1) Asked.None (cond (ltb limit n) Asked.None (Asked.Is n))
 
 -- the number that a word says, if it is 1 to a limit
 abbrev pub askedOf : List ℕ → ℕ → Asked

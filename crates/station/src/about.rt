@@ -28,13 +28,13 @@ pub(crate) fn write_version() -> bool {
 // Says which words a command takes.
 pub(crate) fn say_usage_of(command: Command) {
     match command {
-        Command::Check => io::write_all(libc::STDERR_FILENO, b"usage: station check FILE...\n"),
+        Command::Check => io::write_all(libc::STDERR_FILENO, b"Usage: station check FILE...\n"),
         Command::Receipt => io::write_all(
             libc::STDERR_FILENO,
-            b"usage: station receipt STATION JOB FILE\n",
+            b"Usage: station receipt STATION JOB FILE\n",
         ),
-        Command::View => io::write_all(libc::STDERR_FILENO, b"usage: station view FILE NAME\n"),
-        Command::Column => io::write_all(libc::STDERR_FILENO, b"usage: station column FILE NAME\n"),
+        Command::View => io::write_all(libc::STDERR_FILENO, b"Usage: station view FILE NAME\n"),
+        Command::Column => io::write_all(libc::STDERR_FILENO, b"Usage: station column FILE NAME\n"),
         _ => true,
     }
     ;

@@ -93,19 +93,18 @@ fn receipt_of() -> Status {
     )
 }
 
-// The number that a word says; or says that it is none, or what it is not.
-fn number_at(place: usize, limit: u32, outside: OfWord) -> Asked {
+// The number that a word says, if it is 1 to a limit; else says what it must be.
+fn number_at(place: usize, limit: u32, other: OfWord) -> Asked {
     let mut word = io::buffer();
     let n = os::arg(place, &mut word);
     if os::errno() != 0 {
         say::say_long_word();
-        return Asked::NoNumber;
+        return Asked::None;
     }
     let asked = words::number_in(&word[..n], limit);
     match asked {
         Asked::Is(_) => {}
-        Asked::Outside => say::say(&word[..n], b"", Sentence::Word(outside)),
-        Asked::NoNumber => say::say(&word[..n], b"", Sentence::Word(OfWord::NoNumber)),
+        Asked::None => say::say(&word[..n], b"", Sentence::Word(other)),
     }
     asked
 }

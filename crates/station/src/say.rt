@@ -32,6 +32,6 @@ pub(crate) fn say_unwritten() {
 pub(crate) fn say_long_word() {
     io::write_all(
         libc::STDERR_FILENO,
-        b"A word has more than 4,096 bytes, the most that are read.\n",
+        b"A word has more than 4,096 bytes, the most that this program reads.\n",
     );
 }

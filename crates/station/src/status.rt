@@ -58,6 +58,8 @@ pub(crate) fn of_part(said: OfPart) -> Status
         OfPart::NoField => Status::Nothing,
         OfPart::NoColumn => Status::Nothing,
         OfPart::NotShown => Status::Nothing,
+        OfPart::Nested => Status::Nothing,
+        OfPart::IsColumn => Status::Nothing,
         OfPart::Refused(_) => Status::Refused,
     }
 }

@@ -14,11 +14,10 @@ pub enum Command {
     Unknown,
 }
 
-// A number that a command asks for: in its range, outside it, or no number.
+// A number that a command asks for, or none: the word says no number, or one that is out of range.
 pub enum Asked {
     Is(u32),
-    Outside,
-    NoNumber,
+    None,
 }
 
 // The command that a word names.
@@ -94,13 +93,13 @@ pub(crate) fn number_in(word: &[u8], limit: u32) -> Asked
     ensures { λ r. ⌜ r ≡ askedOf (now (word .entry)) limit ⌝ }
 {
     let Number::Is(number) = text::number_of(word) else {
-        return Asked::NoNumber;
+        return Asked::None;
     };
     if number < 1 {
-        return Asked::Outside;
+        return Asked::None;
     }
     if limit < number {
-        return Asked::Outside;
+        return Asked::None;
     }
     Asked::Is(number)
 }

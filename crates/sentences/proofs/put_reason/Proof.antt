@@ -1,31 +1,31 @@
--- Each arm is the definition's case. Assumes nothing.
-use mathlib.Core.Path.{ap}
-use borrow.Author.Tests.{ne-eqb}
+-- The literal is the table of reasons as bytes, which is computed once over all of it. Assumes nothing.
+use mathlib.Core.Path.{_≡_, refl, sym, ap, _∙_}
+use mathlib.Core.List.{List}
+use Prim.Native.Nat.{ℕ}
+use lib.ListN.{length}
+use borrow.Author.Tests.{eq-eqb, ne-eqb}
 use borrow.Author.Needs.{needs}
 use Rattle.text.specs.Laws.Put.{put-as}
-use Rattle.sentences.specs.Reasons.{reasonText}
+use Rattle.meanings.specs.Meanings.{textIn}
+use Rattle.meanings.specs.Steps.{rowsOf}
+use Rattle.meanings.specs.Laws.Steps.{table-words}
+use Rattle.sentences.specs.Reasons.{reasons, errorText, reasonText}
 use Rattle.sentences.proofs.put_reason.Statement.{statement}
 use Rattle.sentences.proofs.put_reason.Tie as tie
 
+no-words : {words : List ℕ} (n : ℕ) → words ≡ textIn reasons n → length words ≡ 0 → reasonText n ≡ errorText n
+no-words n e z = rw (eq-eqb (length (textIn reasons n)) 0 (sym (ap length e) ∙ z))
+
+some-words : {words : List ℕ} (n : ℕ) → words ≡ textIn reasons n → (length words ≡ 0 → ⊥) → reasonText n ≡ words
+some-words n e z = rw (ne-eqb (length (textIn reasons n)) 0 (λ q. z (ap length e ∙ q))) (sym e)
+
 returns : tie.Need-returns
-returns c = put-as (c .before .before .put .ensures) (ap reasonText (c .before .before .before .before .before .match .keys1))
+unfolding reasons rowsOf
+returns c = put-as (c .before .before .put-error .ensures) (no-words (c .before .before .before .before .before .before .before .before .args .reason) (c .before .before .before .before .before .words-in .ensures ∙ table-words reasons (c .before .before .before .before .before .before .before .before .args .reason) refl refl) (c .before .before .before .before .if1 .taken))
 
 returns-2 : tie.Need-returns-2
-returns-2 c = put-as (c .before .before .put2 .ensures) (ap reasonText (c .before .before .before .before .before .match .keys2))
-
-returns-3 : tie.Need-returns-3
-returns-3 c = put-as (c .before .before .put3 .ensures) (ap reasonText (c .before .before .before .before .before .match .keys3))
-
-returns-4 : tie.Need-returns-4
-returns-4 c = put-as (c .before .before .put4 .ensures) (ap reasonText (c .before .before .before .before .before .match .keys4))
-
-returns-5 : tie.Need-returns-5
-returns-5 c = put-as (c .before .before .put5 .ensures) (ap reasonText (c .before .before .before .before .before .match .keys5))
-
-returns-6 : tie.Need-returns-6
-returns-6 c =
-    let no = c .before .before .before .before .match .rest in
-    put-as (c .before .before .put-rare-reason .ensures) (rw (ne-eqb _ _ (no .0 .0 .0 .0 .1), ne-eqb _ _ (no .0 .0 .0 .1), ne-eqb _ _ (no .0 .0 .1), ne-eqb _ _ (no .0 .1), ne-eqb _ _ (no .1)))
+unfolding reasons rowsOf
+returns-2 c = put-as (c .before .before .put .ensures) (some-words (c .before .before .before .before .before .before .before .before .args .reason) (c .before .before .before .before .before .words-in .ensures ∙ table-words reasons (c .before .before .before .before .before .before .before .before .args .reason) refl refl) (c .before .before .before .before .if1 .left))
 
 pub put-reason-spec : {M : Type 1} → statement M
 put-reason-spec =
@@ -33,24 +33,9 @@ put-reason-spec =
     (tie.spec
     (λ c. search needs)
     (λ c κs. search needs)
-    (λ c. search needs)
-    (λ c κs. search needs)
-    (λ c. search needs)
-    (λ c κs. search needs)
-    (λ c. search needs)
-    (λ c κs. search needs)
-    (λ c. search needs)
-    (λ c κs. search needs)
     (λ c κs. search needs)
     (λ c. search needs)
     returns
+    (λ c κs. search needs)
     (λ c. search needs)
-    returns-2
-    (λ c. search needs)
-    returns-3
-    (λ c. search needs)
-    returns-4
-    (λ c. search needs)
-    returns-5
-    (λ c. search needs)
-    returns-6)
+    returns-2)

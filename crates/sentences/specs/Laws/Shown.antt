@@ -1,4 +1,5 @@
--- Laws of how a word is shown: one byte after the other, and every byte prints, so that no line feed is among them. Assumes nothing.
+-- Laws of what stands for bytes, one after the other, and of how a word is shown: every byte prints, so that no line feed is among them.
+-- Assumes nothing.
 use mathlib.Core.Path.{_≡_, refl}
 use mathlib.Core.Bool.{Bool, true, false, cond}
 use mathlib.Core.List.{List, [], _∷_, _++_, append-assoc, append-nil}
@@ -7,17 +8,17 @@ use native.Mathlib.Omega.{arith}
 use lib.Dec.{ltb}
 use borrow.Author.Tests.{le-ltb, ne-eqb}
 use Rattle.text.specs.Decimal.{glyph}
-use Rattle.sentences.specs.Shown.{printing, shownByte, shown}
+use Rattle.sentences.specs.Shown.{replaced, printing, shownByte, shown}
 
-pub shown-none : shown [] ≡ []
-unfolding shown
-shown-none = refl
+pub replaced-none : (f : ℕ → List ℕ) → replaced f [] ≡ []
+unfolding replaced
+replaced-none f = refl
 
 -- a byte more at the end
-pub shown-last : (s : List ℕ) (b : ℕ) → shown (s ++ (b ∷ [])) ≡ shown s ++ shownByte b
-unfolding shown
-shown-last [] b = simp append-nil
-shown-last (a ∷ s) b = rw (shown-last s b) (simp append-assoc)
+pub replaced-last : (f : ℕ → List ℕ) (s : List ℕ) (b : ℕ) → replaced f (s ++ (b ∷ [])) ≡ replaced f s ++ f b
+unfolding replaced
+replaced-last f [] b = simp append-nil
+replaced-last f (a ∷ s) b = rw (replaced-last f s b) (simp append-assoc)
 
 -- every byte of a list prints
 pub data Prints : List ℕ → Type 0 where
@@ -48,6 +49,6 @@ prints-byte b = go (printing b) refl
 
 -- whatever a word holds, every byte that is shown of it prints
 pub shown-prints : (s : List ℕ) → Prints (shown s)
-unfolding shown
+unfolding replaced
 shown-prints [] = none
 shown-prints (b ∷ s) = prints-join (prints-byte b) (shown-prints s)
