@@ -1,4 +1,6 @@
--- The values of a column as lines: `Lines`, over `Texts`.
+-- The values of a column as lines: `Lines`, over `Texts` and, for floats in decimal, `Decimals`. `Figures` is what inner steps speak of.
 pub mod Texts
+pub mod Figures
+pub mod Decimals
 pub mod Lines
 pub mod Laws

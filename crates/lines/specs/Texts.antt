@@ -55,6 +55,10 @@ fractionOf bits = bits % 0x80_0000
 abbrev pub signText : ℕ → List ℕ
 signText bits = cond (ltb bits 0x8000_0000) [] (ascii "-")
 
+-- exponent 255 is an infinity or no number
+abbrev pub specialText : ℕ → List ℕ
+specialText bits = cond (eqb (fractionOf bits) 0) (signText bits ++ ascii "inf") (ascii "nan")
+
 -- the digit before the point: 0 for zero and subnormal floats, else 1
 abbrev pub leadOf : ℕ → ℕ
 leadOf e = cond (eqb e 0) 0 1
@@ -71,12 +75,9 @@ exponentText e = cond (ltb e 127) (ascii "p-" ++ decimal (127 - e)) (ascii "p+" 
 abbrev pub finiteText : ℕ → ℕ → List ℕ
 finiteText e f = ascii "0x" ++ ((glyph (leadOf e) ∷ []) ++ (ascii "." ++ (digits 16 6 (f * 2) ++ exponentText (scaledOf e f))))
 
--- exponent 255 is an infinity or no number
-abbrev pub floatText : ℕ → List ℕ
-floatText bits =
-    cond (eqb (exponentOf bits) 255)
-    (cond (eqb (fractionOf bits) 0) (signText bits ++ ascii "inf") (ascii "nan"))
-    (signText bits ++ finiteText (exponentOf bits) (fractionOf bits))
+-- a float by its 32 bits
+abbrev pub bitsText : ℕ → List ℕ
+bitsText bits = cond (eqb (exponentOf bits) 255) (specialText bits) (signText bits ++ finiteText (exponentOf bits) (fractionOf bits))
 
 -- Names
 

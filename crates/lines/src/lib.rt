@@ -1,10 +1,13 @@
 // The values of a column as lines of text in a lent buffer: as many lines as have room. Every call is total.
+mod exact;
+
 ghost use mathlib.Core.Path.{_≡_};
 ghost use Prim.Native.Nat.{_+_, _<_, _≤_};
 ghost use lib.ListN.{length, take};
 ghost use Rattle.text.specs.Put.{Put};
 ghost use Rattle.lines.specs.Texts.{digits, placesOf, fractionText, magnitudeText, numberText, signText};
-ghost use Rattle.lines.specs.Texts.{leadOf, scaledOf, exponentText, finiteText, floatText, nameText};
+ghost use Rattle.lines.specs.Texts.{leadOf, scaledOf, exponentText, finiteText, specialText, bitsText, nameText};
+ghost use Rattle.lines.specs.Decimals.{floatText};
 ghost use Rattle.lines.specs.Lines.{line, Lines, namesIn};
 
 // How many values were put as lines, and how many bytes these take.
@@ -21,6 +24,9 @@ pub enum Places {
 
 // The room that the line of a number always has.
 const ROOM: usize = 32;
+
+// The room that the line of a float in decimal always has.
+const FLOAT_ROOM: usize = 192;
 
 // Numbers over a divisor, a line each: exactly so many decimal places if the divisor is a power of ten, else the number, a slash and
 // the divisor.
@@ -46,9 +52,31 @@ pub fn number_lines(values: &[i32], divisor: u32, buffer: &mut [u8]) -> Gathered
     }
 }
 
-// Floats of single precision by their bits, a line each, in C's hexadecimal notation.
+// Floats of single precision by their bits, a line each, in exact decimal.
 pub fn float_lines(values: &[u32], buffer: &mut [u8]) -> Gathered
-    ensures { λ r. ⌜ Lines floatText 32 (now (values .entry)) (now (buffer .entry)) (now (buffer .exit)) r ⌝ }
+    ensures { λ r. ⌜ Lines floatText 192 (now (values .entry)) (now (buffer .entry)) (now (buffer .exit)) r ⌝ }
+{
+    let mut at: usize = 0;
+    let mut i: usize = 0;
+    while i < values.len() {
+        if buffer.len() - at < FLOAT_ROOM {
+            return Gathered {
+                values: i,
+                bytes: at,
+            };
+        }
+        at = put_float(buffer, at, values[i]);
+        i += 1;
+    }
+    Gathered {
+        values: i,
+        bytes: at,
+    }
+}
+
+// Floats of single precision by their bits, a line each, in C's hexadecimal notation.
+pub fn bits_lines(values: &[u32], buffer: &mut [u8]) -> Gathered
+    ensures { λ r. ⌜ Lines bitsText 32 (now (values .entry)) (now (buffer .entry)) (now (buffer .exit)) r ⌝ }
 {
     let mut at: usize = 0;
     let mut i: usize = 0;
@@ -59,7 +87,7 @@ pub fn float_lines(values: &[u32], buffer: &mut [u8]) -> Gathered
                 bytes: at,
             };
         }
-        at = put_float(buffer, at, values[i]);
+        at = put_bits(buffer, at, values[i]);
         i += 1;
     }
     Gathered {
@@ -174,18 +202,37 @@ fn put_digits(buffer: &mut [u8], at: usize, number: u32, base: u32, k: usize) ->
     text::put_byte(buffer, last, text::digit(number % base))
 }
 
-// Puts the line of a float.
+// Puts the line of a float in decimal.
 fn put_float(buffer: &mut [u8], at: usize, bits: u32) -> usize
     ensures { λ r. ⌜ Put (now (buffer .entry)) at (line floatText bits) (now (buffer .exit)) r ⌝ }
 {
     let exponent = bits / 0x80_0000 % 256;
-    let fraction = bits % 0x80_0000;
-    if exponent != 255 {
-        let first = put_sign(buffer, at, bits);
-        let end = put_finite(buffer, first, exponent, fraction);
-        return text::put_byte(buffer, end, b'\n');
+    if exponent == 255 {
+        return put_special(buffer, at, bits);
     }
-    if fraction == 0 {
+    let first = put_sign(buffer, at, bits);
+    let end = exact::put_exact(buffer, first, exponent, bits % 0x80_0000);
+    text::put_byte(buffer, end, b'\n')
+}
+
+// Puts the line of a float in hexadecimal.
+fn put_bits(buffer: &mut [u8], at: usize, bits: u32) -> usize
+    ensures { λ r. ⌜ Put (now (buffer .entry)) at (line bitsText bits) (now (buffer .exit)) r ⌝ }
+{
+    let exponent = bits / 0x80_0000 % 256;
+    if exponent == 255 {
+        return put_special(buffer, at, bits);
+    }
+    let first = put_sign(buffer, at, bits);
+    let end = put_finite(buffer, first, exponent, bits % 0x80_0000);
+    text::put_byte(buffer, end, b'\n')
+}
+
+// Puts the line of an infinity or of what is no number.
+fn put_special(buffer: &mut [u8], at: usize, bits: u32) -> usize
+    ensures { λ r. ⌜ Put (now (buffer .entry)) at (line specialText bits) (now (buffer .exit)) r ⌝ }
+{
+    if bits % 0x80_0000 == 0 {
         let first = put_sign(buffer, at, bits);
         return text::put(buffer, first, b"inf\n");
     }

@@ -30,7 +30,7 @@ pub(crate) fn write_numbers(values: &[i32], divisor: u32) -> bool {
     true
 }
 
-// Writes floats by their bits, a line each.
+// Writes floats in decimal, a line each.
 pub(crate) fn write_floats(values: &[u32]) -> bool {
     let mut buffer = io::large_buffer();
     let mut from: usize = 0;

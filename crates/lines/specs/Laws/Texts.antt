@@ -16,7 +16,7 @@ use Rattle.text.specs.Decimal.{glyph, decimal}
 use Rattle.text.specs.Laws.Decimal.{decimal-few}
 use Rattle.lines.specs.declared.Places.{Places}
 use Rattle.lines.specs.declared.Places.the-variants.{Exactly, Endless}
-use Rattle.lines.specs.Texts.{digits, placesBelow, placesOf, fractionText, quotientText, magnitudeText, numberText, exponentOf, fractionOf, signText, scaledOf, exponentText, finiteText, floatText, nameText}
+use Rattle.lines.specs.Texts.{digits, placesBelow, placesOf, fractionText, quotientText, magnitudeText, numberText, exponentOf, fractionOf, signText, scaledOf, specialText, exponentText, finiteText, bitsText, nameText}
 use Rattle.lines.specs.Lines.{line}
 
 -- Digits
@@ -121,19 +121,28 @@ finite-few e f =
     let b = exponent-few (scaledOf e f) in
     simp length-append (omega arith)
 
-pub float-few : (bits : ℕ) → length (line floatText bits) ≤ 32
-float-few bits = by (eqb (exponentOf bits) 255) (eqb (fractionOf bits) 0)
+special-few : (bits : ℕ) → length (specialText bits) ≤ 4
+special-few bits = by (eqb (fractionOf bits) 0)
   where
-    by : (special infinite : Bool)
-        → length (cond special (cond infinite (signText bits ++ (105 ∷ 110 ∷ 102 ∷ [])) (110 ∷ 97 ∷ 110 ∷ [])) (signText bits ++ finiteText (exponentOf bits) (fractionOf bits)) ++ (10 ∷ [])) ≤ 32
-    by true true = let a = sign-few bits in simp length-append (omega arith)
-    by true false = omega arith
-    by false i =
+    by : (infinite : Bool) → length (cond infinite (signText bits ++ (105 ∷ 110 ∷ 102 ∷ [])) (110 ∷ 97 ∷ 110 ∷ [])) ≤ 4
+    by true = let a = sign-few bits in simp length-append (omega arith)
+    by false = omega arith
+
+-- the line of a float, for a text of finite floats that has at most so many bytes
+pub float-line-few : (finite : List ℕ) (few bits : ℕ) → 4 ≤ few → length finite ≤ few
+    → length (cond (eqb (exponentOf bits) 255) (specialText bits) (signText bits ++ finite) ++ (10 ∷ [])) ≤ few + 2
+float-line-few finite few bits m h = by (eqb (exponentOf bits) 255)
+  where
+    by : (special : Bool) → length (cond special (specialText bits) (signText bits ++ finite) ++ (10 ∷ [])) ≤ few + 2
+    by true = let a = special-few bits in let b = length-append (specialText bits) (10 ∷ []) in omega arith
+    by false =
         let a = sign-few bits in
-        let b = finite-few (exponentOf bits) (fractionOf bits) in
-        let c = length-append (signText bits) (finiteText (exponentOf bits) (fractionOf bits)) in
-        let d = length-append (signText bits ++ finiteText (exponentOf bits) (fractionOf bits)) (10 ∷ []) in
+        let b = length-append (signText bits) finite in
+        let c = length-append (signText bits ++ finite) (10 ∷ []) in
         omega arith
+
+pub bits-few : (bits : ℕ) → length (line bitsText bits) ≤ 32
+bits-few bits = let h = float-line-few (finiteText (exponentOf bits) (fractionOf bits)) 22 bits (omega arith) (finite-few (exponentOf bits) (fractionOf bits)) in omega arith
 
 name-few : (s : List ℕ) → length (nameText s) ≤ length s
 unfolding nameText

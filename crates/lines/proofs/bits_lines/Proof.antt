@@ -1,0 +1,57 @@
+-- The lines of the values before i stand in the buffer.
+use Prim.Native.Nat.{_-_}
+use native.Mathlib.Omega.{arith}
+use lib.ListN.{length}
+use borrow.Author.Needs.{needs}
+use Rattle.text.specs.Laws.Put.{put-length}
+use Rattle.lines.specs.Texts.{bitsText}
+use Rattle.lines.specs.Laws.Texts.{bits-few}
+use Rattle.lines.specs.Laws.Lines.{GoingAt, at-start, at-more, at-full, at-done}
+use Rattle.lines.proofs.bits_lines.Statement.{statement}
+use Rattle.lines.proofs.bits_lines.Tie as tie
+
+abbrev Inv-loop : tie.InvT-loop
+Inv-loop values buffer₀ at₀ i₀ buffer at i = GoingAt bitsText 32 values i buffer₀ buffer at
+
+abbrev μ-loop : tie.MeasureT-loop
+μ-loop values buffer₀ at₀ i₀ buffer at i = length values - i
+
+sub-if1 : tie.Need-sub-if1 Inv-loop μ-loop
+sub-if1 c = let g = c .before .loop .inv .going in let l = put-length (g .put) in omega (arith, g .inside)
+
+same-length : tie.Need-same-length Inv-loop μ-loop
+same-length c = put-length (c .before .before .loop .inv .going .put)
+
+returns : tie.Need-returns Inv-loop μ-loop
+returns c = let g = c .before .before .loop .inv in let l = put-length (g .going .put) in at-full bitsText 32 _ g (omega arith)
+
+loop-again : tie.Need-loop-again Inv-loop μ-loop
+loop-again c =
+    let p = c .before .before .before .before .before .before .before .loop in
+    let l = put-length (p .inv .going .put) in
+    at-more bitsText 32 _ (p .inv) 0 (omega arith) (omega arith) bits-few (c .before .before .put-bits .ensures)
+
+same-length-2 : tie.Need-same-length-2 Inv-loop μ-loop
+same-length-2 c = put-length (c .before .loop .inv .going .put)
+
+returns-2 : tie.Need-returns-2 Inv-loop μ-loop
+returns-2 c = at-done bitsText 32 _ (c .before .loop .inv) (omega arith)
+
+pub bits-lines-spec : {M : Type 1} → statement M
+bits-lines-spec =
+    tie.close
+    (tie.spec
+    Inv-loop
+    μ-loop
+    (λ c. at-start bitsText 32 _ _)
+    sub-if1
+    same-length
+    returns
+    (λ c. search needs)
+    (λ c. omega arith)
+    (λ c κs. tt)
+    (λ c. omega arith)
+    (λ c. omega arith)
+    loop-again
+    same-length-2
+    returns-2)
