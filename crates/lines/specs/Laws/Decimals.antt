@@ -11,6 +11,7 @@ use lib.Dec.{eqb, ltb}
 use lib.ListN.{length, getD, take, drop, length-append}
 use borrow.Author.Tests.{lt-ltb, le-ltb, ltb-true, eqb-true, eqb-false}
 use Rattle.text.specs.Decimal.{glyph, decimalIn, valueFrom}
+use Rattle.text.specs.Laws.Decimal.{glyph-digit, decimal-room, decimalIn-value, decimalIn-few}
 use Rattle.lines.specs.Texts.{digits, exponentOf, fractionOf}
 use Rattle.lines.specs.Decimals.{placesText, scaledText, binaryText, exactText, floatText}
 use Rattle.lines.specs.Figures.{figures, glyphs, trimmed}
@@ -20,18 +21,7 @@ use Rattle.lines.specs.Lines.{line}
 
 -- The digits of a whole number
 
-glyph-digit : (n : ℕ) → n < 10 → glyph n ≡ 48 + n
-glyph-digit n h = let e : n % 16 ≡ n = omega arith in rw e (simp (lt-ltb n 10 h))
-
--- a number below a power of ten needs no digit more
-decimal-room : (k n : ℕ) → n < 10 ^ suc k → decimalIn (suc k) n ≡ decimalIn k n
-unfolding decimalIn
-decimal-room zero n h = let e : 48 + n ≡ 48 + n % 10 = omega arith in simp (lt-ltb n 10 h) (ap (λ (d : ℕ). d ∷ []) e)
-decimal-room (suc k) n h =
-    let e = pow-suc 10 (suc k) in
-    ap (λ (l : List ℕ). cond (ltb n 10) ((48 + n) ∷ []) (l ++ ((48 + n % 10) ∷ []))) (decimal-room k (n / 10) (omega arith))
-
--- a number that is not below it has all its digits
+-- a number that is not below a power of ten has all its digits
 decimal-full : (k n : ℕ) → (0 < k → 10 ^ k ≤ n) → decimalIn k n ≡ digits 10 (suc k) n
 unfolding decimalIn digits
 decimal-full zero n h = ap (λ (d : ℕ). d ∷ []) (sym (glyph-digit (n % 10) (omega arith)))
@@ -169,17 +159,6 @@ digits-say (suc k) n v =
     let a = mul-assoc v (10 ^ k) 10 in
     rw (value-more (digits 10 k (n / 10)) (glyph (n % 10) ∷ []) v, e, g, pow-suc 10 k, mod-ten (10 ^ k) n p) (omega arith)
 
-decimal-says : (k n : ℕ) → n < 10 ^ suc k → valueFrom 0 (decimalIn k n) ≡ n
-unfolding decimalIn valueFrom
-decimal-says zero n h = omega arith
-decimal-says (suc k) n h =
-    let e = pow-suc 10 (suc k) in
-    by (ltb n 10) refl (decimal-says k (n / 10) (omega arith))
-  where
-    by : (test : Bool) → ltb n 10 ≡ test → valueFrom 0 (decimalIn k (n / 10)) ≡ n / 10 → valueFrom 0 (cond test ((48 + n) ∷ []) (decimalIn k (n / 10) ++ ((48 + n % 10) ∷ []))) ≡ n
-    by true t i = omega arith
-    by false t i = rw (value-more (decimalIn k (n / 10)) ((48 + n % 10) ∷ []) 0, i) (omega arith)
-
 places-say : (k n v : ℕ) → valueFrom v (placesText k n) * 10 ^ k ≡ (v * 10 ^ k + n % 10 ^ k) * 10 ^ length (placesText k n)
 unfolding placesText valueFrom
 places-say zero n v = omega arith
@@ -201,7 +180,7 @@ places-say (suc k) n v = by (eqb (n % 10) 0) refl (places-say k (n / 10) v)
 pub scaled-says : (k n : ℕ) → n < 10 ^ (k + 39) → valueFrom 0 (decimalIn 38 (n / 10 ^ k) ++ placesText k n) * 10 ^ k ≡ n * 10 ^ length (placesText k n)
 scaled-says k n b =
     let q = div-lt-iff-lt-mul {k = 10 ^ k} {x = n} {y = 10 ^ 39} (one-le-pow k 10 (omega arith)) .1 (rw (← ten-power k 39) b) in
-    rw (value-more (decimalIn 38 (n / 10 ^ k)) (placesText k n) 0, decimal-says 38 (n / 10 ^ k) q, places-say k n (n / 10 ^ k), div-add-mod' n (10 ^ k))
+    rw (value-more (decimalIn 38 (n / 10 ^ k)) (placesText k n) 0, decimalIn-value 38 (n / 10 ^ k) q, places-say k n (n / 10 ^ k), div-add-mod' n (10 ^ k))
 
 ten-parts : (k : ℕ) → 10 ^ k ≡ 2 ^ k * 5 ^ k
 ten-parts zero = refl
@@ -219,15 +198,6 @@ binary-says m k h = go (valueFrom 0 (decimalIn 38 (m * 5 ^ k / 10 ^ k) ++ places
 
 -- How long a line can be
 
-decimal-few : (k n : ℕ) → length (decimalIn k n) ≤ suc k
-unfolding decimalIn
-decimal-few zero n = omega arith
-decimal-few (suc k) n = by (ltb n 10) (decimal-few k (n / 10))
-  where
-    by : (test : Bool) → length (decimalIn k (n / 10)) ≤ suc k → length (cond test ((48 + n) ∷ []) (decimalIn k (n / 10) ++ ((48 + n % 10) ∷ []))) ≤ suc (suc k)
-    by true h = omega arith
-    by false h = simp length-append (omega arith)
-
 places-few : (k n : ℕ) → length (placesText k n) ≤ k + 1
 unfolding placesText
 places-few zero n = omega arith
@@ -240,7 +210,7 @@ places-few (suc k) n = by (eqb (n % 10) 0) (places-few k (n / 10)) (digits-lengt
 scaled-few : (k n : ℕ) → k ≤ 149 → length (scaledText k n) ≤ 190
 unfolding scaledText
 scaled-few k n h =
-    let a = decimal-few 38 (n / 10 ^ k) in
+    let a = decimalIn-few 38 (n / 10 ^ k) in
     let b = places-few k n in
     let c = length-append (decimalIn 38 (n / 10 ^ k)) (46 ∷ placesText k n) in
     omega arith

@@ -10,9 +10,9 @@ use lib.Dec.{ltb, lit<}
 use lib.ListN.{length, getD, set, drop, replicate, drop-of-length-le}
 use lib.Seq.{drop-cons, sets}
 use Rattle.numbers.specs.Laws.Tests.{and-left, and-right}
-use borrow.Author.Tests.{eq-eqb, ne-eqb, le-leb, lt-leb, lt-ltb, ltb-true, ltb-false}
+use borrow.Author.Tests.{eq-eqb, ne-eqb, le-leb, lt-leb, ltb-true, ltb-false}
 use Rattle.text.specs.Decimal.{glyph, decimal}
-use Rattle.text.specs.Laws.Decimal.{decimal-one, decimal-more}
+use Rattle.text.specs.Laws.Decimal.{glyph-digit, decimal-one, decimal-more}
 use Rattle.receipt.specs.Receipt.{line}
 use Rattle.receipt.specs.Reading.{withByte, receiptFrom, lineNumbers}
 
@@ -99,11 +99,6 @@ numbers-other b n rest h = rw (ne-eqb b 10 (λ e. omega arith), ← byte-high n 
 numbers-plain : (bs rest : List ℕ) (n : ℕ) → plain bs ≡ true → lineNumbers (bs ++ rest) n ≡ lineNumbers rest n
 numbers-plain [] rest n h = refl
 numbers-plain (b ∷ bs) rest n h = numbers-other b n (bs ++ rest) (ltb-true 57 b (and-left (ltb 57 b) (plain bs) h)) ∙ numbers-plain bs rest n (and-right (ltb 57 b) (plain bs) h)
-
-glyph-digit : (d : ℕ) → d < 10 → glyph d ≡ 48 + d
-glyph-digit d h =
-    let e : d % 16 ≡ d = omega arith in
-    rw (e, lt-ltb d 10 h)
 
 numbers-digit : (d n : ℕ) (rest : List ℕ) → d < 10 → n < 100000000 → lineNumbers (glyph d ∷ rest) n ≡ lineNumbers rest (n * 10 + d)
 unfolding lineNumbers

@@ -13,7 +13,7 @@ use Rattle.text.specs.declared.Number.the-variants.{Is, None}
 use Rattle.text.specs.Decimal.{glyph, decimalIn, decimal, allDigits, valueFrom, most, numberIn}
 
 -- a decimal digit is one of base 16
-glyph-digit : (n : ℕ) → n < 10 → glyph n ≡ 48 + n
+pub glyph-digit : (n : ℕ) → n < 10 → glyph n ≡ 48 + n
 glyph-digit n h = let e : n % 16 ≡ n = omega arith in rw e (simp (lt-ltb n 10 h))
 
 -- one digit
@@ -22,7 +22,7 @@ unfolding decimal decimalIn
 decimal-one n h = simp (lt-ltb n 10 h) (ap (λ (d : ℕ). d ∷ []) (sym (glyph-digit n h)))
 
 -- more room changes nothing
-decimal-room : (k n : ℕ) → n < 10 ^ suc k → decimalIn (suc k) n ≡ decimalIn k n
+pub decimal-room : (k n : ℕ) → n < 10 ^ suc k → decimalIn (suc k) n ≡ decimalIn k n
 unfolding decimalIn
 decimal-room zero n h = let e : 48 + n ≡ 48 + n % 10 = omega arith in simp (lt-ltb n 10 h) (ap (λ (d : ℕ). d ∷ []) e)
 decimal-room (suc k) n h =
@@ -48,7 +48,7 @@ unfolding valueFrom
 value-last [] n d = refl
 value-last (b ∷ s) n d = value-last s (n * 10 + (b - 48)) d
 
-decimalIn-value : (k n : ℕ) → n < 10 ^ suc k → valueFrom 0 (decimalIn k n) ≡ n
+pub decimalIn-value : (k n : ℕ) → n < 10 ^ suc k → valueFrom 0 (decimalIn k n) ≡ n
 unfolding decimalIn valueFrom
 decimalIn-value zero n h = omega arith
 decimalIn-value (suc k) n h =
@@ -65,7 +65,7 @@ unfolding decimal
 decimal-value n h = decimalIn-value 9 n h
 
 -- at most ten digits
-decimalIn-few : (k n : ℕ) → length (decimalIn k n) ≤ suc k
+pub decimalIn-few : (k n : ℕ) → length (decimalIn k n) ≤ suc k
 unfolding decimalIn
 decimalIn-few zero n = omega arith
 decimalIn-few (suc k) n = by (ltb n 10) (decimalIn-few k (n / 10))
