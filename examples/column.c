@@ -5,9 +5,10 @@
  * its values need, and the decoder of its kind writes them into a buffer. Coordinates come as floats here;
  * mmtf_decode_fixed_point gives the same column as integers and divisor, with nothing lost.
  *
- * Compile it at the top of the repository, after rt staticlib mmtf, by:
+ * Compile it at the top of the repository, after rt staticlib mmtf, by the first line, and with the installed library by the second:
  *
  *     gcc -std=c11 -Wall -Wextra -Iinclude -o target/column examples/column.c target/staticlib/libmmtf.a
+ *     gcc -std=c11 -Wall -Wextra -o column column.c $(pkg-config --cflags --libs mmtf)
  */
 #include "common.h"
 
@@ -109,7 +110,7 @@ int main(int count, char **words) {
         return STATUS_NOTHING;
     }
     if (count != 3) {
-        fprintf(stderr, "usage: column FILE NAME\n");
+        fprintf(stderr, "Usage: column FILE NAME\n");
         return STATUS_NOTHING;
     }
     size_t n;

@@ -4,9 +4,10 @@
  * It shows mmtf_verdict and mmtf_matrix. A transform moves chains to their place in an assembly; the fourth number of a row is
  * the translation. If the file has no transform, a sentence on standard error says so, and the status is 2.
  *
- * Compile it at the top of the repository, after rt staticlib mmtf, by:
+ * Compile it at the top of the repository, after rt staticlib mmtf, by the first line, and with the installed library by the second:
  *
  *     gcc -std=c11 -Wall -Wextra -Iinclude -o target/matrix examples/matrix.c target/staticlib/libmmtf.a
+ *     gcc -std=c11 -Wall -Wextra -o matrix matrix.c $(pkg-config --cflags --libs mmtf)
  */
 #include "common.h"
 
@@ -30,7 +31,7 @@ static int write_matrix(const char *name, const uint8_t *file, size_t n) {
 
 int main(int count, char **words) {
     if (count != 2) {
-        fprintf(stderr, "usage: matrix FILE\n");
+        fprintf(stderr, "Usage: matrix FILE\n");
         return STATUS_NOTHING;
     }
     size_t n;

@@ -5,9 +5,10 @@
  * sentence on standard error says the verdict. A file of more than 65,536 bytes, the most that a station holds, gets no
  * receipt; the library's calls take any length.
  *
- * Compile it at the top of the repository, after rt staticlib mmtf, by:
+ * Compile it at the top of the repository, after rt staticlib mmtf, by the first line, and with the installed library by the second:
  *
  *     gcc -std=c11 -Wall -Wextra -Iinclude -o target/receipt examples/receipt.c target/staticlib/libmmtf.a
+ *     gcc -std=c11 -Wall -Wextra -o receipt receipt.c $(pkg-config --cflags --libs mmtf)
  */
 #include "common.h"
 
@@ -30,12 +31,8 @@ static int read_number(const char *word, uint32_t *number) {
 /* Answers the number that a word says if it is 1 up to the most, and otherwise 0, after a sentence. */
 static uint32_t number_of(const char *name, const char *word, uint32_t most, const char *range) {
     uint32_t number;
-    if (!read_number(word, &number)) {
-        fprintf(stderr, "\"%s\" is not a number.\n", word);
-        return 0;
-    }
-    if (number < 1 || number > most) {
-        fprintf(stderr, "%s %s is not %s.\n", name, word, range);
+    if (!read_number(word, &number) || number < 1 || number > most) {
+        fprintf(stderr, "The %s must be a number from %s, and \"%s\" is not.\n", name, range, word);
         return 0;
     }
     return number;
@@ -72,7 +69,7 @@ static int write_receipt(uint32_t station, uint32_t job, const char *name, const
 
 int main(int count, char **words) {
     if (count != 4) {
-        fprintf(stderr, "usage: receipt STATION JOB FILE\n");
+        fprintf(stderr, "Usage: receipt STATION JOB FILE\n");
         return STATUS_NOTHING;
     }
     const uint32_t station = number_of("station", words[1], MMTF_STATION_LIMIT, "1 to 99");
@@ -84,7 +81,7 @@ int main(int count, char **words) {
     }
     int status = STATUS_NOTHING;
     if (n > MOST) {
-        fprintf(stderr, "%s has more than 65,536 bytes, the most that are read.\n", words[3]);
+        fprintf(stderr, "%s is not judged: it has more than 65,536 bytes, the most that this program reads.\n", words[3]);
     } else {
         status = write_receipt(station, job, words[3], file, n);
     }
