@@ -141,6 +141,6 @@ class Repository:
         return path.exists() and has_line(path, rf"(?:pub )?{re.escape(name)} :")
 
     def has_edit(self, crate, name):
-        """A wrong program stands below a line '# NAME in FUNCTION: ..' of one of the crate's edits."""
-        headed = re.compile(rf"^# {name} in \w+(?: and \w+)*: ", re.M)
+        """A wrong program stands below a line '# NAME in FUNCTION: ..' or '# NAME in laws FILE: ..' of one of the crate's edits."""
+        headed = re.compile(rf"^# {name} in (?:laws )?\w+(?: and \w+)*: ", re.M)
         return any(headed.search(read(path)) for path in (HOME / "crates" / crate / "must-fail").glob("*.edit"))
