@@ -4,24 +4,21 @@
 ghost use mathlib.Core.Path.{_≡_};
 ghost use mathlib.Core.Bool.{true, false, _&&_};
 ghost use Prim.Native.Nat.{_+_, _≤_};
-ghost use lib.ListN.{length, replicate};
+ghost use lib.ListN.{length};
 ghost use lib.IntN.{pos};
 ghost use lib.Dec.{T};
 ghost use lib.Ieee.Positive.{positive};
-ghost use Rattle.steps.specs.Delta.{resultsFrom};
 ghost use Rattle.columns.specs.Decode.{decode};
-ghost use Rattle.payloads.specs.Scan.{judgesExact};
 ghost use Rattle.payloads.specs.Limits.{packedSize};
-ghost use Rattle.payloads.specs.Results.{Filled, HasRoom, HasResults, Covered, Wrote};
-ghost use Rattle.payloads.specs.Exact.{exact, allExact};
+ghost use Rattle.payloads.specs.Results.{HasResults, Covered, Wrote};
+ghost use Rattle.payloads.specs.Exact.{exact};
 ghost use Rattle.columns.specs.Buffer.{decodedAnswer, decodedBuffer};
 ghost use Rattle.floats.specs.Calls.{kept, exactly, floatBits};
-ghost use Rattle.floats.specs.Steps.{bitsBy, keptPayload, quotientPayload, Divisible, DivisibleAlone};
+ghost use Rattle.floats.specs.Steps.{bitsBy, keptPayload, quotientPayload, isDivided, Divisible, DivisibleAlone};
 use columns::HEADER_SIZE;
 use columns::Header;
 use columns::Kind;
 use columns::Wanted;
-use payloads::Item;
 use payloads::Outcome;
 use refusal::Answer;
 use steps::Form;
@@ -91,7 +88,7 @@ fn quotients_in(
     delta: bool,
     buffer: &mut [u32],
 ) -> Answer
-    requires { ⌜ (judgesExact form delta ≡ true) × (1 ≤ m) ⌝ }
+    requires { ⌜ (isDivided form delta ≡ true) × (1 ≤ m) ⌝ }
     ensures answer { λ r. ⌜ r ≡ decodedAnswer (quotientPayload n m form delta (now (payload .entry))) (length (now (buffer .entry))) ⌝ }
     ensures buffer { λ r. ⌜ now (buffer .exit) ≡ decodedBuffer floatBits (quotientPayload n m form delta (now (payload .entry))) (now (buffer .entry)) ⌝ }
 {
@@ -121,7 +118,7 @@ fn put_quotients(
     buffer: &mut [u32],
 )
     requires { ⌜ Divisible form delta (now payload) (length (now buffer)) divisor ⌝ }
-    requires { ⌜ HasResults form (now payload) n × (n ≤ length (now buffer)) × (judgesExact form delta ≡ true) ⌝ }
+    requires { ⌜ HasResults form (now payload) n × (n ≤ length (now buffer)) × (isDivided form delta ≡ true) ⌝ }
     ensures { λ r. ⌜ Wrote (bitsBy divisor) form delta (now (payload .entry)) (now (buffer .entry)) (now (buffer .exit)) ⌝ }
 {
     match form {
@@ -129,16 +126,10 @@ fn put_quotients(
         Form::Packed(size) => match size {
             Size::One => write_packed(payload, false, delta, divisor, buffer),
             Size::Two => write_packed(payload, true, delta, divisor, buffer),
-            Size::Four => write_quotients(
-                payload,
-                Form::Packed(Size::Four),
-                delta,
-                divisor,
-                buffer,
-            ),
+            Size::Four => {}
         },
         Form::Runs(range) => write_runs(payload, range, divisor, n, buffer),
-        Form::Names => write_quotients(payload, Form::Names, delta, divisor, buffer),
+        Form::Names => {}
     }
 }
 
@@ -239,54 +230,6 @@ fn fill_bits(buffer: &mut [u32], from: usize, count: usize, bits: u32)
         buffer[from + n] = bits;
         n += 1;
     }
-}
-
-// Writes the quotients of a payload, item by item.
-fn write_quotients(payload: &[u8], form: Form, delta: bool, divisor: f32, buffer: &mut [u32])
-    requires { ⌜ Divisible form delta (now payload) (length (now buffer)) divisor ⌝ }
-    ensures { λ r. ⌜ Wrote (bitsBy divisor) form delta (now (payload .entry)) (now (buffer .entry)) (now (buffer .exit)) ⌝ }
-{
-    let mut at: usize = 0;
-    let mut o: usize = 0;
-    let mut sum: i32 = 0;
-    loop {
-        match payloads::item_at(payload, at, form) {
-            Item::Run(value, count, next) => {
-                sum = fill_quotients(buffer, o, count, sum, value, delta, divisor);
-                o += count;
-                at = next;
-            }
-            Item::Wrong => {
-                return;
-            }
-            Item::End => {
-                return;
-            }
-        }
-    }
-}
-
-// Writes the quotients of a run from a place on, and gives the last result.
-fn fill_quotients(
-    buffer: &mut [u32],
-    from: usize,
-    count: usize,
-    sum: i32,
-    value: i32,
-    delta: bool,
-    divisor: f32,
-) -> i32
-    requires { ⌜ (from + count ≤ length (now buffer)) × (allExact (resultsFrom delta sum (replicate count value)) ≡ true) × T (positive divisor) ⌝ }
-    ensures { λ r. ⌜ Filled (bitsBy divisor) delta sum value (now (buffer .entry)) from count (now (buffer .exit)) r ⌝ }
-{
-    let mut x = sum;
-    let mut n: usize = 0;
-    while n < count {
-        x = payloads::next_result(x, value, delta);
-        buffer[from + n] = quotient_bits(x, divisor);
-        n += 1;
-    }
-    x
 }
 
 // The bits of a number by a divisor: one division in single precision.

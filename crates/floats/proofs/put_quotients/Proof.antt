@@ -3,21 +3,21 @@ use mathlib.Core.Path.{_≡_, sym, ap, subst, _∙_}
 use mathlib.Core.Bool.{Bool, true, false}
 use mathlib.Core.List.{List}
 use Prim.Native.Nat.{ℕ, _≤_}
+use native.Mathlib.Omega.{arith}
 use lib.ListN.{length}
 use lib.Dec.{T}
 use lib.Ieee.{Float}
 use lib.Ieee.Positive.{positive}
 use borrow.Author.Needs.{needs}
 use borrow.Author.Tests.{not-true}
-use Rattle.steps.specs.declared.Size.the-variants.{One, Two, Four}
+use Rattle.steps.specs.declared.Size.the-variants.{One, Two}
 use Rattle.steps.specs.declared.Range.{Range}
 use Rattle.steps.specs.declared.Form.{Form}
-use Rattle.steps.specs.declared.Form.the-variants.{Plain, Packed, Runs, Names}
+use Rattle.steps.specs.declared.Form.the-variants.{Plain, Packed, Runs}
 use Rattle.payloads.specs.Results.{HasRoom, HasResults, Wrote, ResultsExact}
-use Rattle.payloads.specs.Scan.{judgesExact}
 use Rattle.payloads.specs.Laws.Writing.{wrote-as}
-use Rattle.floats.specs.Steps.{bitsBy, Divisible, DivisibleAlone}
-use Rattle.floats.specs.Laws.Table.{plain-judged}
+use Rattle.floats.specs.Steps.{bitsBy, isDivided, Divisible, DivisibleAlone}
+use Rattle.floats.specs.Laws.Table.{plain-divided}
 use Rattle.floats.proofs.put_quotients.Statement.{statement}
 use Rattle.floats.proofs.put_quotients.Tie as tie
 
@@ -37,7 +37,7 @@ put-plain-requires : tie.Need-put-plain-requires
 put-plain-requires c κs =
     let a = c .before .before .before .before .before .before in
     let e = c .before .before .form .given .1 in
-    let d = plain-judged (c .before .before .form .given .0 .0) (a .args .delta) (subst (λ (h : Form). judgesExact h (a .args .delta) ≡ true) e (a .pre .1 .2)) in
+    let d = plain-divided (c .before .before .form .given .0 .0) (a .args .delta) (subst (λ (h : Form). isDivided h (a .args .delta) ≡ true) e (a .pre .1 .2)) in
     alone (a .args .payload .now) (a .args .n) (length (a .args .buffer .now)) (a .args .divisor) e d (a .pre .0) (a .pre .1 .0) (a .pre .1 .1)
 
 write-packed-requires : tie.Need-write-packed-requires
@@ -50,14 +50,9 @@ write-packed-requires-2 c κs =
     let a = c .before .before .before .before .before .before .before .before in
     asks (a .args .form) (Packed Two) (a .args .delta) (a .args .payload .now) (length (a .args .buffer .now)) (a .args .divisor) (c .before .before .before .before .form2 .given .1 ∙ ap Packed (c .before .enum-told2 .given .1)) (a .pre .0)
 
-write-quotients-requires : tie.Need-write-quotients-requires
-write-quotients-requires c κs =
-    let a = c .before .before .before .before .before .before .before .before in
-    asks (a .args .form) (Packed Four) (a .args .delta) (a .args .payload .now) (length (a .args .buffer .now)) (a .args .divisor) (c .before .before .before .before .form2 .given .1 ∙ ap Packed (c .before .enum-told3 .given .1)) (a .pre .0)
-
--- runs whose results are judged have no delta
-no-delta : (r : Range) (f : Form) (d : Bool) → f ≡ Runs r → judgesExact f d ≡ true → d ≡ false
-no-delta r f d e j = not-true d (subst (λ (h : Form). judgesExact h d ≡ true) e j)
+-- runs that are divided have no delta
+no-delta : (r : Range) (f : Form) (d : Bool) → f ≡ Runs r → isDivided f d ≡ true → d ≡ false
+no-delta r f d e j = not-true d (subst (λ (h : Form). isDivided h d ≡ true) e j)
 
 write-runs-requires : tie.Need-write-runs-requires
 write-runs-requires c κs =
@@ -66,16 +61,11 @@ write-runs-requires c κs =
     let d = no-delta (c .before .before .form3 .given .0 .0) (a .args .form) (a .args .delta) e (a .pre .1 .2) in
     alone (a .args .payload .now) (a .args .n) (length (a .args .buffer .now)) (a .args .divisor) e d (a .pre .0) (a .pre .1 .0) (a .pre .1 .1)
 
-write-quotients-requires-2 : tie.Need-write-quotients-requires-2
-write-quotients-requires-2 c κs =
-    let a = c .before .before .before .before .before in
-    asks (a .args .form) (Names) (a .args .delta) (a .args .payload .now) (length (a .args .buffer .now)) (a .args .divisor) (c .before .enum-told4 .given .1) (a .pre .0)
-
 returns : tie.Need-returns
 returns c =
     let a = c .before .before .before .before .before .before .before .before .before in
     let e = c .before .before .before .before .before .form .given .1 in
-    let d = plain-judged (c .before .before .before .before .before .form .given .0 .0) (a .args .delta) (subst (λ (h : Form). judgesExact h (a .args .delta) ≡ true) e (a .pre .1 .2)) in
+    let d = plain-divided (c .before .before .before .before .before .form .given .0 .0) (a .args .delta) (subst (λ (h : Form). isDivided h (a .args .delta) ≡ true) e (a .pre .1 .2)) in
     wrote-as (bitsBy (a .args .divisor)) (a .args .payload .now) (a .args .buffer .now) (c .before .before .put-plain .last .1 .1 .1 .1 .0) e d (c .before .before .put-plain .ensures)
 
 returns-2 : tie.Need-returns-2
@@ -88,10 +78,14 @@ returns-3 c =
     let a = c .before .before .before .before .before .before .before .before .before .before .before in
     puts (a .args .form) (Packed Two) (a .args .delta) (a .args .payload .now) (a .args .buffer .now) (c .before .before .write-packed2 .last .1 .1 .1 .1 .0) (a .args .divisor) (c .before .before .before .before .before .before .before .form2 .given .1 ∙ ap Packed (c .before .before .before .before .enum-told2 .given .1)) (c .before .before .write-packed2 .ensures)
 
+-- packed numbers of four bytes are not divided
 returns-4 : tie.Need-returns-4
 returns-4 c =
-    let a = c .before .before .before .before .before .before .before .before .before .before .before in
-    puts (a .args .form) (Packed Four) (a .args .delta) (a .args .payload .now) (a .args .buffer .now) (c .before .before .write-quotients .last .1 .1 .1 .1 .0) (a .args .divisor) (c .before .before .before .before .before .before .before .form2 .given .1 ∙ ap Packed (c .before .before .before .before .enum-told3 .given .1)) (c .before .before .write-quotients .ensures)
+    let a = c .before .before .before .before .before .before .before in
+    let e = ap (λ (f : Form). isDivided f (a .args .delta)) (c .before .before .before .form2 .given .1 ∙ ap Packed (c .enum-told3 .given .1)) in
+    let h = a .pre .1 .2 in
+    let y : _≡_ {A = ℕ} 0 1 = cc in
+    absurd (omega arith)
 
 returns-5 : tie.Need-returns-5
 returns-5 c =
@@ -101,10 +95,14 @@ returns-5 c =
     puts (a .args .form) (Runs (c .before .before .before .before .before .form3 .given .0 .0)) (a .args .delta) (a .args .payload .now) (a .args .buffer .now) (c .before .before .write-runs .last .1 .1 .1 .1 .0) (a .args .divisor) e
     (subst (λ (t : Bool). Wrote (bitsBy (a .args .divisor)) (Runs (c .before .before .before .before .before .form3 .given .0 .0)) t (a .args .payload .now) (a .args .buffer .now) (c .before .before .write-runs .last .1 .1 .1 .1 .0)) (sym d) (c .before .before .write-runs .ensures))
 
+-- nor are names
 returns-6 : tie.Need-returns-6
 returns-6 c =
-    let a = c .before .before .before .before .before .before .before .before in
-    puts (a .args .form) (Names) (a .args .delta) (a .args .payload .now) (a .args .buffer .now) (c .before .before .write-quotients2 .last .1 .1 .1 .1 .0) (a .args .divisor) (c .before .before .before .before .enum-told4 .given .1) (c .before .before .write-quotients2 .ensures)
+    let a = c .before .before .before .before in
+    let e = ap (λ (f : Form). isDivided f (a .args .delta)) (c .enum-told4 .given .1) in
+    let h = a .pre .1 .2 in
+    let y : _≡_ {A = ℕ} 0 1 = cc in
+    absurd (omega arith)
 
 pub put-quotients-spec : {M : Type 1} → statement M
 put-quotients-spec =
@@ -118,20 +116,16 @@ put-quotients-spec =
     (λ c. search needs)
     write-packed-requires-2
     (λ c. search needs)
-    write-quotients-requires
     (λ c. search needs)
     write-runs-requires
     (λ c. search needs)
-    write-quotients-requires-2
     (λ c. search needs)
     returns
     (λ c. search needs)
     returns-2
     (λ c. search needs)
     returns-3
-    (λ c. search needs)
     returns-4
     (λ c. search needs)
     returns-5
-    (λ c. search needs)
     returns-6)

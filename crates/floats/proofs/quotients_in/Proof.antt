@@ -13,7 +13,7 @@ use Rattle.columns.specs.Decode.{column, judgedPayload}
 use Rattle.columns.specs.Laws.Buffer.{answers-refused}
 use Rattle.payloads.specs.Laws.Judged.{Holds, scan-refused, scan-fine, holds-small, holds-done}
 use Rattle.payloads.specs.Exact.{exact, allExact}
-use Rattle.floats.specs.Laws.Table.{exact-names}
+use Rattle.floats.specs.Laws.Table.{exact-names, divided-judged}
 use Rattle.floats.specs.Laws.Quotient.{exact-in, divisor-positive}
 use Rattle.floats.specs.Calls.{exactly, floatBits}
 use Rattle.floats.specs.Laws.Calls.{holds-exact, all-results, exactly-refused, exactly-column}
@@ -27,8 +27,9 @@ found : (c : tie.After-exact)
 found c =
     let a = c .before .before .before .before .before in
     let k = c .exact .given .0 in
-    let g = scan-fine (a .args .n) (a .args .m) kind.FixedPoint (a .args .form) (a .args .delta) (a .args .payload .now) (exact-names (a .args .form) (a .args .delta) (a .pre .0)) (k .0) (sym (c .before .before .scan .ensures) ∙ c .exact .given .1) in
-    (g .0, holds-exact (a .args .n) (a .args .m) kind.FixedPoint (a .args .form) (a .args .delta) (a .args .payload .now) (g .0) (k .0) (g .1) (a .pre .0))
+    let j = divided-judged (a .args .form) (a .args .delta) (a .pre .0) in
+    let g = scan-fine (a .args .n) (a .args .m) kind.FixedPoint (a .args .form) (a .args .delta) (a .args .payload .now) (exact-names (a .args .form) (a .args .delta) j) (k .0) (sym (c .before .before .scan .ensures) ∙ c .exact .given .1) in
+    (g .0, holds-exact (a .args .n) (a .args .m) kind.FixedPoint (a .args .form) (a .args .delta) (a .args .payload .now) (g .0) (k .0) (g .1) j)
 
 -- whether cells and divisor are exact
 both : (c : tie.After-are-exact) → (allExact (sumsIf (c .before .before .before .before .before .before .before .args .delta) (found (c .before .before) .0 .0)) && exact (pos (c .before .before .before .before .before .before .before .args .m))) ≡ c .are-exact .result

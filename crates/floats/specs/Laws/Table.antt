@@ -19,6 +19,7 @@ use Rattle.columns.specs.declared.Codec.the-variants.{Known, Unknown}
 use Rattle.columns.specs.Table.{codecOf, parameterOk, isNames}
 use Rattle.columns.specs.Laws.Rows.{every-codec}
 use Rattle.payloads.specs.Scan.{judgesExact}
+use Rattle.floats.specs.Steps.{isDivided}
 
 abbrev isDivisor : Parameter → Bool
 isDivisor Unused = false
@@ -33,10 +34,10 @@ isFour (Packed z) d = false
 isFour (Runs r) d = false
 isFour Names d = false
 
--- Of a row: codec 1 has plain numbers of four bytes, and the results of those with a divisor are judged to be exact.
+-- Of a row: codec 1 has plain numbers of four bytes, and those with a divisor have the forms that are divided.
 abbrev rowOk : Kind → Form → Bool → Parameter → Bool
 rowOk kind.Float32 f d p = isFour f d
-rowOk kind.FixedPoint f d p = judgesExact f d && isDivisor p
+rowOk kind.FixedPoint f d p = isDivided f d && isDivisor p
 rowOk kind.Int8 f d p = true
 rowOk kind.Int16 f d p = true
 rowOk kind.Int32 f d p = true
@@ -52,8 +53,8 @@ every-row = every-codec codecOk refl refl
 
 module _ (c : ℕ) (f : Form) (d : Bool) (p : Parameter) where
   -- a codec with a divisor
-  pub fixed-row : (m : ℕ) → codecOf c ≡ Known kind.FixedPoint f d p → parameterOk p m ≡ true → (judgesExact f d ≡ true) × (1 ≤ m)
-  fixed-row m e g = let w = and-eq-true-iff (judgesExact f d) (isDivisor p) .0 (sym (ap codecOk e) ∙ every-row c) in (w .0, by p (w .1) g)
+  pub fixed-row : (m : ℕ) → codecOf c ≡ Known kind.FixedPoint f d p → parameterOk p m ≡ true → (isDivided f d ≡ true) × (1 ≤ m)
+  fixed-row m e g = let w = and-eq-true-iff (isDivided f d) (isDivisor p) .0 (sym (ap codecOk e) ∙ every-row c) in (w .0, by p (w .1) g)
     where
       by : (p : Parameter) → isDivisor p ≡ true → parameterOk p m ≡ true → 1 ≤ m
       by Unused h g = let y : _≡_ {A = ℕ} 0 1 = cc in absurd (omega arith)
@@ -72,6 +73,15 @@ module _ (c : ℕ) (f : Form) (d : Bool) (p : Parameter) where
       by (Runs r) d h = let y : _≡_ {A = ℕ} 0 1 = cc in absurd (omega arith)
       by Names d h = let y : _≡_ {A = ℕ} 0 1 = cc in absurd (omega arith)
 
+-- the results of a form that is divided are judged to be exact
+pub divided-judged : (f : Form) (d : Bool) → isDivided f d ≡ true → judgesExact f d ≡ true
+divided-judged (Plain One) d h = h
+divided-judged (Plain Two) d h = h
+divided-judged (Plain Four) d h = h
+divided-judged (Packed z) d h = refl
+divided-judged (Runs r) d h = h
+divided-judged Names d h = h
+
 -- a form that is judged to be exact is not that of names
 pub exact-names : (f : Form) (d : Bool) → judgesExact f d ≡ true → isNames f ≡ false
 exact-names (Plain z) d h = refl
@@ -79,8 +89,8 @@ exact-names (Packed z) d h = refl
 exact-names (Runs r) d h = refl
 exact-names Names d h = let y : _≡_ {A = ℕ} 0 1 = cc in absurd (omega arith)
 
--- plain numbers that are judged have no delta
-pub plain-judged : (z : Size) (d : Bool) → judgesExact (Plain z) d ≡ true → d ≡ false
-plain-judged One d h = not-true d h
-plain-judged Two d h = not-true d h
-plain-judged Four d h = let y : _≡_ {A = ℕ} 0 1 = cc in absurd (omega arith)
+-- plain numbers that are divided have no delta
+pub plain-divided : (z : Size) (d : Bool) → isDivided (Plain z) d ≡ true → d ≡ false
+plain-divided One d h = not-true d h
+plain-divided Two d h = not-true d h
+plain-divided Four d h = let y : _≡_ {A = ℕ} 0 1 = cc in absurd (omega arith)
