@@ -6,7 +6,9 @@ ghost use mathlib.Core.Logic.{_↔_};
 ghost use mathlib.Core.Bool.{true, false};
 ghost use Prim.Native.Nat.{ℕ, _+_, _≤_, _<_};
 ghost use lib.ListN.{length, getD, take, drop};
+ghost use Rattle.numbers.specs.BigEndian.{unsignedAt};
 ghost use Rattle.text.specs.Equal.{equal};
+ghost use Rattle.utf8.specs.Check.{isAscii};
 ghost use Rattle.heads.specs.Table.{leadTable};
 ghost use Rattle.messagepack.specs.Limits.{fileLimit, nestingLimit};
 ghost use Rattle.messagepack.specs.Rules.{Container};
@@ -134,7 +136,7 @@ fn key_at(leads: &[u8; 256], file: &[u8], at: usize) -> Text
     requires { ⌜ now leads ≡ leadTable ⌝ }
     ensures { λ r. ⌜ r ≡ keyAt (now (file .entry)) at ⌝ }
 {
-    if let Short::At(p, n) = short_at(file, at) {
+    if let Short::At(p, n) = short_key(file, at) {
         return Text::At(p, n);
     }
     match heads::kind_at(leads, file, at) {
@@ -204,6 +206,71 @@ fn short_at(file: &[u8], at: usize) -> Short
         return Short::At(p, n);
     }
     Short::Other
+}
+
+// A key of at most 31 bytes, its length in its lead byte, if its bytes are quickly found to be below 80.
+fn short_key(file: &[u8], at: usize) -> Short
+    ensures { λ r. ⌜ ShortSays (now (file .entry)) at r ⌝ }
+{
+    if file.len() <= at {
+        return Short::Other;
+    }
+    let b = file[at];
+    if b < 0xa0 {
+        return Short::Other;
+    }
+    if 0xc0 <= b {
+        return Short::Other;
+    }
+    if b == 0xa0 {
+        return Short::At(at + 1, 0);
+    }
+    let n = numbers::u8_to_usize(b - 0xa0);
+    let p = at + 1;
+    if file.len() - p < n {
+        return Short::Other;
+    }
+    if all_low(&file[p..p + n]) {
+        return Short::At(p, n);
+    }
+    Short::Other
+}
+
+// Whether bytes are below 80: four at a time, and the last four may overlap others.
+fn all_low(bytes: &[u8]) -> bool
+    ensures { λ r. ⌜ (r ≡ true → isAscii (now (bytes .entry)) ≡ true) ⌝ }
+{
+    if bytes.len() < 4 {
+        return utf8::is_ascii(bytes);
+    }
+    let last = bytes.len() - 4;
+    let mut i: usize = 0;
+    while i < last {
+        if !low_word(bytes, i) {
+            return false;
+        }
+        i += 4;
+    }
+    low_word(bytes, last)
+}
+
+// Whether the four bytes from a place on are below 80: the tests become one of the word that they are.
+fn low_word(bytes: &[u8], at: usize) -> bool
+    requires { ⌜ at + 4 ≤ length (now bytes) ⌝ }
+    ensures { λ r. ⌜ (r ≡ true → (i : ℕ) → i < 4 → getD (now (bytes .entry)) (at + i) 0 < 0x80) ⌝ }
+{
+    let four = word(bytes, at);
+    let high = four / 256 / 256;
+    if 0x80 <= four % 256 {
+        return false;
+    }
+    if 0x80 <= four / 256 % 256 {
+        return false;
+    }
+    if 0x80 <= high % 256 {
+        return false;
+    }
+    high / 256 < 0x80
 }
 
 // Whether the lead byte at a place begins an array or a map and has its count in it: a quick look before the table.
@@ -592,10 +659,26 @@ fn print_of(file: &[u8], a: usize, m: usize) -> u32
         return size;
     }
     if m < 4 {
-        let last = numbers::read_u16(file, a + m - 2) as u32;
+        let last = half_word(file, a + m - 2) as u32;
         return std::num::wrapping_add_u32(size, last);
     }
-    let first = numbers::read_u32(file, a);
-    let last = numbers::read_u32(file, a + m - 4);
+    let first = word(file, a);
+    let last = word(file, a + m - 4);
     std::num::wrapping_add_u32(size, std::num::wrapping_add_u32(first, last))
+}
+
+// The number in the four bytes from a place on, with no test of its own that they are there.
+fn word(bytes: &[u8], at: usize) -> u32
+    requires { ⌜ at + 4 ≤ length (now bytes) ⌝ }
+    ensures { λ r. ⌜ r ≡ unsignedAt 4 (now (bytes .entry)) at ⌝ }
+{
+    numbers::read_u32(&bytes[at..at + 4], 0)
+}
+
+// The number in the two bytes from a place on, likewise.
+fn half_word(bytes: &[u8], at: usize) -> u16
+    requires { ⌜ at + 2 ≤ length (now bytes) ⌝ }
+    ensures { λ r. ⌜ r ≡ unsignedAt 2 (now (bytes .entry)) at ⌝ }
+{
+    numbers::read_u16(&bytes[at..at + 2], 0)
 }

@@ -7,7 +7,7 @@ use Rattle.messagepack.proofs.key_at.Statement.{statement}
 use Rattle.messagepack.proofs.key_at.Tie as tie
 
 returns : tie.Need-returns
-returns c = short-key (c .before .before .before .short-at .ensures) (c .before .p .given .1)
+returns c = short-key (c .before .before .before .short-key .ensures) (c .before .p .given .1)
 
 returns-2 : tie.Need-returns-2
 returns-2 c = sym (key-by _ _ (sym (c .before .before .kind-at .ensures .1 (c .before .before .before .before .before .before .before .pre)) ∙ c .enum-told2 .given .1))

@@ -12,13 +12,13 @@ returns c = sym (print-short _ _ _ (c .before .before .pre) (c .if1 .taken))
 returns-2 : tie.Need-returns-2
 returns-2 c =
     let m = c .before .before .before .before .before .args .m in
-    c .wrapping-add-u32 .ensures ∙ ap (λ (n : ℕ). (m % 65536 * 65536 + n) % 4294967296) (c .before .read-u16 .ensures) ∙ sym (print-two _ _ _ (c .before .before .before .before .before .pre) (c .before .before .if2 .taken) (c .before .before .before .if1 .left))
+    c .wrapping-add-u32 .ensures ∙ ap (λ (n : ℕ). (m % 65536 * 65536 + n) % 4294967296) (c .before .half-word .ensures) ∙ sym (print-two _ _ _ (c .before .before .before .before .before .pre) (c .before .before .if2 .taken) (c .before .before .before .if1 .left))
 
 returns-3 : tie.Need-returns-3
 returns-3 c =
     let m = c .before .before .before .before .before .before .before .args .m in
     c .wrapping-add-u323 .ensures
-    ∙ ap (λ (n : ℕ). (m % 65536 * 65536 + n) % 4294967296) (c .before .wrapping-add-u322 .ensures ∙ ap₂ (λ (x y : ℕ). (x + y) % 4294967296) (c .before .before .before .read-u32 .ensures) (c .before .before .read-u322 .ensures))
+    ∙ ap (λ (n : ℕ). (m % 65536 * 65536 + n) % 4294967296) (c .before .wrapping-add-u322 .ensures ∙ ap₂ (λ (x y : ℕ). (x + y) % 4294967296) (c .before .before .before .word .ensures) (c .before .before .word2 .ensures))
     ∙ sym (print-four _ _ _ (c .before .before .before .before .before .before .before .pre) (c .before .before .before .before .if2 .left))
 
 pub print-of-spec : {M : Type 1} → statement M

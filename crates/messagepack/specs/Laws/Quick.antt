@@ -1,13 +1,17 @@
 -- Values that hold no others, and the quick looks at them: an integer in its lead byte, a float, and a short string of bytes below 80.
 -- Assumes nothing.
 use mathlib.Core.Path.{_≡_, refl, sym, ap, subst, _∙_}
-use mathlib.Core.Bool.{true}
-use mathlib.Core.List.{List}
-use Prim.Native.Nat.{ℕ, _+_, _-_, _<_, _≤_}
+use mathlib.Core.Bool.{Bool, true, false}
+use mathlib.Core.List.{List, [], _∷_}
+use Prim.Native.Nat.{ℕ, zero, suc, _+_, _-_, _*_, _/_, _%_, _<_, _≤_}
 use native.Mathlib.Omega.{arith}
+use native.Mathlib.Nat.{add-zero}
+use lib.Dec.{ltb}
 use lib.ListN.{length, getD, take, drop}
+use Rattle.numbers.specs.BigEndian.{unsignedAt}
+use Rattle.numbers.specs.Laws.BigEndian.{loads, unsignedAt-loads}
 use Rattle.numbers.specs.Ranges.{integerLimit}
-use borrow.Author.Tests.{le-leb}
+use borrow.Author.Tests.{le-leb, lt-ltb, ltb-true, ltb-false}
 use Rattle.utf8.specs.Check.{isAscii}
 use Rattle.utf8.specs.Laws.Check.{isAscii-isUtf8}
 use Rattle.heads.specs.Head.{kindAt, headAt}
@@ -92,6 +96,11 @@ module _ (s : List ℕ) (at : ℕ) (inside : at < length s) where
       let g : headAt s at ≡ Head.At n (at + 1) = r .1 ∙ ap (λ (m : ℕ). Head.At m (at + 1)) (sym e) in
       found (r .0) (w.text-tested s at true g (w.body-in s n (at + 1) le) (isAscii-isUtf8 (take n (drop (at + 1) s)) a))
 
+  -- a string of no bytes
+  pub empty-found : getD s at 0 ≡ 0xa0 → ShortSays s at (Short.At (at + 1) 0)
+  unfolding isAscii
+  empty-found e = short-found 0 (omega arith) (omega arith) (omega arith) (omega arith) refl
+
 module _ {s : List ℕ} {at : ℕ} where
   -- a short string's end is the value's
   pub short-ends : {q : Short} {p n : ℕ} → ShortSays s at q → q ≡ Short.At p n → QuickSays s at (Quick.End (p + n))
@@ -136,3 +145,42 @@ run-next {s} {at} {n} {p} {left} x pos k e = record {
 
 pub run-first : (s : List ℕ) (at n : ℕ) → RunSays s at n at n
 run-first s at n = record { fewer = omega arith; same = λ d. refl }
+
+-- bytes below 80, four at a time
+
+four-low : (a b c d w : ℕ) → b < 256 → c < 256 → d < 256 → w ≡ ((a * 256 + b) * 256 + c) * 256 + d → w % 256 < 0x80 → w / 256 % 256 < 0x80 → w / 256 / 256 % 256 < 0x80 → w / 256 / 256 / 256 < 0x80 → (a < 0x80) × (b < 0x80) × (c < 0x80) × (d < 0x80)
+four-low a b c d w hb hc hd e p q r t =
+    let x : w / 256 ≡ (a * 256 + b) * 256 + c = omega arith in
+    let y : w / 256 / 256 ≡ a * 256 + b = omega arith in
+    let z : w / 256 / 256 / 256 ≡ a = omega arith in
+    (omega arith, omega arith, omega arith, omega arith)
+
+pub word-low : (s : List ℕ) (at w : ℕ) → ((i : ℕ) → getD s i 0 < 256) → at + 4 ≤ length s → w ≡ unsignedAt 4 s at → w % 256 < 0x80 → w / 256 % 256 < 0x80 → w / 256 / 256 % 256 < 0x80 → w / 256 / 256 / 256 < 0x80 → (i : ℕ) → i < 4 → getD s (at + i) 0 < 0x80
+word-low s at w bytes le e p q r t = go
+  where
+    all : (getD s (at + 0) 0 < 0x80) × (getD s (at + 1) 0 < 0x80) × (getD s (at + 2) 0 < 0x80) × (getD s (at + 3) 0 < 0x80)
+    all = four-low (getD s (at + 0) 0) (getD s (at + 1) 0) (getD s (at + 2) 0) (getD s (at + 3) 0) w (bytes (at + 1)) (bytes (at + 2)) (bytes (at + 3)) (omega (arith, e, unsignedAt-loads 4 s at le)) p q r t
+
+    go : (i : ℕ) → i < 4 → getD s (at + i) 0 < 0x80
+    go zero h = all .0
+    go (suc zero) h = all .1
+    go (suc (suc zero)) h = all .2
+    go (suc (suc (suc zero))) h = all .3
+    go (suc (suc (suc (suc i)))) h = absurd (omega arith)
+
+-- what holds before a place and of four bytes from another on, which is not after it, holds before their end
+pub low-more : (s : List ℕ) (i k : ℕ) → k ≤ i → ((j : ℕ) → j < i → getD s j 0 < 0x80) → ((j : ℕ) → j < 4 → getD s (k + j) 0 < 0x80) → (j : ℕ) → j < k + 4 → getD s j 0 < 0x80
+low-more s i k le before word j h = go (ltb j i) refl
+  where
+    go : (t : Bool) → ltb j i ≡ t → getD s j 0 < 0x80
+    go true e = before j (ltb-true j i e)
+    go false e =
+        let at : k + (j - k) ≡ j = omega (arith, ltb-false j i e) in
+        subst (λ (x : ℕ). getD s x 0 < 0x80) at (word (j - k) (omega (arith, ltb-false j i e)))
+
+pub low-ascii : (s : List ℕ) → ((j : ℕ) → j < length s → getD s j 0 < 0x80) → isAscii s ≡ true
+unfolding isAscii
+low-ascii [] h = refl
+low-ascii (b ∷ s) h =
+    let first : b < 0x80 = h 0 (omega arith) in
+    rw (lt-ltb b 0x80 first) (low-ascii s (λ j l. h (suc j) (omega arith)))
