@@ -7,6 +7,8 @@ use Prim.Native.Nat.{ℕ, zero, suc, _+_, _≤_, _<_}
 use lib.Dec.{leb}
 use lib.ListN.{length, getD}
 use Rattle.messagepack.specs.Document.{Document, Writes}
+use Rattle.heads.specs.Lead.{kindOf, moreOf}
+use Rattle.heads.specs.declared.Kind.{Kind}
 use Rattle.heads.specs.Span.{Span}
 use Rattle.values.specs.declared.Over.{Over}
 
@@ -28,10 +30,17 @@ pub record LowRun (s : List ℕ) (at n : ℕ) : Type 0 where
   pub inside : at + n ≤ length s
   pub low : (i : ℕ) → i < n → getD s (at + i) 0 < 0x80
 
--- a step to n values, or over all of them
+-- unsigned integers with a lead byte have a size, which is more than that byte
+pub record Sized (lead size : ℕ) : Type 0 where
+  pub kind : kindOf lead ≡ Kind.Unsigned
+  pub is : size ≡ moreOf lead + 1
+  pub more : 1 < size
+
+-- a step to n values, or over all of them, or to those that are left after the first
 pub data ItemsOver (s : List ℕ) (n p : ℕ) : Over → Type 0 where
   over : LowRun s p n → ItemsOver s n p (Over.On (p + n) 0)
   each : ItemsOver s n p (Over.On p n)
+  after : {q k : ℕ} → p ≤ q → q ≤ length s → ((m e : ℕ) → Standing s (n + m) p e → Standing s (k + m) q e) → ItemsOver s n p (Over.On q k)
 
 -- a step over one value's head, and its body if it is a string or a binary: where it goes on, and how many values are inside
 pub data Stepped (s : List ℕ) (p : ℕ) : Over → Type 0 where

@@ -8,6 +8,7 @@
 --   heads::head_at                 the number that the head at a place holds, and where the head ends
 --   values::integer_at             the integer at a place, else 0
 --   values::text_at                the bytes of the string or the binary at a place, else none
+--   values::key_at                 the same
 --   values::items_at               the values of the array at a place, else none
 --   values::entries_at             the entries of the map at a place, else none
 --

@@ -14,7 +14,7 @@ ghost use Rattle.heads.specs.Table.{leadTable};
 ghost use Rattle.values.specs.Parts.{integerOf};
 ghost use Rattle.values.specs.Places.{TextAt, ItemsAt, EntriesAt, lastOf, halfOf, unsignedBy, signedBy};
 ghost use Rattle.values.specs.Heads.{bodyPart, itemsPart, integerBy, textBy, textByTable, itemsBy, entriesBy};
-ghost use Rattle.values.specs.Standing.{pastOver, pairsOver, LowRun, ItemsOver, Stepped};
+ghost use Rattle.values.specs.Standing.{pastOver, pairsOver, LowRun, Sized, ItemsOver, Stepped};
 ghost use Rattle.values.specs.Walked.{Walked, WalkedOver};
 use heads::Head;
 use heads::Kind;
@@ -141,14 +141,54 @@ fn past(file: &[u8], n: usize, p: usize) -> Over
     Over::On(p + n, 0)
 }
 
-// A step to n values, or over all of them where they are integers in their lead bytes.
+// A step to n values, or over all of them where they are integers in their lead bytes, or past the first of them.
 fn over_items(file: &[u8], n: usize, p: usize) -> Over
     ensures { λ r. ⌜ ItemsOver (now (file .entry)) n p r ⌝ }
 {
     if all_low(file, p, n) {
         return Over::On(p + n, 0);
     }
+    over_first(file, n, p)
+}
+
+// A step past the first of n values that are integers of one, two or four bytes after their lead byte, if the first of them is one.
+fn over_first(file: &[u8], n: usize, p: usize) -> Over
+    ensures { λ r. ⌜ ItemsOver (now (file .entry)) n p r ⌝ }
+{
+    if file.len() <= p {
+        return Over::On(p, n);
+    }
+    let lead = file[p];
+    if lead == 0xcc {
+        return over_run(file, n, p, 0xcc, 2);
+    }
+    if lead == 0xcd {
+        return over_run(file, n, p, 0xcd, 3);
+    }
+    if lead == 0xce {
+        return over_run(file, n, p, 0xce, 5);
+    }
     Over::On(p, n)
+}
+
+// A step past the first of n values that have a lead byte and its size: a loop for each size.
+fn over_run(file: &[u8], n: usize, p: usize, lead: u8, size: usize) -> Over
+    requires { ⌜ (p ≤ length (now file)) × Sized lead size ⌝ }
+    ensures { λ r. ⌜ ItemsOver (now (file .entry)) n p r ⌝ }
+{
+    let mut left = n;
+    let mut q = p;
+    while 0 < left {
+        if file.len() - q < size {
+            return Over::On(q, left);
+        }
+        if file[q] != lead {
+            return Over::On(q, left);
+        }
+        q += size;
+        left -= 1;
+    }
+    Over::On(q, left)
 }
 
 // A step to n keys and their values.
@@ -255,6 +295,29 @@ pub fn text_at(leads: &[u8; 256], file: &[u8], at: usize) -> Part
         }
     }
     text_by_table(leads, file, at)
+}
+
+// The bytes of the string or the binary at a place, as `text_at` has them: a loop over keys finds short ones with no call.
+pub fn key_at(leads: &[u8; 256], file: &[u8], at: usize) -> Part
+    ensures inside { λ r. ⌜ r .at + r .count ≤ length (now (file .entry)) ⌝ }
+    ensures table { λ r. ⌜ r ≡ textBy (now (leads .entry)) (now (file .entry)) at ⌝ }
+    ensures says { λ r. ⌜ Walked (now (leads .entry)) (now (file .entry)) at (λ x e. TextAt (now (file .entry)) x e r) ⌝ }
+{
+    if at < file.len() {
+        let b = file[at];
+        if 0xa0 <= b {
+            if b < 0xc0 {
+                let n = numbers::u8_to_usize(b - 0xa0);
+                if n < file.len() - at {
+                    return Part {
+                        at: at + 1,
+                        count: n,
+                    };
+                }
+            }
+        }
+    }
+    text_at(leads, file, at)
 }
 
 // The bytes of the string or the binary at a place, by the table of lead bytes.

@@ -10,15 +10,17 @@ use native.Mathlib.Nat.{add-zero, zero-add, suc-add, add-assoc}
 use lib.Dec.{leb}
 use borrow.Author.Tests.{leb-true, leb-false}
 use lib.ListN.{length, getD, drop, length-append}
+use Rattle.numbers.specs.BigEndian.{unsignedAt}
+use Rattle.heads.specs.Lead.{kindOf, moreOf}
 use Rattle.heads.specs.Head.{HeadOf, kindAt, headAt}
 use Rattle.heads.specs.declared.Kind.{Kind}
 use Rattle.heads.specs.declared.Head.{Head}
 use Rattle.heads.specs.Span.{Span}
 use Rattle.heads.specs.Laws.Span.{follows, fits}
-use Rattle.heads.specs.Laws.Head.{Told, head-told, head-inside, alone-head, float-kind, float-size, float-head, head-cut}
+use Rattle.heads.specs.Laws.Head.{Told, head-told, head-inside, alone-head, float-kind, float-size, float-head, head-cut, head-number, kind-in}
 use Rattle.heads.specs.Laws.Table.{low-lead, string-lead}
 use Rattle.messagepack.specs.Document.{Document, Documents, Entries, integer, float, string, binary, array, map, none, item, empty, entry, count, size, UnsignedOf, SignedOf, TextOf, Writes, WritesAll, WritesEntries}
-use Rattle.values.specs.Standing.{Standing, pastOver, pairsOver, LowRun, ItemsOver, over, each, Stepped, on, stop}
+use Rattle.values.specs.Standing.{Standing, pastOver, pairsOver, LowRun, Sized, ItemsOver, over, each, after, Stepped, on, stop}
 use Rattle.values.specs.declared.Over.{Over}
 
 -- a head has a byte at least
@@ -320,6 +322,33 @@ steps-float s p lt b q = subst (Stepped s p) (sym q) (go (leb (p + 1 + 4) (lengt
         subst (λ (r : ℕ). Stepped s p (Over.On r 0)) f (steps-on s p (float-head s p b (omega arith)) (float-kind s p lt b) (omega arith))
     go false e = steps-cut-head s p (head-cut s p (float-size s p b) lt (omega (arith, leb-false (p + 1 + 4) (length s) e)))
 
+-- integers by their lead byte and its size
+
+pub sized-one : Sized 0xcc 2
+unfolding kindOf moreOf
+sized-one = record { kind = refl; is = refl; more = omega arith }
+
+pub sized-two : Sized 0xcd 3
+unfolding kindOf moreOf
+sized-two = record { kind = refl; is = refl; more = omega arith }
+
+pub sized-four : Sized 0xce 5
+unfolding kindOf moreOf
+sized-four = record { kind = refl; is = refl; more = omega arith }
+
+pub steps-sized : (s : List ℕ) (p : ℕ) {lead size : ℕ} → Sized lead size → getD s p 0 ≡ lead → p + size ≤ length s → Stepped s p (Over.On (p + size) 0)
+steps-sized s p {lead} {size} z b le =
+    let i : size ≡ moreOf (getD s p 0) + 1 = z .is ∙ ap (λ (m : ℕ). moreOf m + 1) (sym b) in
+    let j : size ≡ suc (suc (size - 2)) = omega (arith, z .more) in
+    let g : headAt s p ≡ Head.At (unsignedAt (suc (size - 2)) s (p + 1)) (p + size) = sym (head-number s p (size - 2) i j le refl) in
+    steps-on s p g (kind-in s p (omega (arith, z .more)) ∙ ap kindOf b ∙ z .kind) le
+
+-- one of the values that are left is passed
+pub run-again : (s : List ℕ) (n left p q size : ℕ) → 0 < left → Stepped s q (Over.On (q + size) 0) → ((m e : ℕ) → Standing s (n + m) p e → Standing s (left + m) q e) → (m e : ℕ) → Standing s (n + m) p e → Standing s (left - 1 + m) (q + size) e
+run-again s n left p q size pos t f m e st =
+    let one : Standing s (suc (left - 1 + m)) q e = subst (λ (k : ℕ). Standing s k q e) (omega arith) (f m e st) in
+    subst (λ (k : ℕ). Standing s k (q + size) e) (zero-add (left - 1 + m)) (stepped-on s q t refl .goes (left - 1 + m) e one)
+
 -- an array, by its values or at once
 
 pub low-first : {s : List ℕ} {r m : ℕ} → LowRun s r (suc m) → (r < length s) × (getD s r 0 < 0x80)
@@ -340,3 +369,4 @@ low-standing s (suc m) n r e l st =
 pub steps-items : (s : List ℕ) (p : ℕ) {m r : ℕ} → headAt s p ≡ Head.At m r → kindAt s p ≡ Kind.Array → {o : Over} → ItemsOver s m r o → Stepped s p o
 steps-items s p g h each = steps-on s p g h (head-inside s p g .1)
 steps-items s p {m} {r} g h (over l) = let after : p < r + m = omega (arith, head-inside s p g) in on after (l .inside) (λ n e st. low-standing s m n r e l (stands-step s p n e st g h))
+steps-items s p {m} {r} g h (after {q = q} a b f) = let first : p < q = omega (arith, head-inside s p g .0) in on first b (λ n e st. f n e (stands-step s p n e st g h))
