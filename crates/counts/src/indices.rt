@@ -76,7 +76,7 @@ fn list_from(leads: &[u8; 256], file: &[u8], n: usize, at: usize) -> List
     let mut left = n;
     let mut p = at;
     while 0 < left {
-        let key = values::text_at(leads, file, p);
+        let key = values::key_at(leads, file, p);
         let a = key.at;
         let value = a + key.count;
         let named = is_list(&file[a..value]);
@@ -94,13 +94,20 @@ fn is_list(key: &[u8]) -> bool
     text::same_bytes(key, b"chainIndexList")
 }
 
-// Where the value at a place ends: the commonest, short strings, are found first.
+// Where the value at a place ends: the commonest, short strings and short lists of integers, are found first.
 fn past_value(leads: &[u8; 256], file: &[u8], at: usize) -> usize
     ensures { λ r. ⌜ WalkedOver (now (leads .entry)) (now (file .entry)) at (λ e. r ≡ e) ⌝ }
 {
     if at < file.len() {
         let b = file[at];
+        if b < 0x90 {
+            return values::skip(leads, file, at);
+        }
         if b < 0xa0 {
+            let count = numbers::u8_to_usize(b - 0x90);
+            if values::all_low(file, at + 1, count) {
+                return at + 1 + count;
+            }
             return values::skip(leads, file, at);
         }
         if b < 0xc0 {

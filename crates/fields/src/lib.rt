@@ -5,12 +5,12 @@
 ghost use mathlib.Core.Path.{_≡_};
 ghost use mathlib.Core.Bool.{true, false};
 ghost use mathlib.Core.List.{List};
-ghost use Prim.Native.Nat.{ℕ, _+_, _*_, _≤_, _<_};
+ghost use Prim.Native.Nat.{ℕ, _+_, _*_, _^_, _≤_, _<_};
 ghost use lib.ListN.{length, getD, take, drop, set};
 ghost use Rattle.numbers.specs.BigEndian.{unsignedAt};
 ghost use Rattle.text.specs.Equal.{equal};
 ghost use Rattle.values.specs.Walked.{Walked, WalkedEntries, WalkedBy};
-ghost use Rattle.fields.specs.Types.{FieldType, plain};
+ghost use Rattle.fields.specs.Types.{FieldType, plain, arrayOf};
 ghost use Rattle.fields.specs.Table.{fieldCount};
 ghost use Rattle.fields.specs.Tests.{typed};
 ghost use Rattle.fields.specs.Fields.{fieldTypeOf, isVersionOne, fieldsNumber, findRow};
@@ -372,7 +372,7 @@ fn entries_typed(
     let mut left = count;
     let mut p = at;
     while 0 < left {
-        let key = values::text_at(leads, file, p);
+        let key = values::key_at(leads, file, p);
         let a = key.at;
         let m = key.count;
         let row = row_of(types, file, a, m, first, n);
@@ -390,7 +390,7 @@ fn entries_typed(
     0
 }
 
-// The value at a place as `row_typed` has it: the commonest, short strings, are found with no step into the recursion.
+// The value at a place as `row_typed` has it: the commonest, short strings and lists, are found with no step into the recursion.
 fn entry_typed(
     leads: &[u8; 256],
     file: &[u8],
@@ -411,7 +411,7 @@ fn entry_typed(
     row_typed(leads, file, types, at, first, n, row, depth)
 }
 
-// Where a short string at a place ends, if that is the type of a row; else 0.
+// Where a short string or a short array of integers at a place ends, if that is the type of a row; else 0.
 fn quick_row(
     file: &[u8],
     types: &[u8; TABLE_SIZE],
@@ -430,10 +430,35 @@ fn quick_row(
     if n <= row {
         return 0;
     }
-    if cell(types, (first + row) * ROW_SIZE + ROWS_AT + 2) != A_STRING {
+    let code = cell(types, (first + row) * ROW_SIZE + ROWS_AT + 2);
+    if code == A_STRING {
+        return quick_end(file, at, STRING);
+    }
+    if code == INTEGERS {
+        return quick_integers(file, at);
+    }
+    0
+}
+
+// Where an array of integers in their lead bytes ends, if its own lead byte has its count; of another value 0.
+fn quick_integers(file: &[u8], at: usize) -> usize
+    ensures { λ r. ⌜ (0 < r → (leads : List ℕ) → ValueSays leads (now (file .entry)) (typed (arrayOf (plain 1))) at r) ⌝ }
+{
+    if file.len() <= at {
         return 0;
     }
-    quick_end(file, at, STRING)
+    let b = numbers::u8_to_usize(file[at]);
+    if b < 0x90 {
+        return 0;
+    }
+    if 0xa0 <= b {
+        return 0;
+    }
+    let n = b - 0x90;
+    if values::all_low(file, at + 1, n) {
+        return at + 1 + n;
+    }
+    0
 }
 
 // The value at a place by a type with no types inside: a value of a kind, or an array of those, or of exactly so many.
@@ -734,8 +759,27 @@ fn word(bytes: &[u8], at: usize) -> u32
     numbers::read_u32(&bytes[at..at + 4], 0)
 }
 
-// Are the required ones of the n rows from first on all in a set?
+// Are the required ones of the n rows from first on all in a set? They are if all n are.
 fn all_seen(types: &[u8; TABLE_SIZE], seen: u64, first: usize, n: usize) -> bool
+    requires { ⌜ (now types ≡ typeTable) × ((first < 256) × (n < 64)) ⌝ }
+    ensures { λ r. ⌜ ((f : ℕ → FieldType) → r ≡ covered (rowsFrom f n first) seen) ⌝ }
+{
+    if seen == full(n) {
+        return true;
+    }
+    each_seen(types, seen, first, n)
+}
+
+// The set of all that are below n.
+fn full(n: usize) -> u64
+    requires { ⌜ n < 64 ⌝ }
+    ensures { λ r. ⌜ r + 1 ≡ 2 ^ n ⌝ }
+{
+    (1u64 << n) - 1
+}
+
+// Are the required ones of the n rows from first on all in a set, one after another?
+fn each_seen(types: &[u8; TABLE_SIZE], seen: u64, first: usize, n: usize) -> bool
     requires { ⌜ (now types ≡ typeTable) × ((first < 256) × (n < 64)) ⌝ }
     ensures { λ r. ⌜ ((f : ℕ → FieldType) → r ≡ covered (rowsFrom f n first) seen) ⌝ }
 {
@@ -794,8 +838,10 @@ const ARRAY: usize = 5;
 
 const MAP: usize = 6;
 
-// The number of the type of a string.
+// The numbers of the types of a string and of an array of integers.
 const A_STRING: usize = 2;
+
+const INTEGERS: usize = 4;
 
 // The row of the first named field, how many types have a number, and the levels of the deepest.
 const FIRST_FIELD: usize = 16;

@@ -11,15 +11,18 @@ use lib.ListN.{length, getD, take, drop}
 use Rattle.text.specs.Ascii.{ascii}
 use Rattle.text.specs.Equal.{equal}
 use Rattle.heads.specs.declared.Kind.{Kind}
-use Rattle.heads.specs.Head.{kindAt}
+use Rattle.heads.specs.declared.Head.{Head}
+use Rattle.heads.specs.Head.{kindAt, headAt}
+use Rattle.heads.specs.Laws.Head.{alone-head}
+use Rattle.heads.specs.Laws.Table.{array-lead}
 use Rattle.messagepack.specs.Document.{Document, Documents, Entries, none, item, count}
 use Rattle.values.specs.Places.{At, AtAll, AtEntries, TextAt, PlaceSays}
 use Rattle.values.specs.Seeking.{Seeking}
 use Rattle.values.specs.declared.Part.{Part}
 use Rattle.values.specs.Heads.{isMap}
 use Rattle.values.specs.declared.Over.{Over}
-use Rattle.values.specs.Standing.{Standing, pastOver}
-use Rattle.values.specs.Laws.Standing.{standing-none, stepped-on, steps-short}
+use Rattle.values.specs.Standing.{Standing, pastOver, LowRun, over}
+use Rattle.values.specs.Laws.Standing.{standing-none, stepped-on, steps-short, steps-items}
 use Rattle.values.specs.Laws.Seeking.{Left, turn, seeking-start, seeking-turn, seeking-end, part-equal}
 use Rattle.fields.specs.Tests.{all}
 use Rattle.values.specs.Laws.Integers.{Next, next-of}
@@ -91,3 +94,10 @@ pub short-end : (s : List ℕ) (p : ℕ) → p < length s → {n e : ℕ} → 0x
 short-end s p lt {n} {e} low high is le st =
     let o : Over.On (p + 1 + n) 0 ≡ pastOver (length s) n (p + 1) = rw (le-leb _ _ le) in
     standing-none s 0 _ e (omega arith) (stepped-on s p (steps-short s p lt low high is o) refl .goes 0 e st)
+
+-- an array whose count is in its lead byte, of integers in their lead bytes, ends after them
+pub integers-end : (s : List ℕ) (p : ℕ) → p < length s → {n e : ℕ} → 0x90 ≤ getD s p 0 → getD s p 0 < 0xa0 → n ≡ getD s p 0 - 0x90 → LowRun s (p + 1) n → Standing s 1 p e → p + 1 + n ≡ e
+integers-end s p lt {n} {e} low high is run st =
+    let h = alone-head s p lt (array-lead (getD s p 0) low high) in
+    let g : headAt s p ≡ Head.At n (p + 1) = h .1 ∙ ap (λ (m : ℕ). Head.At m (p + 1)) (sym is) in
+    standing-none s 0 _ e (omega arith) (stepped-on s p (steps-items s p g (h .0) (over run)) refl .goes 0 e st)

@@ -9,8 +9,8 @@ use borrow.Fn.PlainCycle.{Measures, is, falls, and}
 use borrow.Author.Needs.{needs}
 use Rattle.heads.proofs.head_at.Reads as head-at-reads
 use Rattle.heads.proofs.kind_at.Reads as kind-at-reads
+use Rattle.values.proofs.key_at.Reads as key-at-reads
 use Rattle.values.proofs.skip.Reads as skip-reads
-use Rattle.values.proofs.text_at.Reads as text-at-reads
 use Rattle.fields.specs.Types.{arrayOf, mapWith}
 use Rattle.fields.specs.Tests.{typed}
 use Rattle.fields.specs.Numbers.{build, typeOf, tagOf, rowsFrom, marked}
@@ -92,7 +92,7 @@ typed-at-below t = and 3 typed-at-kinds.ps (falls 3 typed-at-kinds.ps _<_ μ-typ
 -- what each may ask of those that it calls, and learns from them
 
 abbrev entries-typed-claims : ℕ → entries-typed-lts.Claims
-entries-typed-claims t = (text-at-reads.Asked, text-at-reads.Learnt, row-of-reads.Asked, row-of-reads.Learnt, entry-typed-below t, entry-typed.Post, mark-reads.Asked, mark-reads.Learnt, all-seen-reads.Asked, all-seen-reads.Learnt)
+entries-typed-claims t = (key-at-reads.Asked, key-at-reads.Learnt, row-of-reads.Asked, row-of-reads.Learnt, entry-typed-below t, entry-typed.Post, mark-reads.Asked, mark-reads.Learnt, all-seen-reads.Asked, all-seen-reads.Learnt)
 
 abbrev entry-typed-claims : ℕ → entry-typed-lts.Claims
 entry-typed-claims t = (quick-row-reads.Asked, quick-row-reads.Learnt, row-typed-below t, row-typed.Post)
@@ -117,7 +117,7 @@ entries-typed-loop-holds : (t : ℕ) → entries-typed-lts.Need-loop-holds (entr
 entries-typed-loop-holds t c = λ r h. h
 
 entries-typed-row-of-requires : (t : ℕ) → entries-typed-lts.Need-row-of-requires (entries-typed-claims t) (entries-typed-at t) entries-typed.Post entries-typed-Inv-loop entries-typed-μ-loop
-entries-typed-row-of-requires t c κs = (c .before .before .before .before .pre .1 .0, (c .text-at .ensures .0, (c .before .before .before .before .pre .1 .1 .0, (c .before .before .before .before .pre .1 .1 .1 .0, c .before .before .before .before .pre .1 .1 .1 .1 .1))))
+entries-typed-row-of-requires t c κs = (c .before .before .before .before .pre .1 .0, (c .key-at .ensures .0, (c .before .before .before .before .pre .1 .1 .0, (c .before .before .before .before .pre .1 .1 .1 .0, c .before .before .before .before .pre .1 .1 .1 .1 .1))))
 
 entries-typed-entry-typed-requires : (t : ℕ) → entries-typed-lts.Need-entry-typed-requires (entries-typed-claims t) (entries-typed-at t) entries-typed.Post entries-typed-Inv-loop entries-typed-μ-loop
 entries-typed-entry-typed-requires t c κs = (search needs, (c .before .before .before .before .before .pre .1 .0, (c .before .before .before .before .before .pre .1 .1 .0, c .before .before .before .before .before .pre .1 .1 .1 .0)))
@@ -127,7 +127,7 @@ entries-typed-returns t c =
     let a = c .before .before .before .before .before .before .before .args in
     let l = c .before .before .before .before .before .loop in
     let rows = rowsFrom (typeOf (a .depth)) (a .n) (a .first) in
-    l .inv 0 (entries-wrong (a .leads .now) (a .file .now) rows (c .before .before .before .before .before .before .before .pre .1 .1 .1 .1 .0) (l .left) (l .p) (l .seen) _ (c .before .before .before .before .loop-test .taken) (record { says = c .before .before .before .text-at .ensures .1 .1 }) (c .before .before .row-of .ensures (typeOf (a .depth))) (c .before .entry-typed .ensures) (c .if1 .taken))
+    l .inv 0 (entries-wrong (a .leads .now) (a .file .now) rows (c .before .before .before .before .before .before .before .pre .1 .1 .1 .1 .0) (l .left) (l .p) (l .seen) _ (c .before .before .before .before .loop-test .taken) (record { says = c .before .before .before .key-at .ensures .1 .1 }) (c .before .before .row-of .ensures (typeOf (a .depth))) (c .before .entry-typed .ensures) (c .if1 .taken))
 
 entries-typed-mark-requires : (t : ℕ) → entries-typed-lts.Need-mark-requires (entries-typed-claims t) (entries-typed-at t) entries-typed.Post entries-typed-Inv-loop entries-typed-μ-loop
 entries-typed-mark-requires t c κs = c .before .before .before .before .before .before .before .pre .1 .1 .1 .0
@@ -137,7 +137,7 @@ entries-typed-loop-again t c =
     let a = c .before .before .before .before .before .before .before .before .args in
     let l = c .before .before .before .before .before .before .loop in
     let rows = rowsFrom (typeOf (a .depth)) (a .n) (a .first) in
-    λ r h. l .inv r (entries-next (a .leads .now) (a .file .now) rows (c .before .before .before .before .before .before .before .before .pre .1 .1 .1 .1 .0) (l .left) (l .p) (l .seen) _ (c .before .before .before .before .before .loop-test .taken) (record { says = c .before .before .before .before .text-at .ensures .1 .1 }) (c .before .before .before .row-of .ensures (typeOf (a .depth))) (c .before .before .entry-typed .ensures) _ (c .before .if1 .left) (c .mark .ensures ∙ ap (λ (z : ℕ). marked z (l .seen) (c .before .before .before .row-of .result)) (sym (rows-count (typeOf (a .depth)) (a .n) (a .first)))) h)
+    λ r h. l .inv r (entries-next (a .leads .now) (a .file .now) rows (c .before .before .before .before .before .before .before .before .pre .1 .1 .1 .1 .0) (l .left) (l .p) (l .seen) _ (c .before .before .before .before .before .loop-test .taken) (record { says = c .before .before .before .before .key-at .ensures .1 .1 }) (c .before .before .before .row-of .ensures (typeOf (a .depth))) (c .before .before .entry-typed .ensures) _ (c .before .if1 .left) (c .mark .ensures ∙ ap (λ (z : ℕ). marked z (l .seen) (c .before .before .before .row-of .result)) (sym (rows-count (typeOf (a .depth)) (a .n) (a .first)))) h)
 
 entries-typed-all-seen-requires : (t : ℕ) → entries-typed-lts.Need-all-seen-requires (entries-typed-claims t) (entries-typed-at t) entries-typed.Post entries-typed-Inv-loop entries-typed-μ-loop
 entries-typed-all-seen-requires t c κs = (c .before .before .before .pre .1 .0, (c .before .before .before .pre .1 .1 .0, c .before .before .before .pre .1 .1 .1 .0))

@@ -3,7 +3,7 @@
 use mathlib.Core.Path.{_≡_, refl, sym, ap, _∙_}
 use mathlib.Core.Bool.{Bool, true, false, cond, not, _&&_, _||_}
 use mathlib.Core.List.{List}
-use Prim.Native.Nat.{ℕ, zero, suc, _+_, _-_, _*_, _/_, _%_, _<_, _≤_}
+use Prim.Native.Nat.{ℕ, zero, suc, _+_, _-_, _*_, _/_, _%_, _^_, _<_, _≤_}
 use native.Mathlib.Omega.{arith}
 use native.Mathlib.Nat.{add-zero, sub-zero}
 use lib.Dec.{eqb, leb, ltb}
@@ -16,7 +16,7 @@ use borrow.Author.Tests.{leb-true, eqb-true, eqb-false, ltb-true, ltb-false, lt-
 use Rattle.heads.specs.Laws.Table.{rows-at, values-length}
 use Rattle.heads.specs.Laws.Span.{part-length}
 use Rattle.messagepack.specs.Document.{Document}
-use Rattle.fields.specs.Types.{FieldType, Rows, plain, mapWith, last, row}
+use Rattle.fields.specs.Types.{FieldType, Rows, plain, arrayOf, mapWith, last, row}
 use Rattle.fields.specs.Table.{groupRows, transformRows, assemblyRows, entityRows, named, fieldCount}
 use Rattle.fields.specs.Tests.{typed}
 use Rattle.fields.specs.Fields.{typeIn, findRow, rowCount}
@@ -104,6 +104,23 @@ pub rows-count : (f : ℕ → FieldType) (n r : ℕ) → rowCount (rowsFrom f n 
 unfolding rowCount rowsFrom
 rows-count f zero r = refl
 rows-count f (suc n) r = ap suc (rows-count f n (r + 1))
+
+-- the set of all rows has the required ones
+pub power-positive : (n : ℕ) → 0 < 2 ^ n
+power-positive zero = omega arith
+power-positive (suc n) = let h = power-positive n in omega arith
+
+pub covered-all : (f : ℕ → FieldType) (n r seen : ℕ) → seen + 1 ≡ 2 ^ n → covered (rowsFrom f n r) seen ≡ true
+unfolding covered rowsFrom
+covered-all f zero r seen e = refl
+covered-all f (suc n) r seen e =
+    let odd : seen % 2 ≡ 1 = omega arith in
+    let half : seen / 2 + 1 ≡ 2 ^ n = omega arith in
+    rw (odd, covered-all f n (r + 1) (seen / 2) half) (or-true (not (needOf r)))
+  where
+    or-true : (b : Bool) → (b || true) && true ≡ true
+    or-true true = refl
+    or-true false = refl
 
 pub row-typed : (f : ℕ → FieldType) (n r i : ℕ) (x : Document) → i < n → rowTest i (rowsFrom f n r) x ≡ typed (f (codeOf (r + i))) x
 unfolding rowTest rowsFrom
@@ -328,6 +345,12 @@ pub string-type : (d : ℕ) → 0 < d → typeOf d 2 ≡ plain 3
 unfolding typeOf tableByte typeTable
 string-type zero h = absurd (omega arith)
 string-type (suc d) h = refl
+
+-- the type of an array of integers
+pub integers-type : (d : ℕ) → 0 < d → typeOf d 4 ≡ arrayOf (plain 1)
+unfolding typeOf tableByte typeTable
+integers-type zero h = absurd (omega arith)
+integers-type (suc d) h = refl
 
 -- a type by the three numbers that were read of it
 pub type-read : (d c : ℕ) {tag many inside : ℕ} → 0 < d → c < codeCount → tag ≡ tagOf c → many ≡ tableByte (c * 3 + 1) → inside ≡ insideOf c → typeOf d c ≡ build (typeOf (d - 1)) tag (many % 64) inside

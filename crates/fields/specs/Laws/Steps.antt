@@ -13,7 +13,7 @@ use borrow.Author.Tests.{eq-eqb, ne-eqb, le-leb}
 use Rattle.heads.specs.Head.{kindAt, headAt}
 use Rattle.heads.specs.Table.{leadTable}
 use Rattle.heads.specs.Laws.Head.{Told, alone-head, float-kind, float-head}
-use Rattle.heads.specs.Laws.Table.{low-lead, string-lead}
+use Rattle.heads.specs.Laws.Table.{low-lead, array-lead, string-lead}
 use Rattle.heads.specs.declared.Head.{Head}
 use Rattle.heads.specs.declared.Kind.{Kind}
 use Rattle.messagepack.specs.Document.{Document, Documents, Entries, integer, float, string, binary, array, map, none, item, empty, entry, count, size, WritesAll, WritesEntries}
@@ -244,6 +244,12 @@ module _ (s : List ℕ) (at : ℕ) (inside : at < length s) (leads : List ℕ) w
   pub float-says : getD s at 0 ≡ 0xca → at + 5 ≤ length s → ValueSays leads s (typed (plain 2)) at (at + 5)
   float-says h le = known-says Kind.Float _ _ 2 (float-kind s at inside h, float-head s at h le) (lit≤ tt) refl
 
+  -- the head of a short array
+  array-read : (n : ℕ) → 0x90 ≤ getD s at 0 → getD s at 0 < 0xa0 → n ≡ getD s at 0 - 0x90 → HeadRead leads s at n (at + 1) 5
+  array-read n low high is =
+      let h = alone-head s at inside (array-lead (getD s at 0) low high) in
+      record { head = λ le. h .1 ∙ ap (λ (m : ℕ). Head.At m (at + 1)) (sym is); kind = λ le. ap headKind (h .0) }
+
   -- a short string
   pub short-says : (n : ℕ) → 0xa0 ≤ getD s at 0 → getD s at 0 < 0xc0 → n ≡ getD s at 0 - 0xa0 → at + 1 + n ≤ length s → ValueSays leads s (typed (plain 3)) at (at + 1 + n)
   short-says n low high e le =
@@ -408,6 +414,10 @@ low-items leads s (suc n) p l =
     let rest = low-items leads s n (p + 1) (low-rest l) in
     items-next leads s (typed (plain 1)) (suc n) p (omega arith) (low-says s p (b .0) leads (b .1)) (λ z. omega arith)
     (subst (λ (k : ℕ). ItemsSay leads s (typed (plain 1)) k (p + 1) ((p + suc n))) e (subst (λ (q : ℕ). ItemsSay leads s (typed (plain 1)) n (p + 1) (q)) f rest))
+
+-- an array whose count is in its lead byte, of integers in their lead bytes
+pub integers-say : (leads s : List ℕ) (at n : ℕ) → at < length s → 0x90 ≤ getD s at 0 → getD s at 0 < 0xa0 → n ≡ getD s at 0 - 0x90 → LowRun s (at + 1) n → ValueSays leads s (typed (arrayOf (plain 1))) at (at + 1 + n)
+integers-say leads s at n lt low high is run = arrayOf-says (array-read s at lt leads n low high is) (plain 1) refl (low-items leads s n (at + 1) run)
 
 -- a value under a row, or under none, which is stepped over
 

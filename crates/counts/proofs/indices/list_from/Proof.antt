@@ -20,16 +20,16 @@ loop-holds : tie.Need-loop-holds Inv-loop μ-loop
 loop-holds c = λ t es e a k. (record { rest = es; all = a; counts = k }, seeking-start)
 
 add-value : tie.Need-add-value Inv-loop μ-loop
-add-value c = omega (arith, c .before .text-at .ensures .0)
+add-value c = omega (arith, c .before .key-at .ensures .0)
 
 part-is-list-end : tie.Need-part-is-list-end Inv-loop μ-loop
-part-is-list-end c = omega (arith, c .before .text-at .ensures .0)
+part-is-list-end c = omega (arith, c .before .key-at .ensures .0)
 
 loop-again : tie.Need-loop-again Inv-loop μ-loop
 loop-again c =
     λ t es e a k.
     let i = c .before .before .before .before .before .before .before .loop .inv t es e a k in
-    seek-on (i .0) (i .1) (c .before .before .before .before .before .before .loop-test .taken) (c .before .before .before .before .before .text-at .result) (λ x f d. c .before .before .before .before .before .text-at .ensures .1 .1 t x f d) (c .before .before .is-list .ensures) (c .before .pick .ensures) (c .past-value .ensures t)
+    seek-on (i .0) (i .1) (c .before .before .before .before .before .before .loop-test .taken) (c .before .before .before .before .before .key-at .result) (λ x f d. c .before .before .before .before .before .key-at .ensures .1 .1 t x f d) (c .before .before .is-list .ensures) (c .before .pick .ensures) (c .past-value .ensures t)
 
 returns : tie.Need-returns Inv-loop μ-loop
 returns c =
