@@ -1,8 +1,8 @@
 -- By the lead byte alone the value is an array of so many values, and these are integers in their lead bytes.
 use mathlib.Core.Path.{_≡_, ap}
-use Prim.Native.Nat.{ℕ, _-_, _+_, _<_, _≤_}
+use Prim.Native.Nat.{ℕ, _-_, _<_, _≤_}
 use native.Mathlib.Omega.{arith}
-use lib.ListN.{length, getD}
+use lib.ListN.{getD}
 use borrow.Author.Needs.{needs}
 use Rattle.fields.specs.Laws.Steps.{integers-say}
 use Rattle.fields.proofs.quick_integers.Statement.{statement}

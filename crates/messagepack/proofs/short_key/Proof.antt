@@ -1,5 +1,5 @@
 -- The tests are those of a key whose length is in its lead byte and whose bytes are below 80.
-use mathlib.Core.Path.{_≡_, sym, _∙_}
+use mathlib.Core.Path.{_≡_}
 use Prim.Native.Nat.{_+_, _-_}
 use native.Mathlib.Omega.{arith}
 use borrow.Author.Needs.{needs}

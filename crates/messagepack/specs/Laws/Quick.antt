@@ -5,11 +5,10 @@ use mathlib.Core.Bool.{Bool, true, false}
 use mathlib.Core.List.{List, [], _∷_}
 use Prim.Native.Nat.{ℕ, zero, suc, _+_, _-_, _*_, _/_, _%_, _<_, _≤_}
 use native.Mathlib.Omega.{arith}
-use native.Mathlib.Nat.{add-zero}
 use lib.Dec.{ltb}
 use lib.ListN.{length, getD, take, drop}
 use Rattle.numbers.specs.BigEndian.{unsignedAt}
-use Rattle.numbers.specs.Laws.BigEndian.{loads, unsignedAt-loads}
+use Rattle.numbers.specs.Laws.BigEndian.{unsignedAt-loads}
 use Rattle.numbers.specs.Ranges.{integerLimit}
 use borrow.Author.Tests.{le-leb, lt-ltb, ltb-true, ltb-false}
 use Rattle.utf8.specs.Check.{isAscii}
