@@ -1,4 +1,4 @@
--- The named fields by their names, and the refusals by them: no number exactly if the fields are right, and no number above 24.
+-- The named fields by their names, and the refusals by them: no number exactly when the fields are right, and no number above 24.
 -- Assumes nothing.
 use mathlib.Core.Path.{_≡_, refl, sym, ap, subst, _∙_}
 use mathlib.Core.Bool.{Bool, true, false, cond, _&&_}
@@ -137,7 +137,7 @@ module _ (s : List ℕ) (a m : ℕ) where
       let z : getD (take m (drop a s)) 0 0 ≡ getD s a 0 = byte 0 (omega arith) ∙ ap (λ (i : ℕ). getD s i 0) (add-zero a) in
       rw (z, byte 1 (omega arith), byte 2 (omega arith))
 
--- no number exactly if all is right
+-- no number exactly when all is right
 
 three : (a b c : Bool) → cond a (cond b (cond c accepted versionNot1) fieldType) fieldMissing ≡ accepted → (a ≡ true) × (b ≡ true) × (c ≡ true)
 three true true true e = (refl, refl, refl)

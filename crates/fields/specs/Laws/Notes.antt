@@ -112,7 +112,7 @@ unfolding fieldAt
 field-entry k x es j lt =
     sym (field-name j (entry k x es) lt) ∙ valueOf-entry k x es j named named-distinct (omega (arith, named-count)) ∙ ap (cond (eqb j (findRow k named)) (some x)) (field-name j es lt)
 
--- a key is a field's name exactly if the field's number is that of its row
+-- a key is a field's name exactly when the field's number is that of its row
 name-is : (k : List ℕ) (j : ℕ) → j < fieldCount → equal k (getD fieldNames j []) ≡ eqb j (findRow k named)
 unfolding look
 name-is k j lt = go (equal k (getD fieldNames j [])) (eqb j (findRow k named)) (field-entry k (float 0) empty j lt)

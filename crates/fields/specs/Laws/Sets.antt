@@ -138,7 +138,7 @@ unfolding setOf present look
 present-none last = refl
 present-none (row k q t rows) = rw (present-none rows)
 
--- the required rows are covered exactly if each required key is there
+-- the required rows are covered exactly when each required key is there
 
 bit-one : (b : Bool) → eqb (bit b) 1 ≡ b
 bit-one true = refl

@@ -1,5 +1,5 @@
 -- `utf8::blocks` meets its contract: a block whose bits are below 80 is a run of characters of one byte each, so the bytes from its end are
--- UTF-8 exactly if those from its start are. Assumes nothing.
+-- UTF-8 exactly when those from its start are. Assumes nothing.
 use mathlib.Core.Path.{_≡_, refl, _∙_}
 use Prim.Native.Nat.{_-_, _≤_}
 use native.Mathlib.Omega.{arith}

@@ -1,4 +1,4 @@
--- `utf8::is_utf8` meets its contract. The loop's invariant: the bytes are UTF-8 exactly if those from `at` on are; the measure is what is left.
+-- `utf8::is_utf8` meets its contract. The loop's invariant: the bytes are UTF-8 exactly when those from `at` on are; the measure is what is left.
 -- Assumes nothing.
 use mathlib.Core.Path.{_≡_, refl, sym, ap, _∙_}
 use Prim.Native.Nat.{_-_, _≤_}

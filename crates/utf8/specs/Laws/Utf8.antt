@@ -1,5 +1,5 @@
 -- `isUtf8` says yes exactly for UTF-8. A lead byte has one of eight rows, RFC 3629's table by its ABNF, and in each row the
--- number that the bytes hold is a scalar value in its shortest form exactly if the second byte is in the row's range. Assumes nothing.
+-- number that the bytes hold is a scalar value in its shortest form exactly when the second byte is in the row's range. Assumes nothing.
 use mathlib.Core.Path.{_≡_, refl, sym, ap, _∙_}
 use mathlib.Core.Bool.{Bool, true, false, _&&_, false≢true}
 use mathlib.Core.List.{List, [], _∷_, _++_}
