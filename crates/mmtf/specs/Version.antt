@@ -5,7 +5,7 @@ abbrev pub versionMajor : ℕ
 versionMajor = 0
 
 abbrev pub versionMinor : ℕ
-versionMinor = 8
+versionMinor = 9
 
 abbrev pub versionPatch : ℕ
 versionPatch = 0

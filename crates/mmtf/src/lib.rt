@@ -45,7 +45,7 @@ use views::Place;
 // The version, as in specs/Version.antt.
 const MAJOR: u32 = 0;
 
-const MINOR: u32 = 8;
+const MINOR: u32 = 9;
 
 const PATCH: u32 = 0;
 
