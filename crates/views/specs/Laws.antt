@@ -4,3 +4,5 @@ pub mod Search
 pub mod View
 pub mod Unique
 pub mod Binary
+pub mod Outer
+pub mod Shapes

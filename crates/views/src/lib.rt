@@ -1,4 +1,9 @@
-// Views: the part of a file that shows an outer key's value, for any name and any key of a file that passes as a container.
+// Views: the part of a file that shows an outer key's value, for any name and any key of a file that passes as a container. Modules have the
+// places of the outer keys, what stands at a place, and the shape of a value.
+pub mod outer;
+pub mod plain;
+pub mod shapes;
+
 ghost use mathlib.Core.Path.{_≡_};
 ghost use mathlib.Core.Logic.{_↔_};
 ghost use Prim.Native.Nat.{ℕ, _-_};
