@@ -3,3 +3,4 @@ pub mod Texts
 pub mod Figures
 pub mod Decimals
 pub mod Lines
+pub mod Single

@@ -1,5 +1,6 @@
-// The values of a column as lines of text in a lent buffer: as many lines as have room. Every call is total.
+// The values of a column as lines of text in a lent buffer: as many lines as have room. Every call is total. Module `single` puts one line.
 mod exact;
+pub mod single;
 
 ghost use mathlib.Core.Path.{_≡_};
 ghost use Prim.Native.Nat.{_+_, _<_, _≤_};
