@@ -2,3 +2,4 @@
 pub mod Output
 pub mod Reading
 pub mod Receipts
+pub mod Listing

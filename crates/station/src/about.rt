@@ -6,17 +6,21 @@ use crate::words::Command;
 pub(crate) fn write_usage(descriptor: i32) -> bool {
     output::write_to(
         descriptor,
-        b"station check FILE...              says of each structure file whether it is accepted, or why it is refused\n\
+        b"station check FILE...              says of each file whether it is accepted, or why it is refused\n\
         station receipt STATION JOB FILE   writes the receipt of the file\n\
-        station view FILE NAME             writes the part of the file under NAME\n\
-        station column FILE NAME           writes the values of the column under NAME, one to a line\n\
+        station fields FILE                lists the fields: name, kind, codec and length, with tabs between\n\
+        station view FILE NAME             writes the value of a field as text, an array one value to a line\n\
+        station view --raw FILE NAME       writes its bytes: those of a string or a binary, else MessagePack\n\
+        station column FILE NAME           writes the values of a column, one to a line\n\
+        station column --raw FILE NAME     writes floats by their bits, in hexadecimal\n\
         station help                       writes this text (also -h, --help)\n\
         station --version                  writes the version\n\
         \n\
-        STATION is 1 to 99, JOB 1 to 999,999. FILE has at most 65,536 bytes; - is standard input. NAME is an outer key\n\
-        of the file, as structureId or xCoordList. Data go to standard output, sentences to standard error.\n\
-        Status 0: the file is accepted, or the data were written. 1: the file is refused (it still gets its receipt).\n\
-        2: nothing was produced. 3: the program could not be built.\n",
+        STATION is 1 to 99, JOB 1 to 999,999. FILE is a structure file of at most 65,536 bytes; - is\n\
+        standard input. NAME is an outer key of the file, as structureId or xCoordList.\n\
+        Verdicts and data go to standard output, other sentences to standard error.\n\
+        Status 0: the file is accepted, or the data were written. 1: the file is refused (it still gets its\n\
+        receipt), or the column is refused. 2: nothing was produced. 3: the program could not be built.\n",
     )
 }
 
@@ -33,11 +37,30 @@ pub(crate) fn say_usage_of(command: Command) {
             libc::STDERR_FILENO,
             b"Usage: station receipt STATION JOB FILE\n",
         ),
-        Command::View => io::write_all(libc::STDERR_FILENO, b"Usage: station view FILE NAME\n"),
-        Command::Column => io::write_all(libc::STDERR_FILENO, b"Usage: station column FILE NAME\n"),
+        Command::Fields => io::write_all(libc::STDERR_FILENO, b"Usage: station fields FILE\n"),
+        Command::View => say_view_usage(),
+        Command::RawView => say_view_usage(),
+        Command::Column => say_column_usage(),
+        Command::RawColumn => say_column_usage(),
+        Command::Help => io::write_all(libc::STDERR_FILENO, b"Usage: station help\n"),
+        Command::Version => io::write_all(libc::STDERR_FILENO, b"Usage: station --version\n"),
         _ => true,
     }
     ;
+}
+
+fn say_view_usage() -> bool {
+    io::write_all(
+        libc::STDERR_FILENO,
+        b"Usage: station view [--raw] FILE NAME\n",
+    )
+}
+
+fn say_column_usage() -> bool {
+    io::write_all(
+        libc::STDERR_FILENO,
+        b"Usage: station column [--raw] FILE NAME\n",
+    )
 }
 
 // Says that the program is started by the command.

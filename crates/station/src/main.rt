@@ -1,12 +1,15 @@
-// The service desk's command: whether structure files are accepted, a file's receipt, its parts and its columns. Data go to standard output,
-// sentences to standard error. The first word is the number of a descriptor, and the last act is to write the status there, one digit.
+// The service desk's command: whether structure files are accepted, a file's receipt, its fields, their values and its columns. Verdicts and data
+// go to standard output, other sentences to standard error. The first word is the number of a descriptor, and the last act is to write the status
+// there, one digit.
 mod about;
 mod files;
+mod listing;
 mod output;
 mod receipts;
 mod say;
 mod shown;
 mod status;
+mod texts;
 mod words;
 
 use files::Contents;
@@ -17,6 +20,7 @@ use sentences::Sentence;
 use shown::Shown;
 use status::Descriptor;
 use status::Status;
+use texts::Way;
 use words::Asked;
 use words::Command;
 
@@ -24,8 +28,11 @@ use words::Command;
 pub enum Task {
     Check,
     Receipt(u32, u32),
+    Fields,
     View,
+    RawView,
     Column,
+    RawColumn,
 }
 
 fn main() {
@@ -45,7 +52,14 @@ fn start() -> Status {
     }
     let mut word = io::buffer();
     let n = os::arg(2, &mut word);
-    obey(words::command_of(&word[..n]), &word[..n])
+    obey(with_flag(words::command_of(&word[..n])), &word[..n])
+}
+
+// A command with the word after it.
+fn with_flag(command: Command) -> Command {
+    let mut word = io::buffer();
+    let n = os::arg(3, &mut word);
+    words::with_flag(command, &word[..n])
 }
 
 // Obeys a command, if it has as many words as it takes.
@@ -57,8 +71,11 @@ fn obey(command: Command, word: &[u8]) -> Status {
     match command {
         Command::Check => check_all(os::arg_count()),
         Command::Receipt => receipt_of(),
+        Command::Fields => with_file(Task::Fields, words::file_place(command)),
         Command::View => with_file(Task::View, words::file_place(command)),
+        Command::RawView => with_file(Task::RawView, words::file_place(command)),
         Command::Column => with_file(Task::Column, words::file_place(command)),
+        Command::RawColumn => with_file(Task::RawColumn, words::file_place(command)),
         Command::Help => status::of_written(about::write_usage(libc::STDOUT_FILENO)),
         Command::Version => status::of_written(about::write_version()),
         Command::Unknown => {
@@ -129,8 +146,11 @@ fn answer(task: Task, path: &[u8], file: &[u8]) -> Status {
     match task {
         Task::Check => check(path, file),
         Task::Receipt(station, job) => write_receipt(path, file, station, job),
-        Task::View => view(path, file),
-        Task::Column => column(path, file),
+        Task::Fields => fields(path, file),
+        Task::View => view(path, file, words::name_place(Command::View), false),
+        Task::RawView => view(path, file, words::name_place(Command::RawView), true),
+        Task::Column => column(path, file, words::name_place(Command::Column), false),
+        Task::RawColumn => column(path, file, words::name_place(Command::RawColumn), true),
     }
 }
 
@@ -162,10 +182,20 @@ fn write_receipt(path: &[u8], file: &[u8], station: u32, job: u32) -> Status {
     }
 }
 
-// Writes the part of a file under a name.
-fn view(path: &[u8], file: &[u8]) -> Status {
+// Writes the fields of an accepted file.
+fn fields(path: &[u8], file: &[u8]) -> Status {
+    let verdict = structure::verdict(file);
+    if verdict != refusal::ACCEPTED {
+        say::write_verdict(libc::STDERR_FILENO, path, file, verdict);
+        return status::of_verdict(verdict);
+    }
+    status::of_written(listing::write_fields(file))
+}
+
+// Writes the value of the field under a name, as text or as it is.
+fn view(path: &[u8], file: &[u8], place: usize, raw: bool) -> Status {
     let mut name = io::buffer();
-    let n = os::arg(4, &mut name);
+    let n = os::arg(place, &mut name);
     if os::errno() != 0 {
         say::say_long_word();
         return Status::Nothing;
@@ -174,13 +204,27 @@ fn view(path: &[u8], file: &[u8]) -> Status {
     if number != refusal::ACCEPTED {
         return no_view(path, file, &name[..n], number);
     }
-    status::of_written(output::write(views::view(file, &name[..n])))
+    if raw {
+        return status::of_written(output::write(views::view(file, &name[..n])));
+    }
+    show(path, file, &name[..n])
+}
+
+// Writes the value of a field as text, or says why it is not shown.
+fn show(path: &[u8], file: &[u8], name: &[u8]) -> Status {
+    let value = views::view(file, name);
+    match texts::way_of(views::shapes::shape_of(file, name)) {
+        Way::One => status::of_written(texts::write_item(value)),
+        Way::Text => status::of_written(texts::write_string(value)),
+        Way::Each => status::of_written(texts::write_items(value)),
+        Way::Not(said) => no_part(path, name, said),
+    }
 }
 
 // Writes the values of the column under a name of a file.
-fn column(path: &[u8], file: &[u8]) -> Status {
+fn column(path: &[u8], file: &[u8], place: usize, raw: bool) -> Status {
     let mut name = io::buffer();
-    let n = os::arg(4, &mut name);
+    let n = os::arg(place, &mut name);
     if os::errno() != 0 {
         say::say_long_word();
         return Status::Nothing;
@@ -192,7 +236,7 @@ fn column(path: &[u8], file: &[u8]) -> Status {
     if !views::is_binary(file, &name[..n]) {
         return no_part(path, &name[..n], OfPart::NoColumn);
     }
-    match shown::write_column(views::view(file, &name[..n])) {
+    match shown::write_column(views::view(file, &name[..n]), raw) {
         Shown::Written(whole) => status::of_written(whole),
         Shown::Refused(refused) => no_part(path, &name[..n], words::part_of(refused)),
     }

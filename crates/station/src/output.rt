@@ -1,5 +1,32 @@
 // Data on standard output, in large pieces. Each function answers whether all was written, and says why where it was not.
+ghost use mathlib.Core.Path.{_≡_};
+ghost use lib.ListN.{length};
 use crate::say;
+
+// Room for lines, and how much of it the longest line takes: a file's bytes as four each, and the words after them.
+pub(crate) const ROOM: usize = 327_680;
+
+const LINE: usize = 262_400;
+
+// A buffer for lines.
+pub(crate) fn room() -> [u8; ROOM]
+    ensures { λ r. ⌜ length r ≡ 327680 ⌝ }
+{
+    [0u8; ROOM]
+}
+
+// Whether a buffer that is filled up to a place has no room for the longest line.
+pub(crate) fn is_full(at: usize) -> bool {
+    ROOM - LINE < at
+}
+
+// Writes the first n bytes of a buffer to standard output, or all of it if it has fewer.
+pub(crate) fn write_first(buffer: &[u8], n: usize) -> bool {
+    if n < buffer.len() {
+        return write(&buffer[..n]);
+    }
+    write(buffer)
+}
 
 // Writes bytes to standard output.
 pub(crate) fn write(bytes: &[u8]) -> bool {
@@ -36,6 +63,21 @@ pub(crate) fn write_floats(values: &[u32]) -> bool {
     let mut from: usize = 0;
     while from < values.len() {
         let part = lines::float_lines(&values[from..], &mut buffer);
+        let n = part.bytes;
+        if !write(&buffer[..n]) {
+            return false;
+        }
+        from += part.values;
+    }
+    true
+}
+
+// Writes floats by their bits, a line each.
+pub(crate) fn write_bits(values: &[u32]) -> bool {
+    let mut buffer = io::large_buffer();
+    let mut from: usize = 0;
+    while from < values.len() {
+        let part = lines::bits_lines(&values[from..], &mut buffer);
         let n = part.bytes;
         if !write(&buffer[..n]) {
             return false;

@@ -20,12 +20,12 @@ pub enum Shown {
     Refused(u8),
 }
 
-// Writes the values of a column.
-pub(crate) fn write_column(column: &[u8]) -> Shown {
+// Writes the values of a column; floats by their bits where the raw ones are asked for.
+pub(crate) fn write_column(column: &[u8], raw: bool) -> Shown {
     match columns::read_header(column, Wanted::Any) {
         Header::Refused(r) => Shown::Refused(r),
         Header::Good(_, size, kind, _, _) => match kind {
-            Kind::Float32 => show_floats(column),
+            Kind::Float32 => show_floats(column, raw),
             Kind::Strings => show_bytes(column, kind, size as usize),
             Kind::Chars => show_bytes(column, kind, 1),
             _ => show_numbers(column, kind),
@@ -68,12 +68,20 @@ fn whole(answer: Answer) -> Fixed
 }
 
 // Writes the floats of a column.
-fn show_floats(column: &[u8]) -> Shown {
+fn show_floats(column: &[u8], raw: bool) -> Shown {
     let mut buffer = no_floats();
     match floats::decode_float32(column, &mut buffer) {
         Answer::Refused(r) => Shown::Refused(r),
-        Answer::Count(n) => Shown::Written(output::write_floats(&buffer[..n])),
+        Answer::Count(n) => Shown::Written(write_in(&buffer[..n], raw)),
     }
+}
+
+// Writes floats in decimal, or by their bits.
+fn write_in(floats: &[u32], raw: bool) -> bool {
+    if raw {
+        return output::write_bits(floats);
+    }
+    output::write_floats(floats)
 }
 
 // Writes the characters or the strings of a column.

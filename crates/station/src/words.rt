@@ -1,14 +1,17 @@
 // The words of a command.
 ghost use mathlib.Core.Path.{_≡_};
-ghost use Rattle.station.specs.Words.{commandOf, aboutOf, wordsFit, filePlace, askedOf, partOf, isInput};
+ghost use Rattle.station.specs.Words.{commandOf, aboutOf, rawOf, flagged, wordsFit, filePlace, namePlace, askedOf, partOf, isInput};
 use sentences::OfPart;
 use text::Number;
 
 pub enum Command {
     Check,
     Receipt,
+    Fields,
     View,
+    RawView,
     Column,
+    RawColumn,
     Help,
     Version,
     Unknown,
@@ -29,6 +32,9 @@ pub(crate) fn command_of(word: &[u8]) -> Command
     }
     if text::same_bytes(word, b"receipt") {
         return Command::Receipt;
+    }
+    if text::same_bytes(word, b"fields") {
+        return Command::Fields;
     }
     if text::same_bytes(word, b"view") {
         return Command::View;
@@ -58,6 +64,34 @@ fn about_of(word: &[u8]) -> Command
     Command::Unknown
 }
 
+// The command that a word asks for which stands directly after it: --raw is for bytes, and for the bits of floats. A file of that name is ./--raw.
+pub(crate) fn with_flag(command: Command, word: &[u8]) -> Command
+    ensures { λ r. ⌜ r ≡ flagged command (now (word .entry)) ⌝ }
+{
+    if text::same_bytes(word, b"--raw") {
+        return raw(command);
+    }
+    command
+}
+
+// The command with --raw; one that does not take it stays.
+fn raw(command: Command) -> Command
+    ensures { λ r. ⌜ r ≡ rawOf command ⌝ }
+{
+    match command {
+        Command::Check => Command::Check,
+        Command::Receipt => Command::Receipt,
+        Command::Fields => Command::Fields,
+        Command::View => Command::RawView,
+        Command::RawView => Command::RawView,
+        Command::Column => Command::RawColumn,
+        Command::RawColumn => Command::RawColumn,
+        Command::Help => Command::Help,
+        Command::Version => Command::Version,
+        Command::Unknown => Command::Unknown,
+    }
+}
+
 // Whether a command has as many words as it takes: count is that of all words, the program's name, the descriptor and the command among them.
 pub(crate) fn fits(command: Command, count: usize) -> bool
     ensures { λ r. ⌜ r ≡ wordsFit command count ⌝ }
@@ -65,10 +99,13 @@ pub(crate) fn fits(command: Command, count: usize) -> bool
     match command {
         Command::Check => 4 <= count,
         Command::Receipt => count == 6,
+        Command::Fields => count == 4,
         Command::View => count == 5,
+        Command::RawView => count == 6,
         Command::Column => count == 5,
-        Command::Help => true,
-        Command::Version => true,
+        Command::RawColumn => count == 6,
+        Command::Help => count == 3,
+        Command::Version => count == 3,
         Command::Unknown => true,
     }
 }
@@ -80,11 +117,32 @@ pub(crate) fn file_place(command: Command) -> usize
     match command {
         Command::Check => 3,
         Command::Receipt => 5,
+        Command::Fields => 3,
         Command::View => 3,
+        Command::RawView => 4,
         Command::Column => 3,
+        Command::RawColumn => 4,
         Command::Help => 3,
         Command::Version => 3,
         Command::Unknown => 3,
+    }
+}
+
+// Which of the words is the name of a field, if the command takes one.
+pub(crate) fn name_place(command: Command) -> usize
+    ensures { λ r. ⌜ r ≡ namePlace command ⌝ }
+{
+    match command {
+        Command::Check => 4,
+        Command::Receipt => 6,
+        Command::Fields => 4,
+        Command::View => 4,
+        Command::RawView => 5,
+        Command::Column => 4,
+        Command::RawColumn => 5,
+        Command::Help => 4,
+        Command::Version => 4,
+        Command::Unknown => 4,
     }
 }
 

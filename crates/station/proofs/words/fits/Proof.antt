@@ -18,6 +18,21 @@ returns-3 c = sym (ap (λ (x : Command). wordsFit x (c .before .before .args .co
 returns-4 : tie.Need-returns-4
 returns-4 c = sym (ap (λ (x : Command). wordsFit x (c .before .before .args .count)) (c .enum-told4 .given .1))
 
+returns-5 : tie.Need-returns-5
+returns-5 c = sym (ap (λ (x : Command). wordsFit x (c .before .before .args .count)) (c .enum-told5 .given .1))
+
+returns-6 : tie.Need-returns-6
+returns-6 c = sym (ap (λ (x : Command). wordsFit x (c .before .before .args .count)) (c .enum-told6 .given .1))
+
+returns-7 : tie.Need-returns-7
+returns-7 c = sym (ap (λ (x : Command). wordsFit x (c .before .before .args .count)) (c .enum-told7 .given .1))
+
+returns-8 : tie.Need-returns-8
+returns-8 c = sym (ap (λ (x : Command). wordsFit x (c .before .before .args .count)) (c .enum-told8 .given .1))
+
+returns-9 : tie.Need-returns-9
+returns-9 c = sym (ap (λ (x : Command). wordsFit x (c .before .before .args .count)) (c .enum-told9 .given .1))
+
 pub fits-spec : {M : Type 1} → statement M
 fits-spec =
     tie.close
@@ -29,10 +44,16 @@ fits-spec =
     (λ c. search needs)
     (λ c. search needs)
     (λ c. search needs)
+    (λ c. search needs)
+    (λ c. search needs)
+    (λ c. search needs)
     returns
     returns-2
     returns-3
     returns-4
-    (λ c. search needs)
-    (λ c. search needs)
+    returns-5
+    returns-6
+    returns-7
+    returns-8
+    returns-9
     (λ c. search needs))
