@@ -28,7 +28,7 @@ forms =
     ∷ row 8 (partForm OfPart.NoColumn)
     ∷ row 9 (partForm OfPart.NotShown)
     ∷ row 10 (partForm OfPart.Nested)
-    ∷ row 11 (partForm OfPart.IsColumn)
+    ∷ row 11 (partForm OfPart.IsBinary)
     ∷ row 12 (partForm (OfPart.Refused 0))
     ∷ row 13 (wordForm OfWord.NoCommand)
     ∷ row 14 (wordForm OfWord.NoStation)
@@ -54,7 +54,7 @@ rowOf (Sentence.Part OfPart.NoField) = 7
 rowOf (Sentence.Part OfPart.NoColumn) = 8
 rowOf (Sentence.Part OfPart.NotShown) = 9
 rowOf (Sentence.Part OfPart.Nested) = 10
-rowOf (Sentence.Part OfPart.IsColumn) = 11
+rowOf (Sentence.Part OfPart.IsBinary) = 11
 rowOf (Sentence.Part (OfPart.Refused n)) = 12
 rowOf (Sentence.Word OfWord.NoCommand) = 13
 rowOf (Sentence.Word OfWord.NoStation) = 14

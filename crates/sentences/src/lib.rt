@@ -28,7 +28,7 @@ pub enum OfPart {
     NoColumn,
     NotShown,
     Nested,
-    IsColumn,
+    IsBinary,
     Refused(u8),
 }
 
@@ -97,7 +97,7 @@ fn row_of(sentence: Sentence) -> u32
             OfPart::NoColumn => 8,
             OfPart::NotShown => 9,
             OfPart::Nested => 10,
-            OfPart::IsColumn => 11,
+            OfPart::IsBinary => 11,
             OfPart::Refused(_) => 12,
         },
         Sentence::Word(said) => match said {
@@ -135,7 +135,7 @@ fn refusal_of(sentence: Sentence) -> u8
             OfPart::NoColumn => 0,
             OfPart::NotShown => 0,
             OfPart::Nested => 0,
-            OfPart::IsColumn => 0,
+            OfPart::IsBinary => 0,
             OfPart::Refused(number) => number,
         },
         Sentence::Word(_) => 0,
@@ -181,8 +181,8 @@ fn put_form(
         \x07@ has no field \"$\".\n\
         \x08Field \"$\" of & is not a column: its value is not a binary.\n\
         \x09Column \"$\" of & is not shown: it has more than 65,536 values.\n\
-        \x0aField \"$\" of & is not shown as text: it is a map, or an array that holds a map or another array. With --raw its bytes are written.\n\
-        \x0bField \"$\" of & is a column: \"station column\" shows its values, and \"station view --raw\" its bytes.\n\
+        \x0aField \"$\" of & is not shown as text: it is a map, or an array of more than numbers and strings. With --raw its bytes are written.\n\
+        \x0bField \"$\" of & is a binary: \"station column\" shows the values of a column, and \"station view --raw\" the bytes of any binary.\n\
         \x0cColumn \"$\" of & is refused with #: *.\n\
         \x0d\"%\" is not a command. The command \"station help\" lists them.\n\
         \x0eThe station must be a number from 1 to 99, and \"%\" is not.\n\

@@ -37,7 +37,7 @@ partStatus OfPart.NoField = Nothing
 partStatus OfPart.NoColumn = Nothing
 partStatus OfPart.NotShown = Nothing
 partStatus OfPart.Nested = Nothing
-partStatus OfPart.IsColumn = Nothing
+partStatus OfPart.IsBinary = Nothing
 
 -- the worse of two statuses: 2 over 1 over 0
 abbrev pub worstOf : Status → Status → Status

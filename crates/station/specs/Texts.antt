@@ -19,7 +19,7 @@ wayOf Shape.Integer = Way.One
 wayOf Shape.Float = Way.One
 wayOf Shape.String = Way.Text
 wayOf Shape.Flat = Way.Each
-wayOf Shape.Binary = Way.Not OfPart.IsColumn
+wayOf Shape.Binary = Way.Not OfPart.IsBinary
 wayOf Shape.Nested = Way.Not OfPart.Nested
 wayOf Shape.Missing = Way.Not OfPart.NoField
 

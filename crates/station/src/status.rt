@@ -59,7 +59,7 @@ pub(crate) fn of_part(said: OfPart) -> Status
         OfPart::NoColumn => Status::Nothing,
         OfPart::NotShown => Status::Nothing,
         OfPart::Nested => Status::Nothing,
-        OfPart::IsColumn => Status::Nothing,
+        OfPart::IsBinary => Status::Nothing,
         OfPart::Refused(_) => Status::Refused,
     }
 }

@@ -25,7 +25,7 @@ pub(crate) fn way_of(shape: Shape) -> Way
         Shape::Float => Way::One,
         Shape::String => Way::Text,
         Shape::Flat => Way::Each,
-        Shape::Binary => Way::Not(OfPart::IsColumn),
+        Shape::Binary => Way::Not(OfPart::IsBinary),
         Shape::Nested => Way::Not(OfPart::Nested),
         Shape::Missing => Way::Not(OfPart::NoField),
     }
