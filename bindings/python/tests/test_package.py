@@ -138,10 +138,10 @@ class Loaded(Case):
         program = ("-m", "nozhuiteca")
         self.assertEqual(said(*program, ACCEPTED), (0, f"{ACCEPTED} is accepted.\n", ""))
         self.assertEqual(said(*program, REFUSED),
-                         (1, "", f"{REFUSED} is refused with 3: a lead byte is not in the subset.\n"))
+                         (1, f"{REFUSED} is refused with 3: a lead byte is not in the subset.\n", ""))
         self.assertEqual(said(*program, HERE), (2, "", f"{HERE} cannot be read: Is a directory.\n"))
         self.assertEqual(said(*program, "nothing"), (2, "", "nothing cannot be read: No such file or directory.\n"))
-        self.assertEqual(said(*program), (2, "", "usage: python3 -m nozhuiteca FILE\n"))
+        self.assertEqual(said(*program), (2, "", "Usage: python3 -m nozhuiteca FILE\n"))
 
     def test_build_without_an_archive(self) -> None:
         known = {**os.environ, "MMTF_LIB_DIR": "/nowhere"}
