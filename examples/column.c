@@ -98,7 +98,7 @@ static int find_column(const char *path, const uint8_t *file, size_t n, const ch
     }
     refusal = write_column(file + start, length);
     if (refusal != MMTF_ACCEPTED) {
-        fprintf(stderr, "column \"%s\" of %s", name, path);
+        fprintf(stderr, "Column \"%s\" of %s", name, path);
         return say_refused(refusal);
     }
     return end_output(STATUS_DONE);

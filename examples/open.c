@@ -49,17 +49,21 @@ static uint8_t count_cells(const uint8_t *column, size_t n, uint64_t *cells) {
 static int write_columns(const char *path, const uint8_t *file, size_t n) {
     uint64_t presence, starts[MMTF_FIELDS_ROOM], lengths[MMTF_FIELDS_ROOM];
     uint8_t refusal = mmtf_fields(file, n, &presence, starts, lengths, MMTF_FIELDS_ROOM);
-    for (int field = 0; refusal == MMTF_ACCEPTED && field < MMTF_FIELD_COUNT; field++) {
-        if ((presence >> field & 1) && is_column(field)) {
-            uint64_t cells = 0;
-            refusal = count_cells(file + starts[field], lengths[field], &cells);
-            printf("%d %llu %llu %llu\n", field, (unsigned long long)starts[field], (unsigned long long)lengths[field],
-                (unsigned long long)cells);
-        }
-    }
     if (refusal != MMTF_ACCEPTED) {
         fputs(path, stderr);
         return say_refused(refusal);
+    }
+    for (int field = 0; field < MMTF_FIELD_COUNT; field++) {
+        if ((presence >> field & 1) && is_column(field)) {
+            uint64_t cells = 0;
+            refusal = count_cells(file + starts[field], lengths[field], &cells);
+            if (refusal != MMTF_ACCEPTED) {
+                fprintf(stderr, "Column %d of %s", field, path);
+                return say_refused(refusal);
+            }
+            printf("%d %llu %llu %llu\n", field, (unsigned long long)starts[field], (unsigned long long)lengths[field],
+                (unsigned long long)cells);
+        }
     }
     return end_output(STATUS_DONE);
 }

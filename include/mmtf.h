@@ -1,5 +1,5 @@
 /*
- * libmmtf.a: an MMTF reader whose calls are proved to meet their contracts.
+ * libmmtf: an MMTF reader whose calls are proved to meet their contracts.
  *
  * The library checks a file or its container alone, opens a file with the places of all its fields, finds values by name,
  * decodes and encodes columns, reads one cell, gives the matrices of transforms, writes and reads receipts, and says each
@@ -27,7 +27,7 @@
 #include <stdint.h>
 
 #if SIZE_MAX != UINT64_MAX
-#error "libmmtf.a is for targets on which size_t has 64 bits"
+#error "libmmtf is for targets on which size_t has 64 bits"
 #endif
 
 #ifdef __cplusplus

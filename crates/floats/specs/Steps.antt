@@ -27,7 +27,7 @@ keptPayload n m s = exactly (judgedPayload (Good n m kind.Float32 (Plain Four) f
 abbrev pub quotientPayload : ℕ → ℕ → Form → Bool → List ℕ → Decoding
 quotientPayload n m f d s = exactly (judgedPayload (Good n m kind.FixedPoint f d) s)
 
--- the forms of codecs 9 to 13
+-- the forms that quotients are written of, those of codecs 9 to 13 among them
 abbrev pub isDivided : Form → Bool → Bool
 isDivided (Plain One) d = not d
 isDivided (Plain Two) d = not d

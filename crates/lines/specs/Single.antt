@@ -10,7 +10,7 @@ use Rattle.text.specs.declared.Number.{Number}
 use Rattle.lines.specs.Texts.{digits}
 use Rattle.lines.specs.declared.single.Sort.{Sort}
 
--- is a byte a control character, or the mark?
+-- is a byte below 32, or 127, or the mark?
 abbrev pub breaks : ℕ → ℕ → Bool
 breaks mark b = ltb b 32 || (eqb b 127 || eqb b mark)
 
@@ -22,7 +22,7 @@ unfoldable pub escaped : ℕ → List ℕ → List ℕ
 escaped mark [] = []
 escaped mark (b ∷ s) = byteText mark b ++ escaped mark s
 
--- a string: its control characters as \xNN, everything else as it stands
+-- a string: bytes below 32 and 127 as \xNN, everything else as it stands
 abbrev pub stringText : List ℕ → List ℕ
 stringText s = escaped 127 s
 

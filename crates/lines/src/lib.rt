@@ -23,7 +23,7 @@ pub enum Places {
     Endless,
 }
 
-// The room that the line of a number always has.
+// The room that the line of a number, or of a float in hexadecimal, always has.
 const ROOM: usize = 32;
 
 // The room that the line of a float in decimal always has.

@@ -89,7 +89,7 @@ fn put_shown(buffer: &mut [u8], at: usize, byte: u8, mark: u8) -> usize
     text::put_byte(buffer, at, byte)
 }
 
-// Whether a byte is a control character or the mark.
+// Whether a byte is below 32, or 127, or the mark.
 fn breaks_line(byte: u8, mark: u8) -> bool
     ensures { λ r. ⌜ r ≡ breaks mark byte ⌝ }
 {

@@ -208,7 +208,7 @@ fn short_at(file: &[u8], at: usize) -> Short
     Short::Other
 }
 
-// A key of at most 31 bytes, its length in its lead byte, if its bytes are quickly found to be below 80.
+// A key of at most 31 bytes, its length in its lead byte, if its bytes are quickly found to be below 0x80.
 fn short_key(file: &[u8], at: usize) -> Short
     ensures { λ r. ⌜ ShortSays (now (file .entry)) at r ⌝ }
 {
@@ -236,7 +236,7 @@ fn short_key(file: &[u8], at: usize) -> Short
     Short::Other
 }
 
-// Whether bytes are below 80: four at a time, and the last four may overlap others.
+// True only if all bytes are below 0x80: they are looked at four at a time, and the last four may overlap others.
 fn all_low(bytes: &[u8]) -> bool
     ensures { λ r. ⌜ (r ≡ true → isAscii (now (bytes .entry)) ≡ true) ⌝ }
 {
@@ -254,7 +254,7 @@ fn all_low(bytes: &[u8]) -> bool
     low_word(bytes, last)
 }
 
-// Whether the four bytes from a place on are below 80: the tests become one of the word that they are.
+// True only if the four bytes from a place on are below 0x80: the compiler makes one test of the word that they are.
 fn low_word(bytes: &[u8], at: usize) -> bool
     requires { ⌜ at + 4 ≤ length (now bytes) ⌝ }
     ensures { λ r. ⌜ (r ≡ true → (i : ℕ) → i < 4 → getD (now (bytes .entry)) (at + i) 0 < 0x80) ⌝ }

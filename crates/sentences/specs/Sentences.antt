@@ -48,8 +48,8 @@ abbrev pub partForm : OfPart → List ℕ
 partForm OfPart.NoField = ascii "@ has no field \"$\"."
 partForm OfPart.NoColumn = ascii "Field \"$\" of & is not a column: its value is not a binary."
 partForm OfPart.NotShown = ascii "Column \"$\" of & is not shown: it has more than 65,536 values."
-partForm OfPart.Nested = ascii "Field \"$\" of & is not shown as text: it is a map, or an array of more than numbers and strings. With --raw its bytes are written."
-partForm OfPart.IsBinary = ascii "Field \"$\" of & is a binary: \"station column\" shows the values of a column, and \"station view --raw\" the bytes of any binary."
+partForm OfPart.Nested = ascii "Field \"$\" of & is not shown as text: it is a map, or an array with elements other than numbers and strings. With --raw its bytes are written."
+partForm OfPart.IsBinary = ascii "Field \"$\" of & is a column or another binary: \"station column\" shows the values of a column, and \"station view --raw\" the bytes of any binary."
 partForm (OfPart.Refused n) = ascii "Column \"$\" of & is refused with #: *."
 
 -- a word

@@ -181,8 +181,8 @@ fn put_form(
         \x07@ has no field \"$\".\n\
         \x08Field \"$\" of & is not a column: its value is not a binary.\n\
         \x09Column \"$\" of & is not shown: it has more than 65,536 values.\n\
-        \x0aField \"$\" of & is not shown as text: it is a map, or an array of more than numbers and strings. With --raw its bytes are written.\n\
-        \x0bField \"$\" of & is a binary: \"station column\" shows the values of a column, and \"station view --raw\" the bytes of any binary.\n\
+        \x0aField \"$\" of & is not shown as text: it is a map, or an array with elements other than numbers and strings. With --raw its bytes are written.\n\
+        \x0bField \"$\" of & is a column or another binary: \"station column\" shows the values of a column, and \"station view --raw\" the bytes of any binary.\n\
         \x0cColumn \"$\" of & is refused with #: *.\n\
         \x0d\"%\" is not a command. The command \"station help\" lists them.\n\
         \x0eThe station must be a number from 1 to 99, and \"%\" is not.\n\

@@ -15,7 +15,7 @@ use Rattle.lines.specs.declared.single.Sort.{Sort}
 use Rattle.lines.specs.Single.{fieldText}
 use Rattle.station.specs.declared.listing.What.{What}
 
--- a number of 32 bits
+-- a number, or none where 32 bits do not hold it
 abbrev pub countOf : ℕ → Number
 countOf n = cond (ltb n 0x1_0000_0000) (Number.Is n) Number.None
 
@@ -32,7 +32,7 @@ abbrev pub binaryWhat : Header → List ℕ → Number → What
 binaryWhat (Header.Good n m k f d) body length = columnWhat (unsignedAt 4 body 0) (countOf n)
 binaryWhat (Header.Refused r) body length = whatOf Sort.Binary length
 
--- a value by its kind: the number of its head is its length
+-- a value by its kind: the number of its head is its length. No value of an accepted file is outside the subset or missing
 abbrev pub kindWhat : Kind → List ℕ → Number → What
 kindWhat Kind.Unsigned body length = whatOf Sort.Integer Number.None
 kindWhat Kind.Signed body length = whatOf Sort.Integer Number.None

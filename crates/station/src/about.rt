@@ -8,19 +8,19 @@ pub(crate) fn write_usage(descriptor: i32) -> bool {
         descriptor,
         b"station check FILE...              says of each file whether it is accepted, or why it is refused\n\
         station receipt STATION JOB FILE   writes the receipt of the file\n\
-        station fields FILE                lists the fields: name, kind, codec and length, with tabs between\n\
+        station fields FILE                lists the fields of an accepted file: name, kind, codec, length\n\
         station view FILE NAME             writes the value of a field as text, an array one value to a line\n\
         station view --raw FILE NAME       writes its bytes: those of a string or a binary, else MessagePack\n\
         station column FILE NAME           writes the values of a column, one to a line\n\
-        station column --raw FILE NAME     writes floats by their bits, in hexadecimal\n\
+        station column --raw FILE NAME     writes 32-bit floats in the hexadecimal notation of C\n\
         station help                       writes this text (also -h, --help)\n\
         station --version                  writes the version\n\
         \n\
         STATION is 1 to 99, JOB 1 to 999,999. FILE is a structure file of at most 65,536 bytes; - is\n\
         standard input. NAME is an outer key of the file, as structureId or xCoordList.\n\
         Verdicts and data go to standard output, other sentences to standard error.\n\
-        Status 0: the file is accepted, or the data were written. 1: the file is refused (it still gets its\n\
-        receipt), or the column is refused. 2: nothing was produced. 3: the program could not be built.\n",
+        Status 0: the file is accepted, or the data were written. 1: the file is refused (receipt still\n\
+        writes its receipt), or the column is. 2: nothing was produced. 3: the program could not be built.\n",
     )
 }
 

@@ -64,7 +64,7 @@ fn about_of(word: &[u8]) -> Command
     Command::Unknown
 }
 
-// The command that a word asks for which stands directly after it: --raw is for bytes, and for the bits of floats. A file of that name is ./--raw.
+// A command with the word directly after it: --raw asks view for bytes, and column for floats in hexadecimal. A file of that name is ./--raw.
 pub(crate) fn with_flag(command: Command, word: &[u8]) -> Command
     ensures { λ r. ⌜ r ≡ flagged command (now (word .entry)) ⌝ }
 {

@@ -36,7 +36,7 @@ pub record Sized (lead size : ℕ) : Type 0 where
   pub is : size ≡ moreOf lead + 1
   pub more : 1 < size
 
--- a step to n values, or over all of them, or to those that are left after the first
+-- a step to n values, or over all of them, or to those that are left after some at the start
 pub data ItemsOver (s : List ℕ) (n p : ℕ) : Over → Type 0 where
   over : LowRun s p n → ItemsOver s n p (Over.On (p + n) 0)
   each : ItemsOver s n p (Over.On p n)

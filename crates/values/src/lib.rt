@@ -141,7 +141,7 @@ fn past(file: &[u8], n: usize, p: usize) -> Over
     Over::On(p + n, 0)
 }
 
-// A step to n values, or over all of them where they are integers in their lead bytes, or past the first of them.
+// A step to n values, or over all of them where they are integers in their lead bytes, or past those at the start that have one lead byte.
 fn over_items(file: &[u8], n: usize, p: usize) -> Over
     ensures { λ r. ⌜ ItemsOver (now (file .entry)) n p r ⌝ }
 {
@@ -151,7 +151,7 @@ fn over_items(file: &[u8], n: usize, p: usize) -> Over
     over_first(file, n, p)
 }
 
-// A step past the first of n values that are integers of one, two or four bytes after their lead byte, if the first of them is one.
+// A step past those at the start of n values that are integers of one, two or four bytes after the same lead byte, if the first is one.
 fn over_first(file: &[u8], n: usize, p: usize) -> Over
     ensures { λ r. ⌜ ItemsOver (now (file .entry)) n p r ⌝ }
 {
@@ -171,7 +171,7 @@ fn over_first(file: &[u8], n: usize, p: usize) -> Over
     Over::On(p, n)
 }
 
-// A step past the first of n values that have a lead byte and its size: a loop for each size.
+// A step past those at the start of n values that have a lead byte and its size; the compiler makes a loop for each size.
 fn over_run(file: &[u8], n: usize, p: usize, lead: u8, size: usize) -> Over
     requires { ⌜ (p ≤ length (now file)) × Sized lead size ⌝ }
     ensures { λ r. ⌜ ItemsOver (now (file .entry)) n p r ⌝ }

@@ -27,7 +27,7 @@ textAt file at = take (textPart file at .count) (drop (textPart file at .at) fil
 abbrev pub textEnd : List ℕ → ℕ → ℕ
 textEnd file at = textPart file at .at + textPart file at .count
 
--- the integer at a place; of another value 0
+-- the integer at a place; 0 for another value, for one above 2,147,483,647 and for one that is cut short
 abbrev pub integerAt : List ℕ → ℕ → ℤ
 integerAt file at = integerBy leadTable file at
 

@@ -1,4 +1,4 @@
-// What stands at a place of a file, by its head alone: each call takes any bytes and any place, and supposes nothing of them.
+// What stands at a place of a file, by its head: each call takes any bytes and any place, and supposes nothing of them.
 ghost use mathlib.Core.Path.{_≡_};
 ghost use Rattle.heads.specs.Head.{kindAt};
 ghost use Rattle.views.specs.Plain.{numberAt, headEnd, textAt, textEnd, integerAt, bitsAt};
@@ -32,7 +32,7 @@ pub fn head_end(file: &[u8], at: usize) -> usize
     }
 }
 
-// The bytes of the string or the binary at a place; of another value none.
+// The bytes of the string or the binary at a place; none of another value, or of one that is cut short.
 pub fn text_at<'a>(file: &'a [u8], at: usize) -> &'a [u8]
     ensures { λ r. ⌜ now r ≡ textAt (now (file .entry)) at ⌝ }
 {
@@ -42,7 +42,7 @@ pub fn text_at<'a>(file: &'a [u8], at: usize) -> &'a [u8]
     &file[start..end]
 }
 
-// Where the string or the binary at a place ends, which for a key is where its value stands; of another value 0.
+// Where the string or the binary at a place ends, which for a key is where its value stands; 0 for another value, or for one that is cut short.
 pub fn text_end(file: &[u8], at: usize) -> usize
     ensures { λ r. ⌜ r ≡ textEnd (now (file .entry)) at ⌝ }
 {
@@ -50,7 +50,7 @@ pub fn text_end(file: &[u8], at: usize) -> usize
     part.at + part.count
 }
 
-// The integer at a place; of another value 0.
+// The integer at a place; 0 for another value, for one above 2,147,483,647 and for one that is cut short.
 pub fn integer_at(file: &[u8], at: usize) -> i32
     ensures { λ r. ⌜ r ≡ integerAt (now (file .entry)) at ⌝ }
 {
