@@ -1,4 +1,4 @@
--- Floats of single precision in decimal. A finite float is m * 2 ^ (e - 150) for whole numbers m and e, and so a whole number over a power of
+-- Floats of single precision in decimal, and in either notation. A finite float is m * 2 ^ (e - 150) for whole numbers m and e, and so a whole number over a power of
 -- ten: it has an exact decimal. No lemma stands here: the laws are in Laws/Decimals.antt. Assumes nothing.
 use mathlib.Core.Bool.{cond}
 use mathlib.Core.List.{List, _++_}
@@ -6,7 +6,8 @@ use Prim.Native.Nat.{ℕ, zero, suc, _+_, _-_, _*_, _/_, _%_, _^_}
 use lib.Dec.{eqb, ltb}
 use Rattle.text.specs.Decimal.{decimalIn}
 use Rattle.text.specs.Ascii.{ascii}
-use Rattle.lines.specs.Texts.{digits, exponentOf, fractionOf, signText, specialText}
+use Rattle.lines.specs.Texts.{digits, exponentOf, fractionOf, signText, specialText, bitsText}
+use Rattle.lines.specs.declared.Notation.{Notation}
 
 -- the last k digits of n without the zeros at their end, but one digit at least
 unfoldable pub placesText : ℕ → ℕ → List ℕ
@@ -28,3 +29,8 @@ exactText e f = cond (eqb e 0) (binaryText f 1) (binaryText (0x80_0000 + f) e)
 -- a float by its 32 bits
 abbrev pub floatText : ℕ → List ℕ
 floatText bits = cond (eqb (exponentOf bits) 255) (specialText bits) (signText bits ++ exactText (exponentOf bits) (fractionOf bits))
+
+-- a float by its 32 bits in a notation
+unfoldable pub floatIn : Notation → ℕ → List ℕ
+floatIn Notation.Decimal = floatText
+floatIn Notation.Hexadecimal = bitsText

@@ -8,7 +8,7 @@ ghost use lib.ListN.{length, take};
 ghost use Rattle.text.specs.Put.{Put};
 ghost use Rattle.lines.specs.Texts.{digits, placesOf, fractionText, magnitudeText, numberText, signText};
 ghost use Rattle.lines.specs.Texts.{leadOf, scaledOf, exponentText, finiteText, specialText, bitsText, nameText};
-ghost use Rattle.lines.specs.Decimals.{floatText};
+ghost use Rattle.lines.specs.Decimals.{floatText, floatIn};
 ghost use Rattle.lines.specs.Lines.{line, Lines, namesIn};
 
 // How many values were put as lines, and how many bytes these take.
@@ -23,10 +23,16 @@ pub enum Places {
     Endless,
 }
 
-// The room that the line of a number, or of a float in hexadecimal, always has.
+// How a float is written: in exact decimal, or in the hexadecimal notation of C.
+pub enum Notation {
+    Decimal,
+    Hexadecimal,
+}
+
+// The room that the line of a number always has.
 const ROOM: usize = 32;
 
-// The room that the line of a float in decimal always has.
+// The room that the line of a float always has.
 const FLOAT_ROOM: usize = 192;
 
 // Numbers over a divisor, a line each: exactly so many decimal places if the divisor is a power of ten, else the number, a slash and
@@ -53,9 +59,9 @@ pub fn number_lines(values: &[i32], divisor: u32, buffer: &mut [u8]) -> Gathered
     }
 }
 
-// Floats of single precision by their bits, a line each, in exact decimal.
-pub fn float_lines(values: &[u32], buffer: &mut [u8]) -> Gathered
-    ensures { λ r. ⌜ Lines floatText 192 (now (values .entry)) (now (buffer .entry)) (now (buffer .exit)) r ⌝ }
+// Floats of single precision by their bits, a line each, in a notation.
+pub fn float_lines(values: &[u32], notation: Notation, buffer: &mut [u8]) -> Gathered
+    ensures { λ r. ⌜ Lines (floatIn notation) 192 (now (values .entry)) (now (buffer .entry)) (now (buffer .exit)) r ⌝ }
 {
     let mut at: usize = 0;
     let mut i: usize = 0;
@@ -66,29 +72,7 @@ pub fn float_lines(values: &[u32], buffer: &mut [u8]) -> Gathered
                 bytes: at,
             };
         }
-        at = put_float(buffer, at, values[i]);
-        i += 1;
-    }
-    Gathered {
-        values: i,
-        bytes: at,
-    }
-}
-
-// Floats of single precision by their bits, a line each, in C's hexadecimal notation.
-pub fn bits_lines(values: &[u32], buffer: &mut [u8]) -> Gathered
-    ensures { λ r. ⌜ Lines bitsText 32 (now (values .entry)) (now (buffer .entry)) (now (buffer .exit)) r ⌝ }
-{
-    let mut at: usize = 0;
-    let mut i: usize = 0;
-    while i < values.len() {
-        if buffer.len() - at < ROOM {
-            return Gathered {
-                values: i,
-                bytes: at,
-            };
-        }
-        at = put_bits(buffer, at, values[i]);
+        at = put_in(buffer, at, values[i], notation);
         i += 1;
     }
     Gathered {
@@ -201,6 +185,16 @@ fn put_digits(buffer: &mut [u8], at: usize, number: u32, base: u32, k: usize) ->
     }
     let last = put_digits(buffer, at, number / base, base, k - 1);
     text::put_byte(buffer, last, text::digit(number % base))
+}
+
+// Puts the line of a float in a notation.
+fn put_in(buffer: &mut [u8], at: usize, bits: u32, notation: Notation) -> usize
+    ensures { λ r. ⌜ Put (now (buffer .entry)) at (line (floatIn notation) bits) (now (buffer .exit)) r ⌝ }
+{
+    match notation {
+        Notation::Decimal => put_float(buffer, at, bits),
+        Notation::Hexadecimal => put_bits(buffer, at, bits),
+    }
 }
 
 // Puts the line of a float in decimal.

@@ -1,6 +1,6 @@
 // What the program says of itself.
 use crate::output;
-use crate::words::Command;
+use commands::words::Command;
 
 // Writes how the program is used.
 pub(crate) fn write_usage(descriptor: i32) -> bool {

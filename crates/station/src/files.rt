@@ -3,7 +3,7 @@ ghost use mathlib.Core.Path.{_≡_};
 ghost use lib.ListN.{length};
 ghost use Rattle.station.specs.Reading.{Within, Ended, contentsOf};
 use crate::say;
-use crate::words;
+use commands::words;
 use sentences::OfFile;
 use sentences::Sentence;
 

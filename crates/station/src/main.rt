@@ -8,21 +8,22 @@ mod output;
 mod receipts;
 mod say;
 mod shown;
-mod status;
 mod texts;
-mod words;
 
+use commands::status;
+use commands::status::Descriptor;
+use commands::status::Status;
+use commands::texts::Way;
+use commands::words;
+use commands::words::Asked;
+use commands::words::Command;
 use files::Contents;
+use lines::Notation;
 use receipts::Made;
 use sentences::OfPart;
 use sentences::OfWord;
 use sentences::Sentence;
 use shown::Shown;
-use status::Descriptor;
-use status::Status;
-use texts::Way;
-use words::Asked;
-use words::Command;
 
 // What is done with a file.
 pub enum Task {
@@ -39,9 +40,14 @@ fn main() {
     let mut word = io::buffer();
     let n = os::arg(1, &mut word);
     match status::descriptor_of(&word[..n]) {
-        Descriptor::At(descriptor) => status::write(descriptor, start()),
+        Descriptor::At(descriptor) => write_status(descriptor, start()),
         Descriptor::None => about::say_bare(),
     }
+}
+
+// Writes the digit of a status to a descriptor.
+fn write_status(descriptor: i32, ended: Status) {
+    io::write_all(descriptor, &[status::digit_of(ended)]);
 }
 
 // Obeys the command that the second word names.
@@ -149,8 +155,18 @@ fn answer(task: Task, path: &[u8], file: &[u8]) -> Status {
         Task::Fields => fields(path, file),
         Task::View => view(path, file, words::name_place(Command::View), false),
         Task::RawView => view(path, file, words::name_place(Command::RawView), true),
-        Task::Column => column(path, file, words::name_place(Command::Column), false),
-        Task::RawColumn => column(path, file, words::name_place(Command::RawColumn), true),
+        Task::Column => column(
+            path,
+            file,
+            words::name_place(Command::Column),
+            Notation::Decimal,
+        ),
+        Task::RawColumn => column(
+            path,
+            file,
+            words::name_place(Command::RawColumn),
+            Notation::Hexadecimal,
+        ),
     }
 }
 
@@ -213,7 +229,7 @@ fn view(path: &[u8], file: &[u8], place: usize, raw: bool) -> Status {
 // Writes the value of a field as text, or says why it is not shown.
 fn show(path: &[u8], file: &[u8], name: &[u8]) -> Status {
     let value = views::view(file, name);
-    match texts::way_of(views::shapes::shape_of(file, name)) {
+    match commands::texts::way_of(views::shapes::shape_of(file, name)) {
         Way::One => status::of_written(texts::write_item(value)),
         Way::Text => status::of_written(texts::write_string(value)),
         Way::Each => status::of_written(texts::write_items(value)),
@@ -221,8 +237,8 @@ fn show(path: &[u8], file: &[u8], name: &[u8]) -> Status {
     }
 }
 
-// Writes the values of the column under a name of a file.
-fn column(path: &[u8], file: &[u8], place: usize, raw: bool) -> Status {
+// Writes the values of the column under a name of a file, floats in a notation.
+fn column(path: &[u8], file: &[u8], place: usize, notation: Notation) -> Status {
     let mut name = io::buffer();
     let n = os::arg(place, &mut name);
     if os::errno() != 0 {
@@ -236,7 +252,7 @@ fn column(path: &[u8], file: &[u8], place: usize, raw: bool) -> Status {
     if !views::is_binary(file, &name[..n]) {
         return no_part(path, &name[..n], OfPart::NoColumn);
     }
-    match shown::write_column(views::view(file, &name[..n]), raw) {
+    match shown::write_column(views::view(file, &name[..n]), notation) {
         Shown::Written(whole) => status::of_written(whole),
         Shown::Refused(refused) => no_part(path, &name[..n], words::part_of(refused)),
     }

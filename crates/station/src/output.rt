@@ -2,6 +2,7 @@
 ghost use mathlib.Core.Path.{_≡_};
 ghost use lib.ListN.{length};
 use crate::say;
+use lines::Notation;
 
 // Room for lines, and how much of it the longest line takes: a file's bytes as four each, and the words after them.
 pub(crate) const ROOM: usize = 327_680;
@@ -57,27 +58,12 @@ pub(crate) fn write_numbers(values: &[i32], divisor: u32) -> bool {
     true
 }
 
-// Writes floats in decimal, a line each.
-pub(crate) fn write_floats(values: &[u32]) -> bool {
+// Writes floats in a notation, a line each.
+pub(crate) fn write_floats(values: &[u32], notation: Notation) -> bool {
     let mut buffer = io::large_buffer();
     let mut from: usize = 0;
     while from < values.len() {
-        let part = lines::float_lines(&values[from..], &mut buffer);
-        let n = part.bytes;
-        if !write(&buffer[..n]) {
-            return false;
-        }
-        from += part.values;
-    }
-    true
-}
-
-// Writes floats by their bits, a line each.
-pub(crate) fn write_bits(values: &[u32]) -> bool {
-    let mut buffer = io::large_buffer();
-    let mut from: usize = 0;
-    while from < values.len() {
-        let part = lines::bits_lines(&values[from..], &mut buffer);
+        let part = lines::float_lines(&values[from..], notation, &mut buffer);
         let n = part.bytes;
         if !write(&buffer[..n]) {
             return false;

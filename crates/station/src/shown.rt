@@ -7,6 +7,7 @@ use columns::Header;
 use columns::Kind;
 use columns::Wanted;
 use decoding::Fixed;
+use lines::Notation;
 use refusal::Answer;
 
 // The most values that are shown, and the most floats that a file of 65,536 bytes can hold.
@@ -20,12 +21,12 @@ pub enum Shown {
     Refused(u8),
 }
 
-// Writes the values of a column; floats by their bits where the raw ones are asked for.
-pub(crate) fn write_column(column: &[u8], raw: bool) -> Shown {
+// Writes the values of a column, floats in a notation.
+pub(crate) fn write_column(column: &[u8], notation: Notation) -> Shown {
     match columns::read_header(column, Wanted::Any) {
         Header::Refused(r) => Shown::Refused(r),
         Header::Good(_, size, kind, _, _) => match kind {
-            Kind::Float32 => show_floats(column, raw),
+            Kind::Float32 => show_floats(column, notation),
             Kind::Strings => show_bytes(column, kind, size as usize),
             Kind::Chars => show_bytes(column, kind, 1),
             _ => show_numbers(column, kind),
@@ -67,21 +68,13 @@ fn whole(answer: Answer) -> Fixed
     }
 }
 
-// Writes the floats of a column.
-fn show_floats(column: &[u8], raw: bool) -> Shown {
+// Writes the floats of a column in a notation.
+fn show_floats(column: &[u8], notation: Notation) -> Shown {
     let mut buffer = no_floats();
     match floats::decode_float32(column, &mut buffer) {
         Answer::Refused(r) => Shown::Refused(r),
-        Answer::Count(n) => Shown::Written(write_in(&buffer[..n], raw)),
+        Answer::Count(n) => Shown::Written(output::write_floats(&buffer[..n], notation)),
     }
-}
-
-// Writes floats in decimal, or by their bits.
-fn write_in(floats: &[u32], raw: bool) -> bool {
-    if raw {
-        return output::write_bits(floats);
-    }
-    output::write_floats(floats)
 }
 
 // Writes the characters or the strings of a column.

@@ -13,11 +13,12 @@ use borrow.Author.Tests.{lt-ltb, le-ltb, ltb-true, eqb-true, eqb-false}
 use Rattle.text.specs.Decimal.{glyph, decimalIn, valueFrom}
 use Rattle.text.specs.Laws.Decimal.{glyph-digit, decimal-room, decimalIn-value, decimalIn-few}
 use Rattle.lines.specs.Texts.{digits, exponentOf, fractionOf}
-use Rattle.lines.specs.Decimals.{placesText, scaledText, binaryText, exactText, floatText}
+use Rattle.lines.specs.Decimals.{placesText, scaledText, binaryText, exactText, floatText, floatIn}
 use Rattle.lines.specs.Figures.{figures, glyphs, trimmed}
 use Rattle.lines.specs.Laws.Figures.{figures-length, figures-at, take-figures, drop-figures, glyphs-figures, trimmed-figures}
-use Rattle.lines.specs.Laws.Texts.{digits-length, float-line-few}
+use Rattle.lines.specs.Laws.Texts.{digits-length, float-line-few, bits-few}
 use Rattle.lines.specs.Lines.{line}
+use Rattle.lines.specs.declared.Notation.{Notation}
 
 -- The digits of a whole number
 
@@ -231,5 +232,10 @@ exact-few e f = by (eqb e 0) refl
     by true t = binary-few f 1 (λ z. omega arith)
     by false t = binary-few (0x80_0000 + f) e (eqb-false e 0 t)
 
-pub float-few : (bits : ℕ) → length (line floatText bits) ≤ 192
+float-few : (bits : ℕ) → length (line floatText bits) ≤ 192
 float-few bits = let h = float-line-few (exactText (exponentOf bits) (fractionOf bits)) 190 bits (omega arith) (exact-few (exponentOf bits) (fractionOf bits)) in omega arith
+
+pub notation-few : (n : Notation) (bits : ℕ) → length (line (floatIn n) bits) ≤ 192
+unfolding floatIn
+notation-few Notation.Decimal bits = float-few bits
+notation-few Notation.Hexadecimal bits = let h = bits-few bits in omega arith

@@ -9,13 +9,13 @@ use Rattle.station.proofs.output.write_floats.Statement.{statement}
 use Rattle.station.proofs.output.write_floats.Tie as tie
 
 abbrev Inv-loop : tie.InvT-loop
-Inv-loop values buffer₀ from₀ buffer from = (from ≤ length values) × (length buffer ≡ 65536)
+Inv-loop values notation buffer₀ from₀ buffer from = (from ≤ length values) × (length buffer ≡ 65536)
 
 abbrev μ-loop : tie.MeasureT-loop
-μ-loop values buffer₀ from₀ buffer from = length values - from
+μ-loop values notation buffer₀ from₀ buffer from = length values - from
 
 slice-aggregate-write : tie.Need-slice-aggregate-write Inv-loop μ-loop
-slice-aggregate-write c = turn-part (c .before .before .float-lines .ensures) (c .before .before .float-lines .kept .1 .0)
+slice-aggregate-write c = turn-part (c .before .before .float-lines .ensures) (c .before .before .float-lines .kept .1 .1 .0)
 
 add-from : tie.Need-add-from Inv-loop μ-loop
 add-from c = let t = turn-inside (c .before .before .before .before .before .before .before .before .before .before .before .before .args .values .now) (c .before .before .before .before .before .before .before .before .before .loop .from) (c .before .before .before .before .before .float-lines .ensures) (c .before .before .before .before .before .before .before .before .before .loop .inv .0) in omega arith
@@ -25,7 +25,7 @@ loop-less c = turn-less (c .before .before .before .before .before .before .befo
 
 loop-again : tie.Need-loop-again Inv-loop μ-loop
 loop-again c =
-    (turn-inside (c .before .before .before .before .before .before .before .before .before .before .before .before .args .values .now) (c .before .before .before .before .before .before .before .before .before .loop .from) (c .before .before .before .before .before .float-lines .ensures) (c .before .before .before .before .before .before .before .before .before .loop .inv .0), c .before .before .before .before .before .float-lines .kept .1 .0 ∙ c .before .before .before .before .before .before .before .before .before .loop .inv .1)
+    (turn-inside (c .before .before .before .before .before .before .before .before .before .before .before .before .args .values .now) (c .before .before .before .before .before .before .before .before .before .loop .from) (c .before .before .before .before .before .float-lines .ensures) (c .before .before .before .before .before .before .before .before .before .loop .inv .0), c .before .before .before .before .before .float-lines .kept .1 .1 .0 ∙ c .before .before .before .before .before .before .before .before .before .loop .inv .1)
 
 pub write-floats-spec : {M : Type 1} → statement M
 write-floats-spec =
@@ -41,7 +41,7 @@ write-floats-spec =
     (λ c. omega arith)
     (λ c. sym (c .before .before .before .loop .inv .1))
     (λ c κs. tt)
-    (λ c. omega (arith, c .before .float-lines .ensures .inside, c .before .float-lines .kept .1 .0))
+    (λ c. omega (arith, c .before .float-lines .ensures .inside, c .before .float-lines .kept .1 .1 .0))
     slice-aggregate-write
     (λ c κs. tt)
     (λ c. tt)

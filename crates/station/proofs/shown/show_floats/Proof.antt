@@ -12,8 +12,8 @@ use Rattle.station.proofs.shown.show_floats.Tie as tie
 array-share-prefix-buffer : tie.Need-array-share-prefix-buffer
 array-share-prefix-buffer c = count-within (exactly (decode Wanted.Real (c .before .before .before .before .before .before .before .before .args .column .now))) (c .before .before .before .before .decode-float32 .result) _ _ _ (c .before .before .before .before .decode-float32 .ensures .0) (c .before .before .before .before .decode-float32 .kept .1 .0) (c .before .n .given .1)
 
-slice-aggregate-write-in : tie.Need-slice-aggregate-write-in
-slice-aggregate-write-in c = sym (length-take-le _ (c .before .before .before .before .before .decode-float32 .last .1 .0) (count-within (exactly (decode Wanted.Real (c .before .before .before .before .before .before .before .before .before .args .column .now))) (c .before .before .before .before .before .decode-float32 .result) _ _ _ (c .before .before .before .before .before .decode-float32 .ensures .0) (c .before .before .before .before .before .decode-float32 .kept .1 .0) (c .before .before .n .given .1)))
+slice-aggregate-write-floats : tie.Need-slice-aggregate-write-floats
+slice-aggregate-write-floats c = sym (length-take-le _ (c .before .before .before .before .before .decode-float32 .last .1 .0) (count-within (exactly (decode Wanted.Real (c .before .before .before .before .before .before .before .before .before .args .column .now))) (c .before .before .before .before .before .decode-float32 .result) _ _ _ (c .before .before .before .before .before .decode-float32 .ensures .0) (c .before .before .before .before .before .decode-float32 .kept .1 .0) (c .before .before .n .given .1)))
 
 pub show-floats-spec : {M : Type 1} → statement M
 show-floats-spec =
@@ -25,7 +25,7 @@ show-floats-spec =
     (λ c. search needs)
     (λ c. search needs)
     array-share-prefix-buffer
-    slice-aggregate-write-in
+    slice-aggregate-write-floats
     (λ c κs. search needs)
     (λ c. search needs)
     (λ c. search needs))
