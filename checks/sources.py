@@ -10,7 +10,7 @@ BODY = re.compile(r'^(?:pub )?(?:pub\(crate\) )?(?:extern "C" )?fn (?P<name>\w+)
 PASSED_OVER = re.compile(r"^\s*(?:$|--|//|use |pub use |ghost use |mod |pub mod |module )")
 
 # The crates whose functions are calls, those whose sources name calls, and the calls whose form the rules name, which C cannot take.
-BOUNDARY, CALLERS = "mmtf", ("mmtf", "station")
+BOUNDARY, CALLERS = "mmtf", ("mmtf", "commands", "station")
 MATRICES = {"transforms::matrix", "transforms::matrix_refusal"}
 
 
@@ -142,5 +142,5 @@ class Repository:
 
     def has_edit(self, crate, name):
         """A wrong program stands below a line '# NAME in FUNCTION: ..' or '# NAME in laws FILE: ..' of one of the crate's edits."""
-        headed = re.compile(rf"^# {name} in (?:laws )?\w+(?: and \w+)*: ", re.M)
+        headed = re.compile(rf"^# {name} in (?:laws )?\w+(?: and \w+)*(?: at \S+)?: ", re.M)
         return any(headed.search(read(path)) for path in (HOME / "crates" / crate / "must-fail").glob("*.edit"))

@@ -100,7 +100,3 @@ askedOf word limit = askedBy (numberIn word) limit
 -- what is said of a column that is refused with a number
 abbrev pub partOf : ℕ → OfPart
 partOf n = cond (eqb n bufferTooSmall) OfPart.NotShown (OfPart.Refused n)
-
--- does a file's name stand for standard input?
-abbrev pub isInput : List ℕ → Bool
-isInput path = equal path (ascii "-")

@@ -1,9 +1,8 @@
-// The line of a field: its name, what it is, the codec of a column, and its length.
+// What a field is: its kind by the head of its value, the codec of a column, and its length.
 ghost use mathlib.Core.Path.{_≡_};
-ghost use Rattle.text.specs.Put.{Put};
 ghost use Rattle.columns.specs.declared.Wanted.{Wanted};
 ghost use Rattle.columns.specs.Header.{headerOf};
-ghost use Rattle.commands.specs.Listing.{countOf, whatOf, binaryWhat, whatAt, fieldLine};
+ghost use Rattle.commands.specs.Listing.{countOf, whatOf, binaryWhat, whatAt};
 use columns::Header;
 use columns::Wanted;
 use heads::Kind;
@@ -17,20 +16,8 @@ pub struct What {
     pub length: Number,
 }
 
-// Puts the line of the field whose key stands at a place.
-pub fn put_field(buffer: &mut [u8], at: usize, file: &[u8], key: usize) -> usize
-    ensures { λ r. ⌜ Put (now (buffer .entry)) at (fieldLine (now (file .entry)) key) (now (buffer .exit)) r ⌝ }
-{
-    let what = what_at(file, views::plain::text_end(file, key));
-    let name = views::plain::text_at(file, key);
-    let sort = what.sort;
-    let codec = what.codec;
-    let length = what.length;
-    lines::single::put_field(buffer, at, name, sort, codec, length)
-}
-
 // What the value at a place is.
-fn what_at(file: &[u8], at: usize) -> What
+pub fn what_at(file: &[u8], at: usize) -> What
     ensures { λ r. ⌜ r ≡ whatAt (now (file .entry)) at ⌝ }
 {
     let length = count_of(views::plain::number_at(file, at));

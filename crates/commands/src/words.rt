@@ -1,6 +1,6 @@
 // The words of a command.
 ghost use mathlib.Core.Path.{_≡_};
-ghost use Rattle.commands.specs.Words.{commandOf, aboutOf, rawOf, flagged, wordsFit, filePlace, namePlace, askedOf, partOf, isInput};
+ghost use Rattle.commands.specs.Words.{commandOf, aboutOf, rawOf, flagged, wordsFit, filePlace, namePlace, askedOf, partOf};
 use sentences::OfPart;
 use text::Number;
 
@@ -170,11 +170,4 @@ pub fn part_of(number: u8) -> OfPart
         return OfPart::NotShown;
     }
     OfPart::Refused(number)
-}
-
-// Whether a file's name stands for standard input.
-pub fn is_input(path: &[u8]) -> bool
-    ensures { λ r. ⌜ r ≡ isInput (now (path .entry)) ⌝ }
-{
-    text::same_bytes(path, b"-")
 }

@@ -3,7 +3,6 @@ ghost use mathlib.Core.Path.{_≡_};
 ghost use lib.ListN.{length};
 ghost use Rattle.station.specs.Reading.{Within, Ended, contentsOf};
 use crate::say;
-use commands::words;
 use sentences::OfFile;
 use sentences::Sentence;
 
@@ -20,11 +19,11 @@ pub enum End {
     Failed(u32),
 }
 
-// Reads the whole of a file into a buffer, or says why that cannot be done.
+// Reads the whole of a file into a buffer, or says why that cannot be done. The name - stands for standard input.
 pub(crate) fn read(path: &[u8], buffer: &mut [u8]) -> Contents
     ensures { λ r. ⌜ Within r (length (now (buffer .exit))) ⌝ }
 {
-    if words::is_input(path) {
+    if text::same_bytes(path, b"-") {
         return told(path, read_all(libc::STDIN_FILENO, buffer));
     }
     let descriptor = os::open_read(path);

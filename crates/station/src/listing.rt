@@ -1,6 +1,8 @@
 // The fields of a file, a line each, on standard output.
 ghost use mathlib.Core.Path.{_≡_};
 ghost use lib.ListN.{length};
+ghost use Rattle.text.specs.Put.{Put};
+ghost use Rattle.commands.specs.Listing.{fieldLine};
 use crate::output;
 use refusal::Answer;
 
@@ -25,10 +27,22 @@ fn write_lines(file: &[u8], places: &[usize]) -> bool {
             }
             at = 0;
         }
-        at = commands::listing::put_field(&mut buffer, at, file, places[i]);
+        at = put_field(&mut buffer, at, file, places[i]);
         i += 1;
     }
     output::write_first(&buffer, at)
+}
+
+// Puts the line of the field whose key stands at a place.
+fn put_field(buffer: &mut [u8], at: usize, file: &[u8], key: usize) -> usize
+    ensures { λ r. ⌜ Put (now (buffer .entry)) at (fieldLine (now (file .entry)) key) (now (buffer .exit)) r ⌝ }
+{
+    let what = commands::listing::what_at(file, views::plain::text_end(file, key));
+    let name = views::plain::text_at(file, key);
+    let sort = what.sort;
+    let codec = what.codec;
+    let length = what.length;
+    lines::single::put_field(buffer, at, name, sort, codec, length)
 }
 
 // Room for the places of the outer keys, which are 256 at most.

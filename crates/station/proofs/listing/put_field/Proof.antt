@@ -4,11 +4,11 @@ use mathlib.Core.List.{List}
 use Prim.Native.Nat.{ℕ}
 use Rattle.text.specs.Laws.Put.{put-as}
 use Rattle.lines.specs.Single.{fieldText}
 use Rattle.commands.specs.declared.listing.What.{What}
 use Rattle.commands.specs.Listing.{whatAt}
 use borrow.Author.Needs.{needs}
-use Rattle.commands.proofs.listing.put_field.Statement.{statement}
-use Rattle.commands.proofs.listing.put_field.Tie as tie
+use Rattle.station.proofs.listing.put_field.Statement.{statement}
+use Rattle.station.proofs.listing.put_field.Tie as tie
 
 returns : tie.Need-returns
 returns c =
