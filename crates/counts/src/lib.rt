@@ -6,7 +6,7 @@ mod indices;
 
 ghost use mathlib.Core.Path.{_≡_};
 ghost use Prim.Native.Nat.{suc, _+_, _≤_};
-ghost use lib.Dec.{eqb};
+ghost use lib.Dec.{eqb, leb};
 ghost use lib.ListN.{length};
 ghost use Rattle.values.specs.Parts.{integerOf};
 ghost use Rattle.values.specs.Walked.{Walked};
@@ -43,7 +43,7 @@ pub fn refusal_of(leads: &[u8; 256], file: &[u8], places: &[usize; fields::FIELD
     ensures { λ r. ⌜ WalkedCounted (now (leads .entry)) (now (file .entry)) (now (places .entry)) (λ f. r ≡ countsNumber f) ⌝ }
 {
     let types = values::lists::length_at(leads, file, places[fields::GROUP_LIST]).count;
-    if file_columns::whole::TYPE_LIMIT < types {
+    if !types_fit(types) {
         return refusal::TOO_MANY_GROUP_TYPES;
     }
     let counts = counts_at(leads, file, places);
@@ -66,6 +66,13 @@ pub fn refusal_of(leads: &[u8; 256], file: &[u8], places: &[usize; fields::FIELD
         return number;
     }
     values_refusal(leads, file, places, counts)
+}
+
+// Rule 1: whether there are as many group types as there may be.
+fn types_fit(types: usize) -> bool
+    ensures { λ r. ⌜ r ≡ leb types typeLimit ⌝ }
+{
+    types <= file_columns::whole::TYPE_LIMIT
 }
 
 // Rules 2 and 3: the num fields, and the entries of chainsPerModel and groupsPerChain with their sums.
