@@ -76,7 +76,7 @@ fn version() {
     let parts = ["MAJOR", "MINOR", "PATCH"].map(|part| format!("MMTF_VERSION_{part}"));
     let parts = parts.map(|name| defined(&name).expect("a part").to_string());
     assert_eq!(defined_text("MMTF_VERSION"), Some(&parts.join(".")[..]));
-    assert_eq!(header_version(), Some(900));
+    assert_eq!(header_version(), Some(901));
 }
 
 #[test]

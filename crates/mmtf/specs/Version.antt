@@ -8,7 +8,7 @@ abbrev pub versionMinor : ℕ
 versionMinor = 9
 
 abbrev pub versionPatch : ℕ
-versionPatch = 0
+versionPatch = 1
 
 -- as a number that a later version is above
 abbrev pub versionNumber : ℕ

@@ -47,7 +47,7 @@ const MAJOR: u32 = 0;
 
 const MINOR: u32 = 9;
 
-const PATCH: u32 = 0;
+const PATCH: u32 = 1;
 
 // The refusal of a file as a container, 1 to 11, or 0.
 #[no_mangle]
