@@ -8,6 +8,7 @@ ghost use lib.ListN.{length, drop, replicate};
 ghost use Rattle.columns.specs.Table.{suits};
 ghost use Rattle.columns.specs.Decode.{decode, judgedPayload};
 ghost use Rattle.payloads.specs.Limits.{packedSize};
+ghost use Rattle.payloads.specs.Blocks.{NoLimit, HasPlaces, Stored};
 ghost use Rattle.payloads.specs.Results.{paste, Filled, HasRoom, HasResults, Covered, Wrote};
 ghost use Rattle.columns.specs.Buffer.{decodedAnswer};
 ghost use Rattle.decoding.specs.Steps.{namesPayload, charsPayload, isWritten};
@@ -181,26 +182,80 @@ fn write_plain(payload: &[u8], size: Size, n: usize, buffer: &mut [i32])
     }
 }
 
-// Writes the results of packed numbers of one or two bytes, by one total: of the result that has begun, and with delta of those before it
-// too. The total is stored after each number, so that no branch depends on limits; a result stays when its last number is read.
+// Writes the results of packed numbers of one or two bytes, in blocks of sixteen numbers and the rest, by one total: of the result that has
+// begun, and with delta of those before it too.
 fn write_packed(payload: &[u8], two: bool, delta: bool, buffer: &mut [i32])
     requires { ⌜ HasRoom (Form.Packed (packedSize two)) (now payload) (length (now buffer)) ⌝ }
     ensures { λ r. ⌜ Wrote asNumber (Form.Packed (packedSize two)) delta (now (payload .entry)) (now (buffer .entry)) (now (buffer .exit)) ⌝ }
 {
-    let size = payloads::packed_size(two);
-    let k = steps::bytes(size);
+    let k = 16 * steps::bytes(payloads::packed_size(two));
     let mut i: usize = 0;
     let mut o: usize = 0;
     let mut total: i32 = 0;
     while k <= payload.len() - i {
-        let number = steps::number_at(payload, i, size);
+        let block = &payload[i..i + k];
+        let limits = payloads::limits_of(block, two);
+        total = put_block(block, two, delta, limits == 0, total, o, buffer);
         i += k;
+        o += 16 - limits;
+    }
+    write_block(&payload[i..], two, delta, false, total, o, buffer);
+}
+
+// Writes the results of a block, by a loop of its own where it has no limit, with delta and without. Of two calls that differ in `quick`
+// alone the compiler makes one loop, which looks for limits.
+fn put_block(
+    block: &[u8],
+    two: bool,
+    delta: bool,
+    quick: bool,
+    begun: i32,
+    from: usize,
+    buffer: &mut [i32],
+) -> i32
+    requires { ⌜ NoLimit (packedSize two) (now block) quick × HasPlaces (packedSize two) (now block) from (length (now buffer)) ⌝ }
+    ensures { λ r. ⌜ Stored (packedSize two) delta (now (block .entry)) begun from (now (buffer .entry)) (now (buffer .exit)) r ⌝ }
+{
+    if !quick {
+        return write_block(block, two, delta, false, begun, from, buffer);
+    }
+    if delta {
+        return write_block(block, two, true, true, begun, from, buffer);
+    }
+    write_block(block, two, false, true, begun, from, buffer)
+}
+
+// Writes the results of a block after the total that has begun, and gives the total after it. The total is stored after each number, so that
+// no branch depends on limits; a result stays when its last number is read. If `quick`, there is no limit, and none is looked for.
+fn write_block(
+    block: &[u8],
+    two: bool,
+    delta: bool,
+    quick: bool,
+    begun: i32,
+    from: usize,
+    buffer: &mut [i32],
+) -> i32
+    requires { ⌜ NoLimit (packedSize two) (now block) quick × HasPlaces (packedSize two) (now block) from (length (now buffer)) ⌝ }
+    ensures { λ r. ⌜ Stored (packedSize two) delta (now (block .entry)) begun from (now (buffer .entry)) (now (buffer .exit)) r ⌝ }
+{
+    let size = payloads::packed_size(two);
+    let k = steps::bytes(size);
+    let count = block.len() / k;
+    let mut i: usize = 0;
+    let mut o = from;
+    let mut total = begun;
+    while i < count {
+        let at = k * i;
+        let number = steps::number_at(&block[at..at + k], 0, size);
+        i += 1;
         let sum = steps::add_delta(total, number);
         buffer[o] = sum;
-        let limit = steps::is_limit(number, size);
+        let limit = !quick & steps::is_limit(number, size);
         o += payloads::ended_at(limit);
         total = payloads::total_after(sum, limit, delta);
     }
+    total
 }
 
 // Writes the values of n results in runs.

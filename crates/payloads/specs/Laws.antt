@@ -10,3 +10,4 @@ pub mod Totals
 pub mod Runs
 pub mod Refusal
 pub mod Limits
+pub mod Blocks

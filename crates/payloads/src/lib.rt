@@ -18,6 +18,7 @@ ghost use Rattle.payloads.specs.Exact.{exact};
 ghost use Rattle.payloads.specs.Results.{ResultsJudged};
 ghost use Rattle.payloads.specs.Scan.{scanOf, judgesExact, refusalOf};
 ghost use Rattle.payloads.specs.Limits.{packedSize, limitAt, limitsIn, endsAtLimit, mostLimits, Short};
+ghost use Rattle.payloads.specs.Blocks.{countIn};
 ghost use Rattle.payloads.specs.Items.{itemAt, outcomeRefusal};
 use steps::Form;
 use steps::Range;
@@ -317,6 +318,13 @@ fn ends_at_limit(payload: &[u8], two: bool, count: usize) -> bool
         steps::number_at(payload, place_of(two, count - 1), size),
         size,
     )
+}
+
+// How many packed numbers of one or two bytes are limits.
+pub fn limits_of(packed: &[u8], two: bool) -> usize
+    ensures { λ r. ⌜ r ≡ limitsIn (packedSize two) (now (packed .entry)) 0 (countIn (packedSize two) (now (packed .entry))) ⌝ }
+{
+    count_limits(packed, two, count_of(packed.len(), two))
 }
 
 // How many of `count` numbers are limits: in blocks, and in the rest.

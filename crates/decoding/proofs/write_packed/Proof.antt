@@ -1,99 +1,108 @@
--- The results before the place stand at the buffer's start, and the total is that of the one that has begun. It is stored after each number
--- (`total-written-stored`), where there is room for the result that it leads to (`total-written-room`).
-use mathlib.Core.Path.{_≡_, refl, sym, ap, subst, _∙_}
-use mathlib.Core.Bool.{Bool, true, false, cond}
-use Prim.Native.Nat.{_+_, _-_, _≤_}
+-- The results before the place stand at the buffer's start, and the total is that of the one that has begun: block by block (`block-next`),
+-- and then the rest (`rest-wrote`).
+use mathlib.Core.Path.{_≡_, refl, sym, ap, _∙_}
+use Prim.Native.Nat.{_+_, _-_, _*_, _≤_}
 use native.Mathlib.Omega.{arith}
-use lib.ListN.{length}
-use lib.IntN.{pos}
+use lib.ListN.{length, take, drop}
 use mir.Syntax.{w32}
 use mir.Val.{toZ, ofZ}
 use mir.Facts.{toZ-ofZ}
 use borrow.Author.Needs.{needs}
-use Rattle.numbers.specs.BigEndian.{signedAt}
+use borrow.Author.Tests.{eqb-true}
 use Rattle.steps.specs.declared.Size.{Size}
+use Rattle.steps.specs.declared.Size.the-variants.{One, Two, Four}
 use Rattle.steps.specs.declared.Form.the-variants.{Packed}
-use Rattle.steps.specs.Width.{widthOf, upper, lower}
-use Rattle.steps.specs.Delta.{plusDelta}
-use Rattle.steps.specs.Packing.{isLimit}
+use Rattle.steps.specs.Width.{sizeOf}
 use Rattle.steps.specs.Laws.Numbers.{size-pos}
-use Rattle.payloads.specs.Results.{HasRoom, Wrote}
-use Rattle.payloads.specs.Laws.Totals.{WrittenTotal, total-written-start, total-written-length, total-written-room, total-written-stored, total-written-end}
+use Rattle.payloads.specs.Limits.{packedSize}
+use Rattle.payloads.specs.Results.{HasRoom}
+use Rattle.payloads.specs.Laws.Totals.{WrittenTotal, total-written-start, total-written-within}
+use Rattle.payloads.specs.Laws.Blocks.{not-said, stored-as, block-places, block-limits, block-next, rest-length, rest-wrote}
 use Rattle.decoding.specs.Calls.{asNumber}
 use Rattle.decoding.proofs.write_packed.Statement.{statement}
 use Rattle.decoding.proofs.write_packed.Tie as tie
 
 abbrev Inv-loop : tie.InvT-loop
-Inv-loop payload two delta buffer₀ size k i₀ o₀ total₀ buffer i o total =
-    (i ≤ length payload) × ((room : HasRoom (Packed size) payload (length buffer₀)) → WrittenTotal asNumber size delta payload buffer₀ room i (toZ w32 total) o buffer)
+Inv-loop payload two delta buffer₀ k i₀ o₀ total₀ buffer i o total =
+    (i ≤ length payload) × ((room : HasRoom (Packed (packedSize two)) payload (length buffer₀)) → WrittenTotal asNumber (packedSize two) delta payload buffer₀ room i (toZ w32 total) o buffer)
 
 abbrev μ-loop : tie.MeasureT-loop
-μ-loop payload two delta buffer₀ size k i₀ o₀ total₀ buffer i o total = length payload - i
+μ-loop payload two delta buffer₀ k i₀ o₀ total₀ buffer i o total = length payload - i
+
+-- the bytes of a number, and of a block
+width : (c : tie.After-bytes Inv-loop μ-loop) → c .bytes .result ≡ sizeOf (packedSize (c .before .before .before .args .two))
+width c = c .bytes .ensures ∙ ap sizeOf (c .before .packed-size .ensures)
+
+sixteen : (c : tie.In-loop Inv-loop μ-loop) → (c .before .loop .i + 16 * c .before .before .bytes .result - c .before .loop .i ≡ sizeOf (packedSize (c .before .before .before .before .before .args .two)) * 16) × (c .before .loop .i + 16 * c .before .before .bytes .result ≡ c .before .loop .i + sizeOf (packedSize (c .before .before .before .before .before .args .two)) * 16)
+sixteen c = let w = width (c .before .before) in (omega arith, omega arith)
+
+mul-k : tie.Need-mul-k Inv-loop μ-loop
+mul-k c = let n = few (packedSize (c .before .before .before .args .two)) in let w = width c in omega arith
+  where
+    few : (z : Size) → sizeOf z ≤ 4
+    few One = omega arith
+    few Two = omega arith
+    few Four = omega arith
 
 loop-holds : tie.Need-loop-holds Inv-loop μ-loop
-loop-holds c = let a = c .before .before .before .args in (omega arith, (λ room. total-written-start asNumber (c .before .packed-size .result) (a .delta) (a .payload .now) (a .buffer .now) room))
+loop-holds c = let a = c .before .before .before .args in (omega arith, (λ room. total-written-start asNumber (packedSize (a .two)) (a .delta) (a .payload .now) (a .buffer .now) room))
 
--- the payload's results have room
-has : (c : tie.At-loop Inv-loop μ-loop) → HasRoom (Packed (c .before .before .packed-size .result)) (c .before .before .before .before .args .payload .now) (length (c .before .before .before .before .args .buffer .now))
-has c = let a = c .before .before .before .before in subst (λ (z : Size). HasRoom (Packed z) (a .args .payload .now) (length (a .args .buffer .now))) (sym (c .before .before .packed-size .ensures)) (a .pre)
+put-block-requires : tie.Need-put-block-requires Inv-loop μ-loop
+put-block-requires c κs =
+    let a = c .before .before .before .before .before .before .before .before in
+    let p = c .before .before .before .before .loop in (
+      (λ q. sym (c .before .limits-of .ensures) ∙ eqb-true (c .before .limits-of .result) 0 q),
+      block-places asNumber (λ x. refl) (packedSize (a .args .two)) (a .args .delta) (a .args .payload .now) (a .args .buffer .now) (a .pre) (p .i) (p .i + 16 * c .before .before .before .before .before .bytes .result - p .i) (omega arith) (toZ w32 (p .total)) (p .o) (p .buffer) (p .inv .1 (a .pre)),
+    )
 
--- the number that was read, and the total with it
-number : (c : tie.After-is-limit Inv-loop μ-loop) → toZ w32 (ofZ w32 (c .before .before .number-at .result)) ≡ signedAt (widthOf (c .before .before .before .before .before .before .packed-size .result)) (c .before .before .before .before .before .before .before .before .args .payload .now) (c .before .before .before .before .loop .i)
-number c = toZ-ofZ {w = w32} (record { sfits = c .before .before .number-at .ok }) ∙ c .before .before .number-at .ensures
+sub-o : tie.Need-sub-o Inv-loop μ-loop
+sub-o c =
+    let a = c .before .before .before .before .before .before .before .before .before .before in
+    let p = c .before .before .before .before .before .before .loop in
+    block-limits asNumber (λ x. refl) (packedSize (a .args .two)) (a .args .delta) (a .args .payload .now) (a .args .buffer .now) (a .pre) (p .i) (p .i + 16 * c .before .before .before .before .before .before .before .bytes .result - p .i) (omega arith) (toZ w32 (p .total)) (p .o) (p .buffer) (p .inv .1 (a .pre)) 16 (sixteen (c .before .before .before .before .before) .0) (c .before .before .before .limits-of .result) (c .before .before .before .limits-of .ensures)
 
-total : (c : tie.After-is-limit Inv-loop μ-loop) → toZ w32 (ofZ w32 (c .before .add-delta .result)) ≡ plusDelta (toZ w32 (c .before .before .before .before .loop .total)) (signedAt (widthOf (c .before .before .before .before .before .before .packed-size .result)) (c .before .before .before .before .before .before .before .before .args .payload .now) (c .before .before .before .before .loop .i))
-total c = toZ-ofZ {w = w32} (record { sfits = c .before .add-delta .ok }) ∙ c .before .add-delta .ensures ∙ ap (plusDelta (toZ w32 (c .before .before .before .before .loop .total))) (number c)
+-- after a block
+next : (c : tie.After-buffer Inv-loop μ-loop) (room : HasRoom (Packed (packedSize (c .before .before .before .before .before .before .before .before .before .before .args .two))) (c .before .before .before .before .before .before .before .before .before .before .args .payload .now) (length (c .before .before .before .before .before .before .before .before .before .before .args .buffer .now)))
+    → WrittenTotal asNumber (packedSize (c .before .before .before .before .before .before .before .before .before .before .args .two)) (c .before .before .before .before .before .before .before .before .before .before .args .delta) (c .before .before .before .before .before .before .before .before .before .before .args .payload .now) (c .before .before .before .before .before .before .before .before .before .before .args .buffer .now) room (c .before .before .before .before .before .before .loop .i + 16 * c .before .before .before .before .before .before .before .bytes .result) (toZ w32 (ofZ w32 (c .before .put-block .result))) (c .before .before .before .before .before .before .loop .o + (16 - c .before .before .before .limits-of .result)) (c .before .put-block .last .1 .1 .1 .1 .1 .1 .0)
+next c room =
+    let a = c .before .before .before .before .before .before .before .before .before .before in
+    let p = c .before .before .before .before .before .before .loop in
+    let b = take (p .i + 16 * c .before .before .before .before .before .before .before .bytes .result - p .i) (drop (p .i) (a .args .payload .now)) in
+    let v = stored-as (packedSize (a .args .two)) b (p .o) (p .buffer) (c .before .put-block .last .1 .1 .1 .1 .1 .1 .0) refl refl (sym (toZ-ofZ {w = w32} (record { sfits = c .before .put-block .ok }))) (c .before .put-block .ensures) in
+    block-next asNumber (λ x. refl) (packedSize (a .args .two)) (a .args .delta) (a .args .payload .now) (a .args .buffer .now) room (p .i) (p .i + 16 * c .before .before .before .before .before .before .before .bytes .result - p .i) (omega arith) (toZ w32 (p .total)) (p .o) (p .buffer) (p .inv .1 room) 16 (sixteen (c .before .before .before .before .before) .0) (c .before .before .before .limits-of .result) (c .before .before .before .limits-of .ensures)
+    (p .i + 16 * c .before .before .before .before .before .before .before .bytes .result) (c .before .put-block .last .1 .1 .1 .1 .1 .1 .0) (toZ w32 (ofZ w32 (c .before .put-block .result))) (sixteen (c .before .before .before .before .before) .1) v
 
-limit : (c : tie.After-is-limit Inv-loop μ-loop) → isLimit (upper (c .before .before .before .before .before .before .packed-size .result)) (lower (c .before .before .before .before .before .before .packed-size .result)) (signedAt (widthOf (c .before .before .before .before .before .before .packed-size .result)) (c .before .before .before .before .before .before .before .before .args .payload .now) (c .before .before .before .before .loop .i)) ≡ c .is-limit .result
-limit c = let z = c .before .before .before .before .before .before .packed-size .result in sym (c .is-limit .ensures ∙ ap (isLimit (upper z) (lower z)) (number c))
-
--- there is room for a result
-has-room : (c : tie.After-add-delta Inv-loop μ-loop) → (c .before .before .before .loop .o + 1 ≤ length (c .before .before .before .loop .buffer)) × (length (c .before .before .before .loop .buffer) ≡ length (c .before .before .before .before .before .before .before .args .buffer .now))
-has-room c =
-    let a = c .before .before .before .before .before .before .before .args in
-    let z = c .before .before .before .before .before .packed-size .result in
-    let e = c .before .before .before .before .bytes .ensures in
-    let p = c .before .before .before .loop in
-    let r = has (c .before .before .before) in
-    let w = p .inv .1 r in
-    (total-written-room asNumber z (a .delta) (a .payload .now) (a .buffer .now) r (p .i) (toZ w32 (p .total)) (p .o) (p .buffer) w (omega arith), total-written-length asNumber z (a .delta) (a .payload .now) (a .buffer .now) r (p .i) (toZ w32 (p .total)) (p .o) (p .buffer) w)
-
--- at most one result ends
-one : (c : tie.After-ended-at Inv-loop μ-loop) → c .ended-at .result ≤ 1
-one c = rw (c .ended-at .ensures) (few (c .before .is-limit .result))
-  where
-    few : (t : Bool) → cond t 0 1 ≤ 1
-    few true = omega arith
-    few false = omega arith
+add-o : tie.Need-add-o Inv-loop μ-loop
+add-o c =
+    let a = c .before .before .before .before .before .before .before .before .before .before in
+    let n = total-written-within asNumber (packedSize (a .args .two)) (a .args .delta) (a .args .payload .now) (a .args .buffer .now) (a .pre) (c .before .before .before .before .before .before .loop .i + 16 * c .before .before .before .before .before .before .before .bytes .result) (toZ w32 (ofZ w32 (c .before .put-block .result))) (c .before .before .before .before .before .before .loop .o + (16 - c .before .before .before .limits-of .result)) (c .before .put-block .last .1 .1 .1 .1 .1 .1 .0) (next c (a .pre)) in
+    omega arith
 
 loop-less : tie.Need-loop-less Inv-loop μ-loop
-loop-less c = let n = size-pos (c .before .before .before .before .before .before .before .before .packed-size .result) in omega (arith, c .before .before .before .before .before .before .before .bytes .ensures)
+loop-less c = let n = size-pos (packedSize (c .before .before .before .before .before .before .before .before .before .before .args .two)) in let w = width (c .before .before .before .before .before .before .before) in omega arith
 
 loop-again : tie.Need-loop-again Inv-loop μ-loop
-loop-again c =
-    let a = c .before .before .before .before .before .before .before .before .before .before .args in
-    let z = c .before .before .before .before .before .before .before .before .packed-size .result in
-    let e = c .before .before .before .before .before .before .before .bytes .ensures in
-    let p = c .before .before .before .before .before .before .loop in
-    let y = toZ w32 (ofZ w32 (c .before .before .before .add-delta .result)) in
-    let o = toZ-ofZ {w = w32} {z = c .before .before .before .add-delta .result} (record { sfits = c .before .before .before .add-delta .ok }) in
-    let t = toZ-ofZ {w = w32} (record { sfits = c .total-after .ok }) ∙ c .total-after .ensures in (
-      omega arith,
-      (λ room. rw (e, c .before .ended-at .ensures, t) (total-written-stored asNumber z (a .delta) (a .payload .now) (a .buffer .now) room (p .i) (toZ w32 (p .total)) (p .o) (p .buffer) (p .inv .1 room) (omega arith) y (total (c .before .before))
-          (rw o (record { sfits = c .before .before .before .add-delta .ok })) (c .before .before .is-limit .result) (limit (c .before .before)) y (pos 0) refl)),
+loop-again c = (omega arith, next c)
+
+write-block-requires : tie.Need-write-block-requires Inv-loop μ-loop
+write-block-requires c κs =
+    let a = c .before .before .before .before .before .before .before in
+    let p = c .before .before .before .loop in (
+      not-said (packedSize (a .args .two)) (take (length (a .args .payload .now) - p .i) (drop (p .i) (a .args .payload .now))),
+      block-places asNumber (λ x. refl) (packedSize (a .args .two)) (a .args .delta) (a .args .payload .now) (a .args .buffer .now) (a .pre) (p .i) (length (a .args .payload .now) - p .i) (omega arith) (toZ w32 (p .total)) (p .o) (p .buffer) (p .inv .1 (a .pre)),
     )
 
 same-length : tie.Need-same-length Inv-loop μ-loop
-same-length c = let a = c .before .before .before .before .before .args in let p = c .before .loop in let r = has (c .before) in total-written-length asNumber (c .before .before .before .packed-size .result) (a .delta) (a .payload .now) (a .buffer .now) r (p .i) (toZ w32 (p .total)) (p .o) (p .buffer) (p .inv .1 r)
+same-length c =
+    let a = c .before .before .before .before .before .before .before .before .before in
+    let p = c .before .before .before .before .before .loop in
+    rest-length asNumber (λ x. refl) (packedSize (a .args .two)) (a .args .delta) (a .args .payload .now) (a .args .buffer .now) (a .pre) (p .i) (length (a .args .payload .now) - p .i) (omega arith) (toZ w32 (p .total)) (p .o) (p .buffer) (p .inv .1 (a .pre)) refl _ (c .before .write-block .result) (c .before .write-block .ensures)
 
 returns : tie.Need-returns Inv-loop μ-loop
 returns c =
-    let a = c .before .before .before .before .before .args in
-    let e = c .before .before .bytes .ensures in
-    let p = c .before .loop in
-    let r = has (c .before) in
-    subst (λ (z : Size). Wrote asNumber (Packed z) (a .delta) (a .payload .now) (a .buffer .now) (p .buffer)) (c .before .before .before .packed-size .ensures)
-    (total-written-end asNumber (c .before .before .before .packed-size .result) (a .delta) (a .payload .now) (a .buffer .now) r (p .i) (toZ w32 (p .total)) (p .o) (p .buffer) (p .inv .1 r) (omega arith))
+    let a = c .before .before .before .before .before .before .before .before .before in
+    let p = c .before .before .before .before .before .loop in
+    rest-wrote asNumber (λ x. refl) (packedSize (a .args .two)) (a .args .delta) (a .args .payload .now) (a .args .buffer .now) (a .pre) (p .i) (length (a .args .payload .now) - p .i) (omega arith) (toZ w32 (p .total)) (p .o) (p .buffer) (p .inv .1 (a .pre)) refl _ (c .before .write-block .result) (c .before .write-block .ensures)
 
 pub write-packed-spec : {M : Type 1} → statement M
 write-packed-spec =
@@ -103,18 +112,23 @@ write-packed-spec =
     μ-loop
     (λ c κs. search needs)
     (λ c κs. search needs)
+    mul-k
     loop-holds
     (λ c. omega arith)
-    (λ c κs. search needs)
+    (λ c. omega arith)
+    (λ c. omega arith)
+    (λ c. omega arith)
     (λ c. omega arith)
     (λ c κs. search needs)
-    (λ c. omega (arith, has-room c .0, has-room c .1))
-    (λ c. omega (arith, has-room c .0, has-room c .1))
-    (λ c κs. search needs)
-    (λ c κs. search needs)
-    (λ c. let h = has-room (c .before .before) in let n = one c in omega (arith, h .0, h .1))
-    (λ c κs. search needs)
+    put-block-requires
+    (λ c. omega arith)
+    sub-o
+    add-o
     loop-less
     loop-again
+    (λ c. omega arith)
+    (λ c. omega arith)
+    (λ c. omega arith)
+    write-block-requires
     same-length
     returns)

@@ -74,7 +74,7 @@ module _ (z : Size) (s : List ℕ) where
   limits-few at zero = omega arith
   limits-few at (suc k) = let a = limits-few at k in let b = few (isLimit (upper z) (lower z) (signedAt (widthOf z) s (at + sizeOf z * k))) in omega arith
 
-  limits-next : (k : ℕ) → limitsIn z s 0 (suc k) ≡ limitsIn z s 0 k + cond (isLimit (upper z) (lower z) (signedAt (widthOf z) s (sizeOf z * k))) 1 0
+  pub limits-next : (k : ℕ) → limitsIn z s 0 (suc k) ≡ limitsIn z s 0 k + cond (isLimit (upper z) (lower z) (signedAt (widthOf z) s (sizeOf z * k))) 1 0
   unfolding limitsIn
   limits-next k = let e : 0 + sizeOf z * k ≡ sizeOf z * k = omega arith in rw e
 

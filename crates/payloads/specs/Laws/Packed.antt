@@ -4,18 +4,14 @@ use mathlib.Core.Bool.{Bool, true, false, cond, _&&_}
 use mathlib.Core.Option.{Option, none, some, Option·map}
 use mathlib.Core.List.{List, [], _∷_, _++_, append-nil, append-assoc}
 use Prim.Native.Nat.{ℕ, _+_, _-_, _<_, _≤_}
+use native.Mathlib.Nat.{add-zero}
 use native.Mathlib.Omega.{arith}
-use lib.ListN.{length, take, drop, set, length-append, length-drop}
-use lib.Seq.{take-all}
+use lib.ListN.{length, take, drop, set, length-append}
 use lib.IntN.{ℤ, pos}
-use mir.Syntax.{w8, w16, w32}
-use mir.Val.{toZ}
 use borrow.Author.Tests.{eq-eqb, ne-eqb}
 use Rattle.refusal.specs.Table.{numberNotAllowed, lengthDiffers}
-use Rattle.numbers.specs.BigEndian.{bytesIn, unsignedAt, signedAt}
-use Rattle.numbers.specs.Laws.BigEndian.{unsignedAt-drop}
+use Rattle.numbers.specs.BigEndian.{signedAt}
 use Rattle.steps.specs.declared.Size.{Size}
-use Rattle.steps.specs.declared.Size.the-variants.{One, Two, Four}
 use Rattle.steps.specs.declared.Form.the-variants.{Packed}
 use Rattle.steps.specs.declared.Turn.{Turn}
 use Rattle.steps.specs.declared.Turn.the-variants.{More, Done, Wrong}
@@ -32,23 +28,12 @@ use Rattle.payloads.specs.Results.{HasRoom, Wrote}
 use Rattle.payloads.specs.Laws.Items.{from, after, from-turn, from-end, from-some, packed-is}
 use Rattle.payloads.specs.Laws.Exact.{exact-append}
 use Rattle.payloads.specs.Laws.Scan.{map-id, map-both}
+use Rattle.payloads.specs.Laws.Plain.{number-within}
 use Rattle.payloads.specs.Laws.Writing.{WrittenTo, written-start, written-length, written-left, written-one, written-end, written-wrong}
 
 -- the number at the start of what is left
 pub part-first : (z : Size) (s : List ℕ) (at : ℕ) → at + sizeOf z ≤ length s → signedAt (widthOf z) (take (length s - at) (drop at s)) 0 ≡ signedAt (widthOf z) s at
-unfolding signedAt
-part-first z s at h = by z h
-  where
-    first : (k : ℕ) → at + k ≤ length s → unsignedAt k (take (length s - at) (drop at s)) 0 ≡ unsignedAt k s at
-    first k h =
-        let l = length-drop at s in
-        let e : at + 0 ≡ at = omega arith in
-        rw (take-all (length s - at) (drop at s) (omega arith)) (unsignedAt-drop k s at 0 (omega arith) ∙ ap (unsignedAt k s) e)
-
-    by : (z : Size) → at + sizeOf z ≤ length s → toZ (widthOf z) (unsignedAt (bytesIn (widthOf z)) (take (length s - at) (drop at s)) 0) ≡ toZ (widthOf z) (unsignedAt (bytesIn (widthOf z)) s at)
-    by One h = ap (toZ w8) (first 1 h)
-    by Two h = ap (toZ w16) (first 2 h)
-    by Four h = ap (toZ w32) (first 4 h)
+part-first z s at h = number-within z s at (length s - at) 0 (omega arith) (omega arith) ∙ ap (signedAt (widthOf z) s) (add-zero at)
 
 -- The results of the values p are done before the place: how many, the last, and whether all are exact. A result that has begun has the
 -- sum `part` so far.

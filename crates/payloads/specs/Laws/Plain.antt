@@ -12,7 +12,7 @@ use mir.Syntax.{w8, w16, w32}
 use mir.Val.{toZ}
 use borrow.Author.Tests.{eq-eqb, ne-eqb}
 use Rattle.refusal.specs.Table.{lengthDiffers}
-use Rattle.numbers.specs.BigEndian.{unsignedAt, signedAt}
+use Rattle.numbers.specs.BigEndian.{signedAt}
 use Rattle.numbers.specs.Laws.BigEndian.{unsignedAt-part}
 use Rattle.steps.specs.declared.Size.{Size}
 use Rattle.steps.specs.declared.Size.the-variants.{One, Two, Four}
@@ -29,6 +29,13 @@ use Rattle.payloads.specs.Results.{HasResults, Wrote, ResultsExact}
 use Rattle.payloads.specs.Scan.{judgesExact, scanOf}
 use Rattle.payloads.specs.Laws.Exact.{plain-exact}
 use Rattle.payloads.specs.Laws.Writing.{laid-next, laid-all}
+
+-- a number of a part of a payload is the number of the payload itself
+pub number-within : (z : Size) (s : List ℕ) (at n i : ℕ) → at + n ≤ length s → i + sizeOf z ≤ n → signedAt (widthOf z) (take n (drop at s)) i ≡ signedAt (widthOf z) s (at + i)
+unfolding signedAt
+number-within One s at n i h l = ap (toZ w8) (unsignedAt-part 1 s at n i h l)
+number-within Two s at n i h l = ap (toZ w16) (unsignedAt-part 2 s at n i h l)
+number-within Four s at n i h l = ap (toZ w32) (unsignedAt-part 4 s at n i h l)
 
 -- the number at i, counted from the place j
 number-from : (z : Size) (s : List ℕ) (i j : ℕ) → j + suc i * sizeOf z ≤ length s → getD (numbersIn z (drop j s)) i (pos 0) ≡ signedAt (widthOf z) s (j + i * sizeOf z)
@@ -77,10 +84,7 @@ module _ (z : Size) (d : Bool) (s : List ℕ) (n : ℕ) where
 
 -- a number in the part of a payload that it fills is the number of the payload itself
 number-part : (z : Size) (s : List ℕ) (at : ℕ) → at + sizeOf z ≤ length s → signedAt (widthOf z) (take (sizeOf z) (drop at s)) 0 ≡ signedAt (widthOf z) s at
-unfolding signedAt
-number-part One s at h = ap (toZ w8) (unsignedAt-part 1 s at 1 0 h (omega arith) ∙ ap (unsignedAt 1 s) (add-zero at))
-number-part Two s at h = ap (toZ w16) (unsignedAt-part 2 s at 2 0 h (omega arith) ∙ ap (unsignedAt 2 s) (add-zero at))
-number-part Four s at h = ap (toZ w32) (unsignedAt-part 4 s at 4 0 h (omega arith) ∙ ap (unsignedAt 4 s) (add-zero at))
+number-part z s at h = number-within z s at (sizeOf z) 0 h (omega arith) ∙ ap (signedAt (widthOf z) s) (add-zero at)
 
 exact-at : (l : List ℤ) (i : ℕ) → allExact l ≡ true → i < length l → exact (getD l i (pos 0)) ≡ true
 unfolding allExact

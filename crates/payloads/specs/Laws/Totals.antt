@@ -6,7 +6,7 @@ use mathlib.Core.List.{List}
 use Prim.Native.Nat.{ℕ, suc, _+_, _-_, _%_, _<_, _≤_}
 use native.Mathlib.Nat.{add-zero}
 use native.Mathlib.Omega.{arith}
-use lib.ListN.{length, set, replicate, length-set}
+use lib.ListN.{length, set, replicate, length-append, length-set}
 use lib.Seq.{set-set}
 use lib.IntN.{ℤ, pos, negsuc, _+ℤ_}
 use lib.Signed.{mag}
@@ -35,7 +35,7 @@ use Rattle.payloads.specs.Exact.{exact, allExact}
 use Rattle.payloads.specs.Results.{HasRoom, Wrote, ResultsExact}
 use Rattle.payloads.specs.Scan.{judgesExact, scanOf}
 use Rattle.payloads.specs.Laws.Items.{from}
-use Rattle.payloads.specs.Laws.Writing.{WrittenTo, written-exact}
+use Rattle.payloads.specs.Laws.Writing.{WrittenTo, written-rest, written-exact}
 use Rattle.payloads.specs.Laws.Packed.{step, WrittenPacked, packed-written-start, packed-written-length, packed-written-left, packed-written-more, packed-written-done, packed-written-wrong, packed-written-unfinished, packed-written-end, Unpacked, unpacked-start, unpacked-more, unpacked-done, unpacked-wrong, unpacked-unfinished, unpacked-whole}
 
 -- The total
@@ -139,6 +139,16 @@ module _ {B : Type 0} (g : ℤ → B) (z : Size) (d : Bool) (s : List ℕ) (old 
   module _ (at : ℕ) (total : ℤ) (o : ℕ) (new : List B) (w : WrittenTotal at total o new) where
     pub total-written-length : length new ≡ length old
     total-written-length = w .6 ∙ packed-written-length g z d s old room at (w .0) o (w .2) (w .1) (w .3)
+
+    pub total-written-within : o ≤ length old
+    total-written-within =
+        let v = w .3 .1 in
+        let r = written-rest g (Packed z) d s old room (from z s (w .0) (w .3 .0) at) o (w .2) (w .1) v in
+        let a = length-append (v .0) (r .0) in
+        let b = ap length (r .2) in
+        let h = room .2 in
+        let j = v .2 in
+        omega arith
 
     pub total-written-end : length s - at < sizeOf z → Wrote g (Packed z) d s old new
     total-written-end h = by (w .3 .0) refl
