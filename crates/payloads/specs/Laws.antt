@@ -11,3 +11,4 @@ pub mod Runs
 pub mod Refusal
 pub mod Limits
 pub mod Blocks
+pub mod Small

@@ -40,3 +40,8 @@ mostLimits false = 16777214
 -- no row among k numbers is longer
 abbrev pub Short : Bool → List ℕ → ℕ → Type 0
 Short two s k = (j : ℕ) → j ≤ k → rowAt (packedSize two) s j ≤ mostLimits two
+
+-- so many limits, and a number after them, have a sum that is exact in single precision
+abbrev pub exactLimits : Bool → ℕ
+exactLimits true = 510
+exactLimits false = 131070

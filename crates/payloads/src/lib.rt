@@ -17,7 +17,7 @@ ghost use Rattle.columns.specs.Table.{elements};
 ghost use Rattle.payloads.specs.Exact.{exact};
 ghost use Rattle.payloads.specs.Results.{ResultsJudged};
 ghost use Rattle.payloads.specs.Scan.{scanOf, judgesExact, refusalOf};
-ghost use Rattle.payloads.specs.Limits.{packedSize, limitAt, limitsIn, endsAtLimit, mostLimits, Short};
+ghost use Rattle.payloads.specs.Limits.{packedSize, limitAt, limitsIn, endsAtLimit, mostLimits, exactLimits, Short};
 ghost use Rattle.payloads.specs.Blocks.{countIn};
 ghost use Rattle.payloads.specs.Items.{itemAt, outcomeRefusal};
 use steps::Form;
@@ -191,7 +191,8 @@ fn scan_packed(payload: &[u8], size: Size, delta: bool, length: usize) -> Outcom
     Outcome::Fine(exact)
 }
 
-// Scans packed numbers of one or two bytes: their refusal first, and then whether their results are exact.
+// Scans packed numbers of one or two bytes: their refusal first, and then whether their results are exact, as all are where there are few
+// limits and no delta.
 fn scan_totals(payload: &[u8], two: bool, delta: bool, length: usize) -> Outcome
     ensures { λ r. ⌜ r ≡ scanOf (Form.Packed (packedSize two)) delta length (readIn (Form.Packed (packedSize two)) (now (payload .entry))) ⌝ }
 {
@@ -199,10 +200,20 @@ fn scan_totals(payload: &[u8], two: bool, delta: bool, length: usize) -> Outcome
     if refused != refusal::ACCEPTED {
         return Outcome::Refused(refused);
     }
+    if !delta & has_few_limits(payload, two, length) {
+        return Outcome::Fine(true);
+    }
     if two {
         return Outcome::Fine(are_exact(payload, true, delta));
     }
     Outcome::Fine(are_exact(payload, false, delta))
+}
+
+// Whether so few packed numbers are limits that each result without delta is exact. Every other number ends a result.
+fn has_few_limits(payload: &[u8], two: bool, length: usize) -> bool
+    ensures { λ r. ⌜ r ≡ leb (countIn (packedSize two) (now (payload .entry)) - length) (exactLimits two) ⌝ }
+{
+    less(count_of(payload.len(), two), length) <= exact_limits(two)
 }
 
 // Whether the results of packed numbers are exact, by one total: of the result that has begun, and with delta of those before it too.
@@ -428,6 +439,13 @@ fn most_limits(two: bool) -> usize
     ensures { λ r. ⌜ r ≡ mostLimits two ⌝ }
 {
     if two { 65534 } else { 16777214 }
+}
+
+// So many limits of a size, and a number after them, have a sum that is exact in single precision.
+fn exact_limits(two: bool) -> usize
+    ensures { λ r. ⌜ r ≡ exactLimits two ⌝ }
+{
+    if two { 510 } else { 131070 }
 }
 
 // The total after a number: after a limit, and with delta, it goes on.

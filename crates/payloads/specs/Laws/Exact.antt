@@ -25,7 +25,7 @@ every-exact P h (x ∷ xs) e = rw (h x (e .0), every-exact P h xs (e .1))
 
 -- Plain numbers of one and two bytes are exact
 
-small-exact : (k : ℕ) (x : ℤ) → k ≤ exactLimit → mag x < k → exact x ≡ true
+pub small-exact : (k : ℕ) (x : ℤ) → k ≤ exactLimit → mag x < k → exact x ≡ true
 small-exact k (pos n) h m = le-leb n exactLimit (omega arith)
 small-exact k (negsuc n) h m = le-leb (suc n) exactLimit (omega arith)
 

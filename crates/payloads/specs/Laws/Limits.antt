@@ -272,7 +272,7 @@ number-small : (two : Bool) (s : List ℕ) (at : ℕ) → mag (signedAt (widthOf
 number-small true s at = signedAt-fits Two s at .sfits
 number-small false s at = signedAt-fits One s at .sfits
 
-no-row : (two : Bool) → mag (pos 0) ≤ lower (packedSize two) * 0
+pub no-row : (two : Bool) → mag (pos 0) ≤ lower (packedSize two) * 0
 no-row true = omega arith
 no-row false = omega arith
 
