@@ -617,7 +617,7 @@ fn packed_item(payload: &[u8], at: usize, size: Size) -> Item
     Item::End
 }
 
-// One run.
+// One run. Both numbers are read from the part that begins with them, so that room is tested once.
 fn run_item(payload: &[u8], at: usize, range: Range) -> Item
     requires { ⌜ at ≤ length (now payload) ⌝ }
     ensures { λ r. ⌜ r ≡ itemAt (Form.Runs range) (now (payload .entry)) at ⌝ }
@@ -625,8 +625,9 @@ fn run_item(payload: &[u8], at: usize, range: Range) -> Item
     if payload.len() - at < 8 {
         return Item::End;
     }
-    let value = numbers::read_i32(payload, at);
-    let count = numbers::read_i32(payload, at + 4);
+    let run = &payload[at..];
+    let value = numbers::read_i32(run, 0);
+    let count = numbers::read_i32(run, 4);
     if count < 1 {
         return Item::Wrong;
     }
