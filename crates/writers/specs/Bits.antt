@@ -1,17 +1,21 @@
--- Numbers by their bits, a count up to the room, and what is to be written at a spot. No lemma stands here. Assumes nothing.
+-- Numbers by their bits, a count up to the room, runs counted in blocks, and what is to be written at a spot. No lemma stands here.
+-- Assumes nothing.
 use mathlib.Core.Path.{_≡_}
 use mathlib.Core.Bool.{Bool, cond}
 use mathlib.Core.List.{List, [], _∷_, _++_}
-use Prim.Native.Nat.{ℕ, _+_, _/_, _%_}
-use lib.ListN.{drop}
-use lib.IntN.{ℤ}
+use Prim.Native.Nat.{ℕ, _+_, _*_, _/_, _%_, _≤_, _<_}
+use lib.ListN.{length, drop, getD}
+use lib.IntN.{ℤ, pos}
 use lib.Dec.{leb}
+use mir.Syntax.{w32}
+use mir.Val.{toZ, ofZ}
 use Rattle.numbers.specs.BigEndian.{bytesOf}
 use Rattle.steps.specs.declared.Size.{Size}
 use Rattle.steps.specs.Width.{sizeOf}
 use Rattle.steps.specs.Numbers.{bytesFor}
 use Rattle.steps.specs.Packing.{pack}
 use Rattle.steps.specs.Delta.{deltasFrom}
+use Rattle.steps.specs.RunLength.{runsOf}
 use Rattle.writers.specs.Placed.{over}
 use Rattle.writers.specs.declared.packed.Spot.{Spot}
 
@@ -23,6 +27,20 @@ bitsFor z (u ∷ us) = bytesOf (sizeOf z) u ++ bitsFor z us
 -- n where there is room for it, and one more than the room where there is not
 unfoldable pub upTo : ℕ → ℕ → ℕ
 upTo room n = cond (leb n room) n (room + 1)
+
+-- what a payload holds for the cells after the one at i
+abbrev pub cellsAfter : Bool → List ℤ → ℕ → List ℤ
+cellsAfter d xs i = deltasFrom d (toZ w32 (ofZ w32 (getD xs i (pos 0)))) (drop (i + 1) xs)
+
+-- u has the bits of the first of them
+pub record CellAfter (d : Bool) (xs : List ℤ) (i u : ℕ) : Type 0 where
+  pub cell : cellsAfter d xs i ≡ toZ w32 u ∷ cellsAfter d xs (i + 1)
+  pub fits : u < 4294967296
+
+-- their runs are k more than those that begin n cells later
+pub record BegunIn (d : Bool) (xs : List ℤ) (i n k : ℕ) : Type 0 where
+  pub runs : length (runsOf (cellsAfter d xs i)) ≡ k * 2 + length (runsOf (cellsAfter d xs (i + n)))
+  pub most : k ≤ n
 
 -- the bytes that are still to be written at a spot
 abbrev pub toWrite : Size → Bool → List ℤ → Spot → List ℕ

@@ -2,7 +2,7 @@
 ghost use mathlib.Core.Path.{_≡_};
 ghost use mathlib.Core.Bool.{false, cond};
 ghost use mathlib.Core.List.{_++_, map};
-ghost use Prim.Native.Nat.{_+_, _*_, _%_, _≤_};
+ghost use Prim.Native.Nat.{_+_, _*_, _%_, _≤_, _<_};
 ghost use lib.ListN.{length};
 ghost use lib.IntN.{pos};
 ghost use lib.Dec.{eqb, leb};
@@ -11,6 +11,7 @@ ghost use Rattle.steps.specs.Numbers.{bytesFor};
 ghost use Rattle.steps.specs.Delta.{deltasIf};
 ghost use Rattle.steps.specs.RunLength.{runsOf};
 ghost use Rattle.writers.specs.Placed.{over, placedCells, laidCells};
+ghost use Rattle.writers.specs.Bits.{CellAfter, BegunIn};
 use crate::Placed;
 use steps::Form;
 use steps::Range;
@@ -54,26 +55,52 @@ pub fn place_chars(values: &[u8], buffer: &mut [u8], at: usize) -> Placed
     Placed::Bytes(n * 8)
 }
 
-// How many runs there are.
+// How many runs there are: one, and one more for each cell that begins another. Those are counted in blocks.
 fn count_numbers(values: &[i32], delta: bool) -> usize
     ensures { λ r. ⌜ r * 2 ≡ length (runsOf (deltasIf delta (now (values .entry)))) ⌝ }
 {
     if values.len() == 0 {
         return 0;
     }
-    let mut before = values[0];
-    let mut v = numbers::to_u32(crate::delta_if(0, before, delta));
-    let mut n: usize = 1;
-    let mut i: usize = 1;
-    while i < values.len() {
-        let x = values[i];
-        let y = numbers::to_u32(crate::delta_if(before, x, delta));
-        n += begun(y, v);
-        v = y;
-        before = x;
-        i += 1;
+    if values.len() == 1 {
+        return 1;
+    }
+    let first = numbers::to_u32(crate::delta_if(0, values[0], delta));
+    let last = values.len() - 2;
+    let mut n = begun(cell_after(values, delta, 0), first) as usize;
+    let mut i: usize = 0;
+    while 65536 <= last - i {
+        n += begun_in(values, delta, i, 65536) as usize;
+        i += 65536;
+    }
+    n + begun_in(values, delta, i, last - i) as usize + 1
+}
+
+// How many runs `count` cells begin, the first of them two after `from`. Each is compared with the one before it, so that the processor
+// compares several at a time, and counts in 32 bits.
+fn begun_in(values: &[i32], delta: bool, from: usize, count: usize) -> u32
+    requires { ⌜ (from + count + 2 ≤ length (now values)) × (count ≤ 65536) ⌝ }
+    ensures { λ r. ⌜ BegunIn delta (now (values .entry)) from count r ⌝ }
+{
+    let mut n: u32 = 0;
+    let mut k: usize = 0;
+    while k < count {
+        let i = from + k;
+        n += begun(
+            cell_after(values, delta, i + 1),
+            cell_after(values, delta, i),
+        );
+        k += 1;
     }
     n
+}
+
+// What a payload holds for the cell after a place, by its bits.
+fn cell_after(values: &[i32], delta: bool, i: usize) -> u32
+    requires { ⌜ i + 1 < length (now values) ⌝ }
+    ensures { λ r. ⌜ CellAfter delta (now (values .entry)) i r ⌝ }
+{
+    numbers::to_u32(crate::delta_if(values[i], values[i + 1], delta))
 }
 
 // The runs from `start` on.
@@ -118,7 +145,7 @@ fn count_chars(values: &[u8]) -> usize
     let mut i: usize = 1;
     while i < values.len() {
         let x = values[i] as u32;
-        n += begun(x, v);
+        n += begun(x, v) as usize;
         v = x;
         i += 1;
     }
@@ -153,7 +180,7 @@ fn write_chars(values: &[u8], buffer: &mut [u8], start: usize)
 }
 
 // How many runs a cell begins after another.
-fn begun(cell: u32, last: u32) -> usize
+fn begun(cell: u32, last: u32) -> u32
     ensures { λ r. ⌜ (r ≡ cond (eqb cell last) 0 1) × (r ≤ 1) ⌝ }
 {
     if cell == last { 0 } else { 1 }

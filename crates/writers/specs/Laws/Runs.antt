@@ -1,12 +1,14 @@
 -- Laws of the longest runs, one cell after the other: how many they are, and their bytes. Assumes nothing.
-use mathlib.Core.Path.{_≡_, refl, sym, ap, _∙_}
+use mathlib.Core.Path.{_≡_, refl, sym, ap, ap₂, _∙_}
 use mathlib.Core.Bool.{Bool, true, false, cond}
 use mathlib.Core.List.{List, [], _∷_, _++_, append-assoc}
-use Prim.Native.Nat.{ℕ, suc, _+_, _*_, _<_}
+use Prim.Native.Nat.{ℕ, suc, _+_, _*_, _<_, _≤_}
+use native.Mathlib.Nat.{add-zero}
 use native.Mathlib.Numerals.{add-one}
 use native.Mathlib.Omega.{arith}
-use lib.ListN.{length, drop, getD, length-append}
+use lib.ListN.{length, drop, getD, length-append, length-drop}
 use lib.IntN.{ℤ, pos}
+use lib.Dec.{eqb}
 use mir.Syntax.{w32}
 use mir.Val.{SFits, toZ, ofZ}
 use borrow.Author.Tests.{eq-eqb, ne-eqb, eqb-true}
@@ -21,9 +23,10 @@ use Rattle.steps.specs.RunLength.{same, runsFrom, runsOf}
 use Rattle.steps.specs.Delta.{deltasIf, deltaIf, deltasFrom}
 use Rattle.steps.specs.Payload.{numbersFor}
 use Rattle.columns.specs.Encode.{payloadOf}
+use Rattle.writers.specs.Bits.{cellsAfter, CellAfter, BegunIn}
 use Rattle.writers.specs.Laws.Placed.{Parts}
-use Rattle.writers.specs.Laws.Numbers.{bytesFor-cons, bytesFor-nil, bits-back}
-use Rattle.steps.specs.Laws.Delta.{deltas-read, deltas-plain}
+use Rattle.writers.specs.Laws.Numbers.{bytesFor-cons, bytesFor-nil, bits-back, bits-same}
+use Rattle.steps.specs.Laws.Delta.{deltas-read, deltas-plain, length-deltas}
 
 pub runs-payload : (r : Range) (d : Bool) (xs : List ℤ) → payloadOf (Runs r) d xs ≡ bytesFor Four (runsOf (deltasIf d xs))
 unfolding payloadOf numbersFor
@@ -80,6 +83,39 @@ module _ {all : List ℤ} {v : ℤ} {n : ℕ} {rest : List ℤ} (h : Counted all
 
   pub counted-last : rest ≡ [] → n * 2 ≡ length (runsOf all)
   counted-last e = omega (arith, length-runsFrom-last v rest e, h .counted)
+
+-- Runs counted in blocks
+
+-- a cell before others is in a run with the next one, or in a run more
+pub runs-next : {ys zs ws : List ℤ} {v y k : ℕ} → ys ≡ toZ w32 v ∷ zs → zs ≡ toZ w32 y ∷ ws → v < 4294967296 → y < 4294967296 → k ≡ cond (eqb y v) 0 1 → length (runsOf ys) ≡ k * 2 + length (runsOf zs)
+runs-next {ys} {zs} {ws} {v} {y} {k} e f g h q =
+    ap length (runsOf-first (toZ w32 v) zs ys e) ∙ length-runsFrom-more (toZ w32 v) (toZ w32 y) ws zs f
+    ∙ ap₂ (λ (a b : ℕ). a * 2 + b) (ap₂ (λ (a b : ℕ). cond (eqb a b) 0 1) (bits-same y h) (bits-same v g) ∙ sym q) (sym (ap length (runsOf-first (toZ w32 y) ws zs f)))
+
+pub runs-one : (ys : List ℤ) → length ys ≡ 1 → length (runsOf ys) ≡ 2
+unfolding runsOf runsFrom
+runs-one [] e = absurd (omega arith)
+runs-one (y ∷ []) e = refl
+runs-one (y ∷ (z ∷ zs)) e = absurd (omega arith)
+
+-- a column of one cell, and the last cell of a longer one
+pub column-one : (d : Bool) (xs : List ℤ) → length xs ≡ 1 → length (runsOf (deltasIf d xs)) ≡ 2
+column-one d xs h = runs-one (deltasIf d xs) (length-deltas d (pos 0) xs ∙ h)
+
+pub cells-last : (d : Bool) (xs : List ℤ) (i : ℕ) → i + 2 ≡ length xs → length (runsOf (cellsAfter d xs i)) ≡ 2
+cells-last d xs i h =
+    let e = length-drop (i + 1) xs in
+    runs-one (cellsAfter d xs i) (length-deltas d (toZ w32 (ofZ w32 (getD xs i (pos 0)))) (drop (i + 1) xs) ∙ omega arith)
+
+module _ (d : Bool) (xs : List ℤ) (i : ℕ) where
+  pub begun-none : BegunIn d xs i 0 0
+  begun-none = let e = ap (λ (j : ℕ). length (runsOf (cellsAfter d xs j))) (add-zero i) in record { runs = omega (arith, e); most = omega arith }
+
+  pub begun-more : {n k r v y : ℕ} → BegunIn d xs i n k → CellAfter d xs (i + n) v → CellAfter d xs (i + n + 1) y → (r ≡ cond (eqb y v) 0 1) × (r ≤ 1) → BegunIn d xs i (n + 1) (k + r)
+  begun-more {n} {k} {r} {v} {y} b f g q =
+      let e : i + n + 1 ≡ i + (n + 1) = omega arith in
+      let j = ap (λ (j : ℕ). length (runsOf (cellsAfter d xs j))) e in
+      record { runs = omega (arith, b .runs, runs-next (f .cell) (g .cell) (f .fits) (g .fits) (q .0), j); most = omega (arith, b .most, q .1) }
 
 -- The bytes of runs
 

@@ -45,6 +45,7 @@ count-chars-spec =
     (λ c. search needs)
     (λ c. omega (arith, c .shared-slice-known3 .given (c .before .before .loop .i)))
     (λ c κs. search needs)
+    (λ c. search needs)
     add-n
     (λ c. search needs)
     (λ c. search needs)
