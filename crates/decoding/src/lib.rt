@@ -11,7 +11,7 @@ ghost use Rattle.payloads.specs.Limits.{packedSize};
 ghost use Rattle.payloads.specs.Blocks.{NoLimit, HasPlaces, Stored};
 ghost use Rattle.payloads.specs.Results.{paste, Filled, HasRoom, HasResults, Covered, Wrote};
 ghost use Rattle.columns.specs.Buffer.{decodedAnswer};
-ghost use Rattle.decoding.specs.Steps.{namesPayload, charsPayload, isWritten};
+ghost use Rattle.decoding.specs.Steps.{namesPayload, charsPayload, isWritten, HasPlain, WrotePart};
 ghost use Rattle.decoding.specs.Calls.{fixedAnswer, asNumber, asByte, numberBuffer, byteBuffer};
 use columns::HEADER_SIZE;
 use columns::Header;
@@ -167,15 +167,29 @@ fn put_plain(payload: &[u8], size: Size, n: usize, buffer: &mut [i32])
     }
 }
 
-// Writes n plain numbers. Each is read from the part of the payload that it fills, so that no test of room is left, and the processor does
-// several at once.
+// Writes n plain numbers in blocks. A loop that stands in a loop begins at a multiple of 16 bytes, and its speed is then the same wherever
+// the function comes to stand.
 fn write_plain(payload: &[u8], size: Size, n: usize, buffer: &mut [i32])
     requires { ⌜ HasResults (Form.Plain size) (now payload) n × (n ≤ length (now buffer)) ⌝ }
     ensures { λ r. ⌜ Wrote asNumber (Form.Plain size) false (now (payload .entry)) (now (buffer .entry)) (now (buffer .exit)) ⌝ }
 {
-    let k = steps::bytes(size);
     let mut i: usize = 0;
-    while i < n {
+    while 65536 <= n - i {
+        write_part(payload, size, i, i + 65536, buffer);
+        i += 65536;
+    }
+    write_part(payload, size, i, n, buffer);
+}
+
+// Writes plain numbers from an index to another. Each is read from the part of the payload that it fills, so that no test of room is left,
+// and the processor does several at once.
+fn write_part(payload: &[u8], size: Size, from: usize, to: usize, buffer: &mut [i32])
+    requires { ⌜ HasPlain size (now payload) to (length (now buffer)) × (from ≤ to) ⌝ }
+    ensures { λ r. ⌜ WrotePart size (now (payload .entry)) from to (now (buffer .entry)) (now (buffer .exit)) ⌝ }
+{
+    let k = steps::bytes(size);
+    let mut i = from;
+    while i < to {
         let at = i * k;
         buffer[i] = steps::number_at(&payload[at..at + k], 0, size);
         i += 1;

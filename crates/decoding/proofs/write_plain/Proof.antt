@@ -1,51 +1,32 @@
--- The numbers before the place stand at the buffer's start (`plain-next`); at the end, all do (`plain-wrote`).
-use mathlib.Core.Path.{_≡_, refl, ap, ap₂, _∙_}
-use Prim.Native.Nat.{ℕ, _+_, _-_, _*_, _≤_}
+-- The blocks before the place stand at the buffer's start; at the end, all numbers do (`plain-wrote`).
+use mathlib.Core.Path.{_≡_, refl, sym, _∙_}
+use Prim.Native.Nat.{_-_, _≤_}
 use native.Mathlib.Omega.{arith}
-use lib.ListN.{length, take, drop, length-set}
-use mir.Syntax.{w32}
-use mir.Facts.{toZ-ofZ}
+use lib.ListN.{length}
 use borrow.Author.Needs.{needs}
-use Rattle.numbers.specs.BigEndian.{signedAt}
-use Rattle.steps.specs.declared.Form.the-variants.{Plain}
-use Rattle.steps.specs.Width.{widthOf, sizeOf}
-use Rattle.payloads.specs.Results.{HasResults}
-use Rattle.payloads.specs.Laws.Plain.{PlainTo, plain-inside, plain-next, plain-wrote}
+use Rattle.payloads.specs.Laws.Plain.{plain-wrote}
 use Rattle.decoding.specs.Calls.{asNumber}
+use Rattle.decoding.specs.Steps.{PlainUpTo}
 use Rattle.decoding.proofs.write_plain.Statement.{statement}
 use Rattle.decoding.proofs.write_plain.Tie as tie
 
 abbrev Inv-loop : tie.InvT-loop
-Inv-loop payload size n buffer₀ k i₀ buffer i =
-    (i ≤ n) × (length buffer ≡ length buffer₀) × ((held : HasResults (Plain size) payload n) → PlainTo asNumber size payload n held buffer₀ i buffer)
+Inv-loop payload size n buffer₀ i₀ buffer i = (i ≤ n) × (length buffer ≡ length buffer₀) × PlainUpTo size payload buffer₀ i buffer
 
 abbrev μ-loop : tie.MeasureT-loop
-μ-loop payload size n buffer₀ k i₀ buffer i = n - i
-
--- the bytes of the next number are inside
-inside : (c : tie.In-loop Inv-loop μ-loop) → c .before .loop .i * c .before .before .bytes .result + c .before .before .bytes .result ≤ length (c .before .before .before .before .args .payload .now)
-inside c =
-    let a = c .before .before .before .before in
-    rw (c .before .before .bytes .ensures) (plain-inside asNumber (a .args .size) (a .args .payload .now) (a .args .n) (a .pre .0) (c .before .loop .i) (omega arith))
+μ-loop payload size n buffer₀ i₀ buffer i = n - i
 
 loop-again : tie.Need-loop-again Inv-loop μ-loop
 loop-again c =
-    let a = c .before .before .before .before .before .before in
-    let p = c .before .before .before .loop in
-    let s = a .args .payload .now in
-    let k = c .before .before .before .before .bytes in
-    let m : p .i * k .result + k .result - p .i * k .result ≡ sizeOf (a .args .size) = omega (arith, k .ensures) in
-    let e = c .number-at .ensures ∙ ap₂ (λ (i j : ℕ). signedAt (widthOf (a .args .size)) (take i (drop j s)) 0) m (ap (λ (i : ℕ). p .i * i) (k .ensures)) in (
-      omega arith,
-      length-set (p .buffer) (p .i) _ ∙ p .inv .1,
-      (λ held. plain-next asNumber (a .args .size) s (a .args .n) held (p .i) (omega arith) (c .number-at .result) e (a .args .buffer .now) (p .buffer) _ (a .pre .1) (toZ-ofZ {w = w32} (record { sfits = c .number-at .ok })) (p .inv .2 held)),
-    )
+    let a = c .before .before .before .before .before .before .args in
+    let p = c .before .before .before .before .loop in
+    (omega arith, c .before .write-part .kept .1 .1 .1 .1 .0 ∙ p .inv .1, c .before .write-part .ensures (a .buffer .now) (sym (p .inv .1)) (p .inv .2))
 
 returns : tie.Need-returns Inv-loop μ-loop
 returns c =
-    let a = c .before .before .before .before in
-    let p = c .before .loop in
-    plain-wrote asNumber (a .args .size) (a .args .payload .now) (a .args .n) (a .pre .0) (a .args .buffer .now) (p .buffer) (p .i) (omega arith) (p .inv .2 (a .pre .0))
+    let a = c .before .before .before .before .before .before in
+    let p = c .before .before .before .before .loop in
+    plain-wrote asNumber (a .args .size) (a .args .payload .now) (a .args .n) (a .pre .0) (a .args .buffer .now) _ (a .args .n) refl (c .before .write-part2 .ensures (a .args .buffer .now) (sym (p .inv .1)) (p .inv .2))
 
 pub write-plain-spec : {M : Type 1} → statement M
 write-plain-spec =
@@ -53,18 +34,13 @@ write-plain-spec =
     (tie.spec
     Inv-loop
     μ-loop
-    (λ c κs. search needs)
-    (λ c. (omega arith, refl, (λ held. refl)))
-    (λ c. omega (arith, inside c))
-    (λ c. omega (arith, inside c))
-    (λ c. omega (arith, inside c))
-    (λ c. omega (arith, inside c))
-    (λ c. omega (arith, inside c))
-    (λ c κs. search needs)
-    (λ c. omega (arith, c .before .before .before .before .before .before .pre .1))
-    (λ c. omega (arith, c .before .before .before .before .before .before .pre .1))
+    (λ c. (omega arith, refl, refl))
+    (λ c. omega (arith, c .loop .inv .0))
+    (λ c. omega (arith, c .before .loop .inv .0))
+    (λ c κs. let a = c .before .before .before .before in let i = c .before .before .loop .inv in ((a .args .n, a .pre .0, omega arith, omega (arith, i .1, a .pre .1)), omega arith))
     (λ c. omega arith)
     (λ c. omega arith)
     loop-again
-    (λ c. c .before .loop .inv .1)
+    (λ c κs. let a = c .before .before .before .before in let i = c .before .before .loop .inv in ((a .args .n, a .pre .0, omega arith, omega (arith, i .1, a .pre .1)), omega (arith, i .0)))
+    (λ c. c .before .write-part2 .kept .1 .1 .1 .1 .0 ∙ c .before .before .before .before .loop .inv .1)
     returns)
