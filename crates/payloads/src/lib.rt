@@ -52,7 +52,7 @@ pub fn scan(payload: &[u8], form: Form, size: usize, delta: bool, length: usize)
             Size::Two => scan_totals(payload, true, delta, length),
             Size::Four => scan_packed(payload, Size::Four, delta, length),
         },
-        Form::Runs(range) => scan_runs(payload, range, delta, length),
+        Form::Runs(range) => scan_ranged(payload, range, delta, length),
         Form::Names => scan_names(payload, size, length),
     }
 }
@@ -470,6 +470,18 @@ pub fn is_short(count: usize, left: usize) -> bool
         return 4 <= left;
     }
     false
+}
+
+// Scans runs, by a loop of their range's own.
+fn scan_ranged(payload: &[u8], range: Range, delta: bool, length: usize) -> Outcome
+    ensures { λ r. ⌜ r ≡ scanOf (Form.Runs range) delta length (readIn (Form.Runs range) (now (payload .entry))) ⌝ }
+{
+    match range {
+        Range::Int8 => scan_runs(payload, Range::Int8, delta, length),
+        Range::Int16 => scan_runs(payload, Range::Int16, delta, length),
+        Range::Int32 => scan_runs(payload, Range::Int32, delta, length),
+        Range::Ascii => scan_runs(payload, Range::Ascii, delta, length),
+    }
 }
 
 // Scans runs.

@@ -30,7 +30,7 @@ returns-4 c =
 returns-5 : tie.Need-returns-5
 returns-5 c =
     let a = c .before .before .before .before .before .args in
-    scan-held (Runs (c .before .before .form3 .given .0 .0)) (a .form) (a .delta) (a .size) (a .length) (a .payload .now) (c .scan-runs .result) refl (c .before .before .form3 .given .1) (c .scan-runs .ensures)
+    scan-held (Runs (c .before .before .form3 .given .0 .0)) (a .form) (a .delta) (a .size) (a .length) (a .payload .now) (c .scan-ranged .result) refl (c .before .before .form3 .given .1) (c .scan-ranged .ensures)
 
 returns-6 : tie.Need-returns-6
 returns-6 c = let a = c .before .before .before .before .args in scan-names (a .form) (a .delta) (a .size) (a .length) (a .payload .now) (c .scan-names .result) (c .before .enum-told4 .given .1) (c .scan-names .ensures)
