@@ -143,7 +143,7 @@ fn value_of(kind: Kind, m: u32, x: i32) -> Cell
         Kind::Int16 => Cell::Int(x),
         Kind::Int32 => Cell::Int(x),
         Kind::Strings => Cell::Refused(refusal::CODEC_UNKNOWN),
-        Kind::Chars => Cell::Char(decoding::low_byte(x)),
+        Kind::Chars => Cell::Char(numbers::low_byte(numbers::to_u32(x))),
     }
 }
 

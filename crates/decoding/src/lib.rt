@@ -374,7 +374,7 @@ fn write_chars(payload: &[u8], n: usize, buffer: &mut [u8])
     let mut o: usize = 0;
     while 8 <= payload.len() - at {
         let run = &payload[at..];
-        let byte = low_byte(numbers::read_i32(run, 0));
+        let byte = numbers::low_byte(numbers::to_u32(numbers::read_i32(run, 0)));
         let count = numbers::to_u32(numbers::read_i32(run, 4));
         at += 8;
         write_byte(buffer, o, count as usize, byte, n - o);
@@ -408,13 +408,6 @@ fn fill_bytes(buffer: &mut [u8], from: usize, count: usize, byte: u8)
         buffer[from + n] = byte;
         n += 1;
     }
-}
-
-// The lowest byte of a number.
-pub fn low_byte(number: i32) -> u8
-    ensures { λ r. ⌜ r ≡ asByte number ⌝ }
-{
-    (numbers::to_u32(number) % 256) as u8
 }
 
 // The bytes of a payload of strings whose header passed.

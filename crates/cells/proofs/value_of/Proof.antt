@@ -1,5 +1,6 @@
 -- Each arm is the definition's clause.
 use mathlib.Core.Path.{sym, ap, _∙_}
+use Prim.Native.Nat.{ℕ, _%_}
 use lib.Ieee.{binary32, ofBits}
 use mir.Syntax.{w32}
 use mir.Val.{ofZ}
@@ -42,8 +43,8 @@ returns-6 c = let a = c .before .before in ap (λ (k : Kind). valueOf k (a .args
 
 returns-7 : tie.Need-returns-7
 returns-7 c =
-    let a = c .before .before .before in
-    ap Char (c .low-byte .ensures ∙ ap asByte (toZ-ofZ {w = w32} (a .fits .x))) ∙ ap (λ (k : Kind). valueOf k (a .args .m) (a .args .x)) (sym (c .before .enum-told7 .given .1))
+    let a = c .before .before .before .before in
+    ap Char (c .low-byte .ensures ∙ ap (λ (n : ℕ). n % 256) (c .before .to-u322 .ensures) ∙ ap asByte (toZ-ofZ {w = w32} (a .fits .x))) ∙ ap (λ (k : Kind). valueOf k (a .args .m) (a .args .x)) (sym (c .before .before .enum-told7 .given .1))
 
 pub value-of-spec : {M : Type 1} → statement M
 value-of-spec =
@@ -59,6 +60,7 @@ value-of-spec =
     (λ c. search needs)
     (λ c. search needs)
     (λ c. search needs)
+    (λ c κs. search needs)
     (λ c κs. search needs)
     returns
     returns-2
