@@ -9,6 +9,13 @@ use Rattle.payloads.specs.Laws.Blocks.{not-said, stored-as}
 use Rattle.decoding.proofs.put_block.Statement.{statement}
 use Rattle.decoding.proofs.put_block.Tie as tie
 
+-- a block that is written quickly has no limit
+quick-sums : tie.Need-write-block-requires-2
+quick-sums c κs = let a = c .before .before .before .before in ((λ q. a .pre .0 (not-false _ (c .before .before .if1 .left))), a .pre .1)
+
+quick-values : tie.Need-write-block-requires-3
+quick-values c κs = let a = c .before .before .before .before in ((λ q. a .pre .0 (not-false _ (c .before .before .if1 .left))), a .pre .1)
+
 returns : tie.Need-returns
 returns c =
     let a = c .before .before .before .before .before in
@@ -34,9 +41,9 @@ put-block-spec =
     (λ c κs. let a = c .before .before .before in (not-said (packedSize (a .args .two)) (a .args .block .now), a .pre .1))
     (λ c. search needs)
     returns
-    (λ c κs. let a = c .before .before .before .before in ((λ q. a .pre .0 (not-false _ (c .before .before .if1 .left))), a .pre .1))
+    quick-sums
     (λ c. search needs)
     returns-2
-    (λ c κs. let a = c .before .before .before .before in ((λ q. a .pre .0 (not-false _ (c .before .before .if1 .left))), a .pre .1))
+    quick-values
     (λ c. search needs)
     returns-3)
