@@ -87,7 +87,7 @@ fn number_in(payload: &[u8], form: Form, delta: bool, index: usize) -> i32
 }
 
 // The result at an index of packed numbers that have one there. `left` is how many results come before it, and `total` the sum of the
-// result that has begun, with delta of those before it too.
+// result that has begun, with delta of those before it too. Each number is read from the part that it fills, so that no test of room is left.
 fn packed_at(payload: &[u8], size: Size, delta: bool, index: usize) -> i32
     ensures { λ r. ⌜ ResultAt (Form.Packed size) delta (now (payload .entry)) index r ⌝ }
 {
@@ -96,8 +96,8 @@ fn packed_at(payload: &[u8], size: Size, delta: bool, index: usize) -> i32
     let mut left = index;
     let mut total: i32 = 0;
     while k <= payload.len() - at {
-        let rest = &payload[at..];
-        let number = steps::number_at(rest, 0, size);
+        let part = &payload[at..at + k];
+        let number = steps::number_at(part, 0, size);
         at += k;
         total = steps::add_delta(total, number);
         if !steps::is_limit(number, size) {

@@ -2,9 +2,9 @@
 use mathlib.Core.Path.{_≡_, sym, ap, _∙_}
 use mathlib.Core.Option.{some}
 use mathlib.Core.List.{List}
-use Prim.Native.Nat.{_+_, _-_, _≤_}
+use Prim.Native.Nat.{ℕ, _+_, _-_, _≤_}
 use native.Mathlib.Omega.{arith}
-use lib.ListN.{length}
+use lib.ListN.{length, take, drop}
 use lib.IntN.{ℤ}
 use mir.Syntax.{w32}
 use mir.Val.{toZ, ofZ}
@@ -18,7 +18,7 @@ use Rattle.steps.specs.Delta.{plusDelta}
 use Rattle.steps.specs.Packing.{isLimit}
 use Rattle.steps.specs.Laws.Numbers.{size-pos}
 use Rattle.steps.specs.Payload.{readIn}
-use Rattle.payloads.specs.Laws.Packed.{part-first}
+use Rattle.payloads.specs.Laws.Plain.{number-part}
 use Rattle.cells.specs.Laws.Found.{Sought, sought-start, sought-end, sought-more, sought-done, sought-here}
 use Rattle.cells.proofs.packed_at.Statement.{statement}
 use Rattle.cells.proofs.packed_at.Tie as tie
@@ -39,7 +39,12 @@ room c = omega (arith, c .before .before .before .before .before .before .bytes 
 
 -- the number, whether it is a limit, and the total with it
 number : (c : tie.After-is-limit Inv-loop μ-loop) → toZ w32 (ofZ w32 (c .before .before .number-at .result)) ≡ signedAt (widthOf (c .before .before .before .before .before .before .before .before .args .size)) (c .before .before .before .before .before .before .before .before .args .payload .now) (c .before .before .before .before .before .loop .at)
-number c = toZ-ofZ {w = w32} (record { sfits = c .before .before .number-at .ok }) ∙ c .before .before .number-at .ensures ∙ part-first (c .before .before .before .before .before .before .before .before .args .size) (c .before .before .before .before .before .before .before .before .args .payload .now) (c .before .before .before .before .before .loop .at) (room c)
+number c =
+    let a = c .before .before .before .before .before .before .before .before .args in
+    let p = c .before .before .before .before .before .loop in
+    let k = c .before .before .before .before .before .before .bytes in
+    let m : p .at + k .result - p .at ≡ sizeOf (a .size) = omega (arith, k .ensures) in
+    toZ-ofZ {w = w32} (record { sfits = c .before .before .number-at .ok }) ∙ c .before .before .number-at .ensures ∙ ap (λ (i : ℕ). signedAt (widthOf (a .size)) (take i (drop (p .at) (a .payload .now))) 0) m ∙ number-part (a .size) (a .payload .now) (p .at) (room c)
 
 limit : (c : tie.After-is-limit Inv-loop μ-loop) → isLimit (upper (c .before .before .before .before .before .before .before .before .args .size)) (lower (c .before .before .before .before .before .before .before .before .args .size)) (signedAt (widthOf (c .before .before .before .before .before .before .before .before .args .size)) (c .before .before .before .before .before .before .before .before .args .payload .now) (c .before .before .before .before .before .loop .at)) ≡ c .is-limit .result
 limit c = sym (c .is-limit .ensures ∙ ap (isLimit (upper (c .before .before .before .before .before .before .before .before .args .size)) (lower (c .before .before .before .before .before .before .before .before .args .size))) (number c))
@@ -93,9 +98,10 @@ packed-at-spec =
     (λ c κs. search needs)
     loop-holds
     sub-loop
-    (λ c. search needs)
-    (λ c. search needs)
-    (λ c. search needs)
+    (λ c. omega arith)
+    (λ c. omega arith)
+    (λ c. omega arith)
+    (λ c. omega arith)
     (λ c κs. search needs)
     add-at
     (λ c κs. search needs)

@@ -83,7 +83,7 @@ module _ (z : Size) (d : Bool) (s : List ℕ) (n : ℕ) where
 -- Written one after the other
 
 -- a number in the part of a payload that it fills is the number of the payload itself
-number-part : (z : Size) (s : List ℕ) (at : ℕ) → at + sizeOf z ≤ length s → signedAt (widthOf z) (take (sizeOf z) (drop at s)) 0 ≡ signedAt (widthOf z) s at
+pub number-part : (z : Size) (s : List ℕ) (at : ℕ) → at + sizeOf z ≤ length s → signedAt (widthOf z) (take (sizeOf z) (drop at s)) 0 ≡ signedAt (widthOf z) s at
 number-part z s at h = number-within z s at (sizeOf z) 0 h (omega arith) ∙ ap (signedAt (widthOf z) s) (add-zero at)
 
 exact-at : (l : List ℤ) (i : ℕ) → allExact l ≡ true → i < length l → exact (getD l i (pos 0)) ≡ true
