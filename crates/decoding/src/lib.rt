@@ -167,6 +167,9 @@ fn put_plain(payload: &[u8], size: Size, n: usize, buffer: &mut [i32])
     }
 }
 
+// How many plain numbers are written at a time.
+const BLOCK: usize = 65536;
+
 // Writes n plain numbers in blocks. A loop that stands in a loop begins at a multiple of 16 bytes, and its speed is then the same wherever
 // the function comes to stand.
 fn write_plain(payload: &[u8], size: Size, n: usize, buffer: &mut [i32])
@@ -174,9 +177,9 @@ fn write_plain(payload: &[u8], size: Size, n: usize, buffer: &mut [i32])
     ensures { λ r. ⌜ Wrote asNumber (Form.Plain size) false (now (payload .entry)) (now (buffer .entry)) (now (buffer .exit)) ⌝ }
 {
     let mut i: usize = 0;
-    while 65536 <= n - i {
-        write_part(payload, size, i, i + 65536, buffer);
-        i += 65536;
+    while BLOCK <= n - i {
+        write_part(payload, size, i, i + BLOCK, buffer);
+        i += BLOCK;
     }
     write_part(payload, size, i, n, buffer);
 }
