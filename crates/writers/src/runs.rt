@@ -55,6 +55,9 @@ pub fn place_chars(values: &[u8], buffer: &mut [u8], at: usize) -> Placed
     Placed::Bytes(n * 8)
 }
 
+// How many cells are compared at a time.
+const BLOCK: usize = 65536;
+
 // How many runs there are: one, and one more for each cell that begins another. Those are counted in blocks.
 fn count_numbers(values: &[i32], delta: bool) -> usize
     ensures { λ r. ⌜ r * 2 ≡ length (runsOf (deltasIf delta (now (values .entry)))) ⌝ }
@@ -69,9 +72,9 @@ fn count_numbers(values: &[i32], delta: bool) -> usize
     let last = values.len() - 2;
     let mut n = begun(cell_after(values, delta, 0), first) as usize;
     let mut i: usize = 0;
-    while 65536 <= last - i {
-        n += begun_in(values, delta, i, 65536) as usize;
-        i += 65536;
+    while BLOCK <= last - i {
+        n += begun_in(values, delta, i, BLOCK) as usize;
+        i += BLOCK;
     }
     n + begun_in(values, delta, i, last - i) as usize + 1
 }
