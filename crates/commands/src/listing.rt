@@ -59,7 +59,7 @@ fn binary(body: &[u8], length: Number) -> What
     }
 }
 
-// A number of 32 bits; one above has no text.
+// A number, or none where 32 bits do not hold it.
 fn count_of(n: usize) -> Number
     ensures { λ r. ⌜ r ≡ countOf n ⌝ }
 {

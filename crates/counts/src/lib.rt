@@ -68,7 +68,7 @@ pub fn refusal_of(leads: &[u8; 256], file: &[u8], places: &[usize; fields::FIELD
     values_refusal(leads, file, places, counts)
 }
 
-// Rule 1: whether there are as many group types as there may be.
+// Rule 1: whether there are no more group types than there may be.
 fn types_fit(types: usize) -> bool
     ensures { λ r. ⌜ r ≡ leb types typeLimit ⌝ }
 {

@@ -40,10 +40,10 @@ isWritten Names d = false
 abbrev pub HasPlain : Size → List ℕ → ℕ → ℕ → Type 0
 HasPlain z s to room = (n : ℕ) × HasResults (Plain z) s n × (to ≤ n) × (n ≤ room)
 
--- the first i of them stand at the start of a buffer that was `old`
+-- the first i plain numbers of a payload stand at the start of a buffer that was `old`
 abbrev pub PlainUpTo : Size → List ℕ → List ℤ → ℕ → List ℤ → Type 0
 PlainUpTo z s old i new = new ≡ take i (map asNumber (numbersIn z s)) ++ drop i old
 
--- those from an index to another are written, where those before stand already
+-- the plain numbers from an index to another are written, where those before stand already
 abbrev pub WrotePart : Size → List ℕ → ℕ → ℕ → List ℤ → List ℤ → Type 0
 WrotePart z s from to before after = (old : List ℤ) → length old ≡ length before → PlainUpTo z s old from before → PlainUpTo z s old to after

@@ -167,7 +167,7 @@ fn put_plain(payload: &[u8], size: Size, n: usize, buffer: &mut [i32])
     }
 }
 
-// How many plain numbers are written at a time.
+// How many plain numbers a block has.
 const BLOCK: usize = 65536;
 
 // Writes n plain numbers in blocks. A loop that stands in a loop begins at a multiple of 16 bytes, and its speed is then the same wherever
@@ -219,8 +219,8 @@ fn write_packed(payload: &[u8], two: bool, delta: bool, buffer: &mut [i32])
     write_block(&payload[i..], two, delta, false, total, o, buffer);
 }
 
-// Writes the results of a block, by a loop of its own where it has no limit, with delta and without. Of two calls that differ in `quick`
-// alone the compiler makes one loop, which looks for limits.
+// Writes the results of a block, by a loop of its own where it has no limit. That call is written twice, with delta and without: of two calls
+// that differ in `quick` alone the compiler makes one loop, which looks for limits.
 fn put_block(
     block: &[u8],
     two: bool,

@@ -1,5 +1,6 @@
--- Floats of single precision in decimal, and in either notation. A finite float is m * 2 ^ (e - 150) for whole numbers m and e, and so a whole number over a power of
--- ten: it has an exact decimal. No lemma stands here: the laws are in Laws/Decimals.antt. Assumes nothing.
+-- Floats of single precision as text: in exact decimal, and by a notation, which is decimal or the hexadecimal one of C. A finite float is
+-- m * 2 ^ (e - 150) for whole numbers m and e, and so a whole number over a power of ten: it has an exact decimal. No lemma stands here: the
+-- laws are in Laws/Decimals.antt. Assumes nothing.
 use mathlib.Core.Bool.{cond}
 use mathlib.Core.List.{List, _++_}
 use Prim.Native.Nat.{ℕ, zero, suc, _+_, _-_, _*_, _/_, _%_, _^_}

@@ -1,5 +1,5 @@
--- Packed numbers of a block by one running total: for the code inside. No lemma stands here: the laws are in Laws/Blocks.antt. Assumes
--- nothing.
+-- Packed numbers of a block by one running total: what the contracts of inner steps of `decoding` cite. No lemma stands here: the laws are in
+-- Laws/Blocks.antt. Assumes nothing.
 use mathlib.Core.Path.{_≡_}
 use mathlib.Core.Bool.{Bool, true, cond, _||_}
 use mathlib.Core.List.{List}
@@ -21,12 +21,12 @@ countIn z b = length b / sizeOf z
 abbrev pub numberIn : Size → List ℕ → ℕ → ℤ
 numberIn z b k = signedAt (widthOf z) b (sizeOf z * k)
 
--- the total after k numbers, t before the first: after a limit, and with delta, it goes on
+-- the total after k numbers, t before the first: it goes on after a limit, and with delta after every number; else it is 0 again
 unfoldable pub totalIn : Size → Bool → List ℕ → ℤ → ℕ → ℤ
 totalIn z d b t zero = t
 totalIn z d b t (suc k) = cond (isLimit (upper z) (lower z) (numberIn z b k) || d) (plusDelta (totalIn z d b t k) (numberIn z b k)) (pos 0)
 
--- the buffer after k numbers: the total with each is stored behind the results before it
+-- the buffer after k numbers: the total with each is stored after the results that have ended, so that the next replaces one that ended none
 unfoldable pub storedIn : Size → Bool → List ℕ → ℤ → ℕ → List ℤ → ℕ → List ℤ
 storedIn z d b t o old zero = old
 storedIn z d b t o old (suc k) = set (storedIn z d b t o old k) (o + (k - limitsIn z b 0 k)) (plusDelta (totalIn z d b t k) (numberIn z b k))
@@ -39,6 +39,6 @@ NoLimit z b said = said ≡ true → limitsIn z b 0 (countIn z b) ≡ 0
 abbrev pub HasPlaces : Size → List ℕ → ℕ → ℕ → Type 0
 HasPlaces z b o room = (k : ℕ) → k < countIn z b → o + (k - limitsIn z b 0 k) < room
 
--- the totals of a block are stored, and r is the last
+-- the totals of a block are stored, and r is the total that the next block begins with
 abbrev pub Stored : Size → Bool → List ℕ → ℤ → ℕ → List ℤ → List ℤ → ℤ → Type 0
 Stored z d b t o old new r = (new ≡ storedIn z d b t o old (countIn z b)) × (r ≡ totalIn z d b t (countIn z b))

@@ -209,7 +209,8 @@ fn scan_totals(payload: &[u8], two: bool, delta: bool, length: usize) -> Outcome
     Outcome::Fine(are_exact(payload, false, delta))
 }
 
-// Whether so few packed numbers are limits that each result without delta is exact. Every other number ends a result.
+// Whether so few packed numbers are limits that each result without delta is exact. A number that is no limit ends a result, so the limits
+// are the numbers less the results.
 fn has_few_limits(payload: &[u8], two: bool, length: usize) -> bool
     ensures { λ r. ⌜ r ≡ leb (countIn (packedSize two) (now (payload .entry)) - length) (exactLimits two) ⌝ }
 {

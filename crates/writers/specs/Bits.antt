@@ -32,12 +32,12 @@ upTo room n = cond (leb n room) n (room + 1)
 abbrev pub cellsAfter : Bool → List ℤ → ℕ → List ℤ
 cellsAfter d xs i = deltasFrom d (toZ w32 (ofZ w32 (getD xs i (pos 0)))) (drop (i + 1) xs)
 
--- u has the bits of the first of them
+-- u has the bits of what a payload holds for the cell after the one at i
 pub record CellAfter (d : Bool) (xs : List ℤ) (i u : ℕ) : Type 0 where
   pub cell : cellsAfter d xs i ≡ toZ w32 u ∷ cellsAfter d xs (i + 1)
   pub fits : u < 4294967296
 
--- their runs are k more than those that begin n cells later
+-- the cells after the one at i have k runs more than the cells after the one at i + n
 pub record BegunIn (d : Bool) (xs : List ℤ) (i n k : ℕ) : Type 0 where
   pub runs : length (runsOf (cellsAfter d xs i)) ≡ k * 2 + length (runsOf (cellsAfter d xs (i + n)))
   pub most : k ≤ n

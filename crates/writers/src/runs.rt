@@ -55,7 +55,7 @@ pub fn place_chars(values: &[u8], buffer: &mut [u8], at: usize) -> Placed
     Placed::Bytes(n * 8)
 }
 
-// How many cells are compared at a time.
+// How many cells a block has: few enough for their runs to be counted in 32 bits.
 const BLOCK: usize = 65536;
 
 // How many runs there are: one, and one more for each cell that begins another. Those are counted in blocks.
