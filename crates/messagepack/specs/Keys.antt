@@ -9,8 +9,12 @@ use lib.ListN.{length, getD, take, drop, set}
 use Rattle.refusal.specs.Table.{keyRepeated}
 use Rattle.numbers.specs.BigEndian.{unsignedAt}
 use Rattle.heads.specs.Table.{leadTable}
+use Rattle.heads.specs.Head.{kindAt, headAt}
+use Rattle.heads.specs.declared.Kind.{Kind}
+use Rattle.heads.specs.declared.Head.{Head}
 use Rattle.messagepack.specs.Limits.{fileLimit, nestingLimit, entryLimit}
 use Rattle.messagepack.specs.Walk.{keyAt, among, manyAt, entriesAt, valueAt}
+use Rattle.messagepack.specs.Outer.{keysFrom}
 use Rattle.messagepack.specs.declared.Walk.{Walk}
 use Rattle.messagepack.specs.declared.Text.{Text}
 
@@ -87,6 +91,19 @@ ItemsWalked s depth n at starts prints r starts' prints' = KeysWalked (manyAt (v
 
 abbrev pub EntriesWalked : List ℕ → ℕ → ℕ → ℕ → List ℕ → List ℕ → Walk → List ℕ → List ℕ → Type 0
 EntriesWalked s depth n at starts prints r starts' prints' = KeysWalked (entriesAt s (valueAt s depth) n at) (depth + 1) starts prints r starts' prints'
+
+-- a map of n entries has been walked with so many levels left for its values: the rows of its level have the places of its keys
+pub record MapNoted (s : List ℕ) (levels n at : ℕ) (starts : List ℕ) : Type 0 where
+  pub few : n ≤ entryLimit
+  pub places : take n (drop (levels * entryLimit) starts) ≡ keysFrom s levels n at
+
+-- so it is after n entries that end
+pub record EntriesNoted (s : List ℕ) (levels n at : ℕ) (r : Walk) (starts : List ℕ) : Type 0 where
+  pub says : (e : ℕ) → r ≡ Walk.End e → MapNoted s levels n at starts
+
+-- and after a map that ends
+pub record ValueNoted (s : List ℕ) (depth at : ℕ) (r : Walk) (starts : List ℕ) : Type 0 where
+  pub says : (n p e : ℕ) → kindAt s at ≡ Kind.Map → headAt s at ≡ Head.At n p → r ≡ Walk.End e → MapNoted s (depth - 1) n p starts
 
 -- the rows from base up to end hold keys, and there is a row after them
 pub record Rows (s : List ℕ) (base end : ℕ) (starts prints : List ℕ) : Type 0 where

@@ -1,5 +1,6 @@
 -- What is proved of the definitions of `messagepack`.
 pub mod Walk
+pub mod Outer
 pub mod Keys
 pub mod Sound
 pub mod Complete

@@ -1,23 +1,28 @@
 // The container of a file: one walk from the first byte, which refuses with the numbers 1 to 11 in the order of paper 01, or finds that the
 // file is a writing of a map within the limits. Values, arrays and maps are walked by functions that call each other, the levels left falling.
 // The keys of the maps that are open stand in two tables that are made once for a walk: where each starts, and a print of it to compare first.
+// Where the outer keys start is handed over, so that nobody walks a file again to find them.
 ghost use mathlib.Core.Path.{_≡_};
 ghost use mathlib.Core.Logic.{_↔_};
 ghost use mathlib.Core.Bool.{true, false};
-ghost use Prim.Native.Nat.{ℕ, _+_, _≤_, _<_};
+ghost use Prim.Native.Nat.{ℕ, _+_, _*_, _≤_, _<_};
 ghost use lib.ListN.{length, getD, take, drop};
+ghost use Rattle.refusal.specs.Answer.{answered, leaves};
 ghost use Rattle.numbers.specs.BigEndian.{unsignedAt};
 ghost use Rattle.text.specs.Equal.{equal};
 ghost use Rattle.utf8.specs.Check.{isAscii};
 ghost use Rattle.heads.specs.Table.{leadTable};
-ghost use Rattle.messagepack.specs.Limits.{fileLimit, nestingLimit};
+ghost use Rattle.heads.specs.Head.{kindAt};
+ghost use Rattle.messagepack.specs.Limits.{fileLimit, entryLimit};
 ghost use Rattle.messagepack.specs.Rules.{Container};
-ghost use Rattle.messagepack.specs.Walk.{bodyAt, textAt, keyAt, integerAt, plainAt, binaryAt, stringAt, among, valueAt, ended, containerNumber};
+ghost use Rattle.messagepack.specs.Walk.{bodyAt, textAt, keyAt, integerAt, plainAt, binaryAt, stringAt, among, containerNumber};
 ghost use Rattle.messagepack.specs.Keys.{printOf, keyHere, keysIn, KeyThere, tableLength, Free, KeyNoted};
-ghost use Rattle.messagepack.specs.Keys.{ValueWalked, ItemsWalked, EntriesWalked, Rows, Sought};
+ghost use Rattle.messagepack.specs.Keys.{ValueWalked, ItemsWalked, EntriesWalked, ValueNoted, EntriesNoted, Rows, Sought};
+ghost use Rattle.messagepack.specs.Outer.{outerLevels, keysAnswer, keysLeave};
 ghost use Rattle.messagepack.specs.Quick.{leafOf, leafAt, QuickSays, ShortSays, RunSays};
 use heads::Head;
 use heads::Kind;
+use refusal::Answer;
 
 // The most bytes of a file.
 pub const FILE_LIMIT: usize = 67_108_864;
@@ -30,6 +35,9 @@ pub const ENTRY_LIMIT: usize = 256;
 
 // The rows of a table of keys: those of the largest map for each level.
 const KEY_ROWS: usize = NESTING_LIMIT * ENTRY_LIMIT;
+
+// The first row of the outer map, which is the last level that the table has.
+const OUTER_ROWS: usize = KEY_ROWS - ENTRY_LIMIT;
 
 // Where a value ends, or the number of its refusal.
 pub enum Walk {
@@ -74,27 +82,32 @@ pub fn container(file: &[u8]) -> u8
     ensures number { λ r. ⌜ r ≡ containerNumber (now (file .entry)) ⌝ }
     ensures exactly { λ r. ⌜ (r ≡ 0) ↔ Container (now (file .entry)) ⌝ }
 {
-    first_fault(file)
+    let mut places = no_places();
+    match keys(file, &mut places) {
+        Answer::Count(_) => refusal::ACCEPTED,
+        Answer::Refused(n) => n,
+    }
 }
 
-// The number of the first fault by the walk's order, or 0.
-fn first_fault(file: &[u8]) -> u8
-    ensures { λ r. ⌜ r ≡ containerNumber (now (file .entry)) ⌝ }
+// Walks a file, and puts the places of its outer keys, in their order, into a buffer: how many there are, the container's number, or 25.
+pub fn keys(file: &[u8], places: &mut [u32]) -> Answer
+    ensures answer { λ r. ⌜ r ≡ keysAnswer (now (file .entry)) (length (now (places .entry))) ⌝ }
+    ensures places { λ r. ⌜ now (places .exit) ≡ keysLeave (now (file .entry)) (now (places .entry)) ⌝ }
 {
     if FILE_LIMIT < file.len() {
-        return refusal::FILE_OVER_LIMIT;
+        return Answer::Refused(refusal::FILE_OVER_LIMIT);
     }
     let leads = heads::leads();
     match heads::kind_at(&leads, file, 0) {
-        Kind::Missing => refusal::CUT_SHORT,
-        Kind::Outside => refusal::LEAD_BYTE_UNKNOWN,
-        Kind::Map => outer(&leads, file),
-        Kind::Unsigned => refusal::OUTER_NOT_MAP,
-        Kind::Signed => refusal::OUTER_NOT_MAP,
-        Kind::Float => refusal::OUTER_NOT_MAP,
-        Kind::Str => refusal::OUTER_NOT_MAP,
-        Kind::Bin => refusal::OUTER_NOT_MAP,
-        Kind::Array => refusal::OUTER_NOT_MAP,
+        Kind::Missing => Answer::Refused(refusal::CUT_SHORT),
+        Kind::Outside => Answer::Refused(refusal::LEAD_BYTE_UNKNOWN),
+        Kind::Map => outer(&leads, file, places),
+        Kind::Unsigned => Answer::Refused(refusal::OUTER_NOT_MAP),
+        Kind::Signed => Answer::Refused(refusal::OUTER_NOT_MAP),
+        Kind::Float => Answer::Refused(refusal::OUTER_NOT_MAP),
+        Kind::Str => Answer::Refused(refusal::OUTER_NOT_MAP),
+        Kind::Bin => Answer::Refused(refusal::OUTER_NOT_MAP),
+        Kind::Array => Answer::Refused(refusal::OUTER_NOT_MAP),
     }
 }
 
@@ -361,23 +374,51 @@ fn string_at(leads: &[u8; 256], file: &[u8], at: usize) -> Walk
     }
 }
 
-// The walk of the outer map, with the tables of keys, and nothing after it.
-fn outer(leads: &[u8; 256], file: &[u8]) -> u8
-    requires { ⌜ (now leads ≡ leadTable) × (length (now file) ≤ fileLimit) ⌝ }
-    ensures { λ r. ⌜ r ≡ ended (now (file .entry)) (valueAt (now (file .entry)) nestingLimit 0) ⌝ }
+// The walk of the outer map, with the tables of keys, and nothing after it; then the places of its keys are handed over.
+fn outer(leads: &[u8; 256], file: &[u8], places: &mut [u32]) -> Answer
+    requires { ⌜ (now leads ≡ leadTable) × ((length (now file) ≤ fileLimit) × (kindAt (now file) 0 ≡ Kind.Map)) ⌝ }
+    ensures answer { λ r. ⌜ r ≡ keysAnswer (now (file .entry)) (length (now (places .entry))) ⌝ }
+    ensures places { λ r. ⌜ now (places .exit) ≡ keysLeave (now (file .entry)) (now (places .entry)) ⌝ }
 {
+    let Head::At(n, _) = heads::head_at(leads, file, 0) else {
+        return Answer::Refused(refusal::CUT_SHORT);
+    };
     let mut starts = no_keys();
     let mut prints = no_keys();
     match value(leads, file, 0, NESTING_LIMIT, &mut starts, &mut prints) {
-        Walk::Refused(e) => e,
+        Walk::Refused(e) => Answer::Refused(e),
         Walk::End(p) => {
             if p == file.len() {
-                refusal::ACCEPTED
+                hand_over(&starts, n, places)
             } else {
-                refusal::BYTES_AFTER
+                Answer::Refused(refusal::BYTES_AFTER)
             }
         }
     }
+}
+
+// Puts the first n rows of the outer map into a buffer.
+fn hand_over(starts: &[u32; KEY_ROWS], n: usize, places: &mut [u32]) -> Answer
+    requires { ⌜ (length (now starts) ≡ tableLength) × (n ≤ entryLimit) ⌝ }
+    ensures answer { λ r. ⌜ r ≡ answered n (length (now (places .entry))) ⌝ }
+    ensures places { λ r. ⌜ now (places .exit) ≡ leaves (take n (drop (outerLevels * entryLimit) (now (starts .entry)))) (now (places .entry)) ⌝ }
+{
+    if places.len() < n {
+        return Answer::Refused(refusal::BUFFER_TOO_SMALL);
+    }
+    let mut i: usize = 0;
+    while i < n {
+        places[i] = starts[OUTER_ROWS + i];
+        i += 1;
+    }
+    Answer::Count(n)
+}
+
+// Room for the places of the outer keys.
+fn no_places() -> [u32; ENTRY_LIMIT]
+    ensures { λ r. ⌜ length r ≡ entryLimit ⌝ }
+{
+    [0u32; ENTRY_LIMIT]
 }
 
 // A table of keys with nothing in it.
@@ -387,7 +428,7 @@ fn no_keys() -> [u32; KEY_ROWS]
     [0u32; KEY_ROWS]
 }
 
-// The value at a place, with so many levels left. It leaves alone the rows of the maps that are open.
+// The value at a place, with so many levels left. It leaves alone the rows of the maps that are open; a map's own keys stand in its rows then.
 fn value(
     leads: &[u8; 256],
     file: &[u8],
@@ -397,7 +438,8 @@ fn value(
     prints: &mut [u32; KEY_ROWS],
 ) -> Walk
     requires { ⌜ Free (now leads) (now file) depth (now starts) (now prints) ⌝ }
-    ensures { λ r. ⌜ ValueWalked (now (file .entry)) depth at (now (starts .entry)) (now (prints .entry)) r (now (starts .exit)) (now (prints .exit)) ⌝ }
+    ensures walked { λ r. ⌜ ValueWalked (now (file .entry)) depth at (now (starts .entry)) (now (prints .entry)) r (now (starts .exit)) (now (prints .exit)) ⌝ }
+    ensures noted { λ r. ⌜ ValueNoted (now (file .entry)) depth at r (now (starts .exit)) ⌝ }
 {
     match heads::kind_at(leads, file, at) {
         Kind::Missing => Walk::Refused(refusal::CUT_SHORT),
@@ -532,7 +574,8 @@ fn map(
     prints: &mut [u32; KEY_ROWS],
 ) -> Walk
     requires { ⌜ Free (now leads) (now file) (depth + 1) (now starts) (now prints) ⌝ }
-    ensures { λ r. ⌜ EntriesWalked (now (file .entry)) depth n at (now (starts .entry)) (now (prints .entry)) r (now (starts .exit)) (now (prints .exit)) ⌝ }
+    ensures walked { λ r. ⌜ EntriesWalked (now (file .entry)) depth n at (now (starts .entry)) (now (prints .entry)) r (now (starts .exit)) (now (prints .exit)) ⌝ }
+    ensures noted { λ r. ⌜ EntriesNoted (now (file .entry)) depth n at r (now (starts .exit)) ⌝ }
 {
     if ENTRY_LIMIT < n {
         return Walk::Refused(refusal::TOO_MANY_ENTRIES);

@@ -1,6 +1,7 @@
 -- A value is walked by its kind, an array and a map by loops whose invariants say that what is left from here on decides, and that the rows of
 -- the maps that are open stay. The levels left fall with each array and map.
-use mathlib.Core.Path.{_≡_, sym, _∙_}
+use mathlib.Core.Path.{_≡_, refl, sym, ap, _∙_}
+use mathlib.Core.Bool.{Bool, true, false}
 use mathlib.Core.List.{List}
 use Prim.Native.Nat.{ℕ, _+_, _-_, _*_, _<_}
 use native.Mathlib.Omega.{arith}
@@ -8,12 +9,15 @@ use native.Mathlib.Nat.{pos-of-ne-zero}
 use borrow.Author.Needs.{needs}
 use borrow.Fn.Kinds.{In}
 use borrow.Fn.PlainCycle.{Measures, is, falls, and}
+use Rattle.heads.specs.Head.{kindAt, headAt}
+use Rattle.heads.specs.declared.Kind.{Kind}
+use Rattle.heads.specs.declared.Head.{Head}
 use Rattle.messagepack.specs.Walk.{valueAt, manyAt}
-use Rattle.messagepack.specs.Keys.{Free, Kept, KeysWalked}
+use Rattle.messagepack.specs.Keys.{Free, Kept, KeysWalked, ValueWalked, EntriesNoted, ValueNoted}
 use Rattle.messagepack.specs.declared.Walk.{Walk}
 use Rattle.messagepack.specs.Laws.Walk as w
 use Rattle.messagepack.specs.Laws.Quick.{leaf-ends, leaf-refuses, quick-ends}
-use Rattle.messagepack.specs.Laws.Tables.{kept-all, kept-then, walked-as, walked-in, walked-more, noted-as, free-less, free-kept, Going, going-first, going-last, going-rows, going-key, going-free, going-value, going-next}
+use Rattle.messagepack.specs.Laws.Tables.{kept-all, kept-then, walked-as, walked-in, walked-more, noted-as, free-less, free-kept, Going, entries-unnoted, value-unnoted, going-first, going-noted, going-last, going-rows, going-key, going-free, going-value, going-next}
 use Rattle.messagepack.proofs.array.Reads as array
 use Rattle.messagepack.proofs.array.Kinds as array-kinds
 use Rattle.messagepack.proofs.+array+element+map+value.Lts-array as array-lts
@@ -137,14 +141,14 @@ array-loop-again : (t : ℕ) → array-lts.Need-loop-again (array-claims t) (arr
 array-loop-again t c =
     let a = c .before .before .before .before .before .before .before .before .before .before .before .args in
     let l = c .before .before .before .before .before .before .before .before .loop in
-    let o = c .before .before .before .before .value .ensures in
+    let o = c .before .before .before .before .value .ensures .0 in
     (kept-then (l .inv .0) (o .starts-kept), kept-then (l .inv .1) (o .prints-kept), l .inv .2 ∙ w.many-end (valueAt (a .file .now) (a .depth)) (l .left) (l .p) (c .before .before .before .before .before .before .before .loop-test .taken) (sym (o .answer) ∙ c .before .before .q .given .1) ∙ c .leaves2 .ensures .same (a .depth))
 
 array-returns : (t : ℕ) → array-lts.Need-returns (array-claims t) (array-at t) array.Post array-Inv-loop array-μ-loop
 array-returns t c =
     let a = c .before .before .before .before .before .before .before .before .before .before .args in
     let l = c .before .before .before .before .before .before .before .loop in
-    let o = c .before .before .before .value .ensures in
+    let o = c .before .before .before .value .ensures .0 in
     record {
       answer = sym (l .inv .2 ∙ w.many-refused (valueAt (a .file .now) (a .depth)) (l .left) (l .p) (c .before .before .before .before .before .before .loop-test .taken) (sym (o .answer) ∙ c .before .e .given .1));
       starts-kept = kept-then (l .inv .0) (o .starts-kept);
@@ -165,17 +169,18 @@ array-returns-2 t c =
 
 abbrev map-Inv-loop : map-lts.InvT-loop
 map-Inv-loop leads file n at depth starts₀ prints₀ base end row₀ p₀ starts prints row p =
-    Going leads file (valueAt file depth) n at depth starts₀ prints₀ starts prints row p
+    Going leads file n at depth starts₀ prints₀ starts prints row p
 
 abbrev map-μ-loop : map-lts.MeasureT-loop
 map-μ-loop leads file n at depth starts₀ prints₀ base end row₀ p₀ starts prints row p = end - row
 
 map-returns : (t : ℕ) → map-lts.Need-returns (map-claims t) (map-at t) map.Post map-Inv-loop map-μ-loop
-map-returns t c = record {
-  answer = sym (w.entries-many _ _ _ _ (c .if1 .taken));
-  starts-kept = kept-all _ (c .before .before .pre .1 .starts-long);
-  prints-kept = kept-all _ (c .before .before .pre .1 .prints-long);
-}
+map-returns t c =
+    (record {
+      answer = sym (w.entries-many _ _ _ _ (c .if1 .taken));
+      starts-kept = kept-all _ (c .before .before .pre .1 .starts-long);
+      prints-kept = kept-all _ (c .before .before .pre .1 .prints-long);
+    }, entries-unnoted)
 
 map-mul-base : (t : ℕ) → map-lts.Need-mul-base (map-claims t) (map-at t) map.Post map-Inv-loop map-μ-loop
 map-mul-base t c = omega (arith, c .before .before .pre .1 .levels)
@@ -184,20 +189,20 @@ map-add-end : (t : ℕ) → map-lts.Need-add-end (map-claims t) (map-at t) map.P
 map-add-end t c = omega (arith, c .before .before .pre .1 .levels)
 
 map-loop-holds : (t : ℕ) → map-lts.Need-loop-holds (map-claims t) (map-at t) map.Post map-Inv-loop map-μ-loop
-map-loop-holds t c = going-first _ (c .before .before .pre .1) (c .if1 .left)
+map-loop-holds t c = going-first (c .before .before .pre .1) (c .if1 .left)
 
 map-new-key-requires : (t : ℕ) → map-lts.Need-new-key-requires (map-claims t) (map-at t) map.Post map-Inv-loop map-μ-loop
-map-new-key-requires t c κs = (c .before .before .before .before .before .before .pre .1 .table, going-rows _ (c .before .before .before .loop .inv) (c .before .before .loop-test .taken))
+map-new-key-requires t c κs = (c .before .before .before .before .before .before .pre .1 .table, going-rows (c .before .before .before .loop .inv) (c .before .before .loop-test .taken))
 
 map-returns-2 : (t : ℕ) → map-lts.Need-returns-2 (map-claims t) (map-at t) map.Post map-Inv-loop map-μ-loop
-map-returns-2 t c = going-key _ (c .before .before .before .before .before .before .before .loop .inv) (c .before .before .before .before .before .before .loop-test .taken) (noted-as (c .before .e .given .1) (c .before .before .before .new-key .ensures))
+map-returns-2 t c = (going-key (c .before .before .before .before .before .before .before .loop .inv) (c .before .before .before .before .before .before .loop-test .taken) (noted-as (c .before .e .given .1) (c .before .before .before .new-key .ensures)), entries-unnoted)
 
 map-element-requires : (t : ℕ) → map-lts.Need-element-requires (map-claims t) (map-at t) map.Post map-Inv-loop map-μ-loop
-map-element-requires t c κs = (search needs, going-free _ (c .before .before .before .before .before .before .before .before .before .loop .inv) (c .before .before .before .before .before .before .before .before .loop-test .taken) (noted-as (c .before .before .before .q .given .1) (c .before .before .before .before .before .new-key .ensures)))
+map-element-requires t c κs = (search needs, going-free (c .before .before .before .before .before .before .before .before .before .loop .inv) (c .before .before .before .before .before .before .before .before .loop-test .taken) (noted-as (c .before .before .before .q .given .1) (c .before .before .before .before .before .new-key .ensures)))
 
 map-returns-3 : (t : ℕ) → map-lts.Need-returns-3 (map-claims t) (map-at t) map.Post map-Inv-loop map-μ-loop
 map-returns-3 t c =
-    going-value _ (c .before .before .before .before .before .before .before .before .before .before .before .before .before .loop .inv) (c .before .before .before .before .before .before .before .before .before .before .before .before .loop-test .taken) (noted-as (c .before .before .before .before .before .before .before .q .given .1) (c .before .before .before .before .before .before .before .before .before .new-key .ensures)) (walked-as (c .before .e2 .given .1) (c .before .before .before .element .ensures))
+    (going-value (c .before .before .before .before .before .before .before .before .before .before .before .before .before .loop .inv) (c .before .before .before .before .before .before .before .before .before .before .before .before .loop-test .taken) (noted-as (c .before .before .before .before .before .before .before .q .given .1) (c .before .before .before .before .before .before .before .before .before .new-key .ensures)) (walked-as (c .before .e2 .given .1) (c .before .before .before .element .ensures)), entries-unnoted)
 
 map-add-row : (t : ℕ) → map-lts.Need-add-row (map-claims t) (map-at t) map.Post map-Inv-loop map-μ-loop
 map-add-row t c = omega (arith, c .before .before .before .before .before .before .before .before .before .before .before .before .before .before .before .before .pre .1 .levels, c .before .before .before .before .before .before .before .before .before .before .before .before .before .loop .inv .few)
@@ -207,10 +212,10 @@ map-loop-less t c = omega arith
 
 map-loop-again : (t : ℕ) → map-lts.Need-loop-again (map-claims t) (map-at t) map.Post map-Inv-loop map-μ-loop
 map-loop-again t c =
-    going-next _ (c .before .before .before .before .before .before .before .before .before .before .before .before .before .loop .inv) (c .before .before .before .before .before .before .before .before .before .before .before .before .loop-test .taken) (noted-as (c .before .before .before .before .before .before .before .q .given .1) (c .before .before .before .before .before .before .before .before .before .new-key .ensures)) (walked-as (c .before .q2 .given .1) (c .before .before .before .element .ensures))
+    going-next (c .before .before .before .before .before .before .before .before .before .before .before .before .before .loop .inv) (c .before .before .before .before .before .before .before .before .before .before .before .before .loop-test .taken) (noted-as (c .before .before .before .before .before .before .before .q .given .1) (c .before .before .before .before .before .before .before .before .before .new-key .ensures)) (walked-as (c .before .q2 .given .1) (c .before .before .before .element .ensures))
 
 map-returns-4 : (t : ℕ) → map-lts.Need-returns-4 (map-claims t) (map-at t) map.Post map-Inv-loop map-μ-loop
-map-returns-4 t c = going-last _ (c .before .loop .inv) (c .loop-test .left)
+map-returns-4 t c = (going-last (c .before .loop .inv) (c .loop-test .left), record { says = λ e q. going-noted (c .before .loop .inv) (c .loop-test .left) })
 
 -- the value
 
@@ -218,8 +223,37 @@ map-returns-4 t c = going-last _ (c .before .loop .inv) (c .loop-test .left)
 unchanged : {leads file : List ℕ} {depth : ℕ} {starts prints : List ℕ} {r expected : Walk} → Free leads file depth starts prints → r ≡ expected → KeysWalked expected depth starts prints r starts prints
 unchanged {depth = depth} x e = record { answer = e; starts-kept = kept-all depth (x .starts-long); prints-kept = kept-all depth (x .prints-long) }
 
+-- is a kind that of a map?
+abbrev isMap : Kind → Bool
+isMap Kind.Map = true
+isMap Kind.Missing = false
+isMap Kind.Outside = false
+isMap Kind.Unsigned = false
+isMap Kind.Signed = false
+isMap Kind.Float = false
+isMap Kind.Str = false
+isMap Kind.Bin = false
+isMap Kind.Array = false
+
+-- nothing is noted of a value that is no map
+no-map : {file : List ℕ} {depth at : ℕ} {r : Walk} {starts : List ℕ} (k : Kind) → isMap k ≡ false → kindAt file at ≡ k → ValueNoted file depth at r starts
+no-map k f e = record { says = λ n p end m h q. let z : true ≡ false = ap isMap (sym m ∙ e) ∙ f in let y : _≡_ {A = ℕ} 0 1 = cc in absurd (omega arith) }
+
+-- what is noted of the entries is noted of the map with their head
+map-noted : {file : List ℕ} {depth at n p : ℕ} {r : Walk} {starts : List ℕ} → headAt file at ≡ Head.At n p → EntriesNoted file (depth - 1) n p r starts → ValueNoted file depth at r starts
+map-noted {n = n} {p = p} g f = record {
+  says = λ m q e k h end.
+      let i : m ≡ n = cc in
+      let j : q ≡ p = cc in
+      rw (i, j) (f .says e end);
+}
+
+-- a value that is no map, by its kind
+plain : {leads file : List ℕ} {depth at : ℕ} {starts prints : List ℕ} {r : Walk} (k : Kind) → isMap k ≡ false → Free leads file depth starts prints → kindAt file at ≡ k → (kindAt file at ≡ k → r ≡ valueAt file depth at) → ValueWalked file depth at starts prints r starts prints × ValueNoted file depth at r starts
+plain k f x e a = (unchanged x (a e), no-map k f e)
+
 value-returns : (t : ℕ) → value-lts.Need-returns (value-claims t) (value-at t) value.Post
-value-returns t c = unchanged (c .before .before .before .before .before .pre .1) (sym (w.deep-array _ _ _ (c .if1 .taken) (sym (c .before .before .before .kind-at .ensures .1 (c .before .before .before .before .before .pre .1 .table)) ∙ c .before .enum-told8 .given .1)))
+value-returns t c = plain Kind.Array refl (c .before .before .before .before .before .pre .1) (sym (c .before .before .before .kind-at .ensures .1 (c .before .before .before .before .before .pre .1 .table)) ∙ c .before .enum-told8 .given .1) (λ e. sym (w.deep-array _ _ _ (c .if1 .taken) e))
 
 value-integer-at-requires : (t : ℕ) → value-lts.Need-integer-at-requires (value-claims t) (value-at t) value.Post
 value-integer-at-requires t c κs = c .before .before .before .before .pre .1 .table
@@ -243,7 +277,7 @@ value-array-requires : (t : ℕ) → value-lts.Need-array-requires (value-claims
 value-array-requires t c κs = (omega (arith, pos-of-ne-zero (c .before .before .before .before .before .before .if1 .left)), free-less (omega arith) (c .before .before .before .before .before .before .before .before .before .before .before .pre .1))
 
 value-returns-2 : (t : ℕ) → value-lts.Need-returns-2 (value-claims t) (value-at t) value.Post
-value-returns-2 t c = unchanged (c .before .before .before .before .before .pre .1) (sym (w.deep-map _ _ _ (c .if2 .taken) (sym (c .before .before .before .kind-at .ensures .1 (c .before .before .before .before .before .pre .1 .table)) ∙ c .before .enum-told10 .given .1)))
+value-returns-2 t c = (unchanged (c .before .before .before .before .before .pre .1) (sym (w.deep-map _ _ _ (c .if2 .taken) (sym (c .before .before .before .kind-at .ensures .1 (c .before .before .before .before .before .pre .1 .table)) ∙ c .before .enum-told10 .given .1))), value-unnoted)
 
 value-sub-map : (t : ℕ) → value-lts.Need-sub-map (value-claims t) (value-at t) value.Post
 value-sub-map t c = pos-of-ne-zero (c .before .before .before .before .if2 .left)
@@ -252,45 +286,45 @@ value-map-requires : (t : ℕ) → value-lts.Need-map-requires (value-claims t) 
 value-map-requires t c κs = (omega (arith, pos-of-ne-zero (c .before .before .before .before .before .before .if2 .left)), free-less (omega (arith, pos-of-ne-zero (c .before .before .before .before .before .before .if2 .left))) (c .before .before .before .before .before .before .before .before .before .before .before .pre .1))
 
 value-returns-3 : (t : ℕ) → value-lts.Need-returns-3 (value-claims t) (value-at t) value.Post
-value-returns-3 t c = unchanged (c .before .before .before .before .pre .1) (sym (w.value-missing _ _ _ (sym (c .before .before .kind-at .ensures .1 (c .before .before .before .before .pre .1 .table)) ∙ c .enum-told .given .1)))
+value-returns-3 t c = plain Kind.Missing refl (c .before .before .before .before .pre .1) (sym (c .before .before .kind-at .ensures .1 (c .before .before .before .before .pre .1 .table)) ∙ c .enum-told .given .1) (λ e. sym (w.value-missing _ _ _ e))
 
 value-returns-4 : (t : ℕ) → value-lts.Need-returns-4 (value-claims t) (value-at t) value.Post
-value-returns-4 t c = unchanged (c .before .before .before .before .pre .1) (sym (w.value-outside _ _ _ (sym (c .before .before .kind-at .ensures .1 (c .before .before .before .before .pre .1 .table)) ∙ c .enum-told2 .given .1)))
+value-returns-4 t c = plain Kind.Outside refl (c .before .before .before .before .pre .1) (sym (c .before .before .kind-at .ensures .1 (c .before .before .before .before .pre .1 .table)) ∙ c .enum-told2 .given .1) (λ e. sym (w.value-outside _ _ _ e))
 
 value-returns-5 : (t : ℕ) → value-lts.Need-returns-5 (value-claims t) (value-at t) value.Post
-value-returns-5 t c = unchanged (c .before .before .before .before .before .pre .1) (c .integer-at .ensures ∙ sym (w.value-unsigned _ _ _ (sym (c .before .before .before .kind-at .ensures .1 (c .before .before .before .before .before .pre .1 .table)) ∙ c .before .enum-told3 .given .1)))
+value-returns-5 t c = plain Kind.Unsigned refl (c .before .before .before .before .before .pre .1) (sym (c .before .before .before .kind-at .ensures .1 (c .before .before .before .before .before .pre .1 .table)) ∙ c .before .enum-told3 .given .1) (λ e. c .integer-at .ensures ∙ sym (w.value-unsigned _ _ _ e))
 
 value-returns-6 : (t : ℕ) → value-lts.Need-returns-6 (value-claims t) (value-at t) value.Post
-value-returns-6 t c = unchanged (c .before .before .before .before .before .pre .1) (c .plain-at .ensures ∙ sym (w.value-signed _ _ _ (sym (c .before .before .before .kind-at .ensures .1 (c .before .before .before .before .before .pre .1 .table)) ∙ c .before .enum-told4 .given .1)))
+value-returns-6 t c = plain Kind.Signed refl (c .before .before .before .before .before .pre .1) (sym (c .before .before .before .kind-at .ensures .1 (c .before .before .before .before .before .pre .1 .table)) ∙ c .before .enum-told4 .given .1) (λ e. c .plain-at .ensures ∙ sym (w.value-signed _ _ _ e))
 
 value-returns-7 : (t : ℕ) → value-lts.Need-returns-7 (value-claims t) (value-at t) value.Post
-value-returns-7 t c = unchanged (c .before .before .before .before .before .pre .1) (c .plain-at2 .ensures ∙ sym (w.value-float _ _ _ (sym (c .before .before .before .kind-at .ensures .1 (c .before .before .before .before .before .pre .1 .table)) ∙ c .before .enum-told5 .given .1)))
+value-returns-7 t c = plain Kind.Float refl (c .before .before .before .before .before .pre .1) (sym (c .before .before .before .kind-at .ensures .1 (c .before .before .before .before .before .pre .1 .table)) ∙ c .before .enum-told5 .given .1) (λ e. c .plain-at2 .ensures ∙ sym (w.value-float _ _ _ e))
 
 value-returns-8 : (t : ℕ) → value-lts.Need-returns-8 (value-claims t) (value-at t) value.Post
-value-returns-8 t c = unchanged (c .before .before .before .before .before .pre .1) (c .binary-at .ensures ∙ sym (w.value-bin _ _ _ (sym (c .before .before .before .kind-at .ensures .1 (c .before .before .before .before .before .pre .1 .table)) ∙ c .before .enum-told6 .given .1)))
+value-returns-8 t c = plain Kind.Bin refl (c .before .before .before .before .before .pre .1) (sym (c .before .before .before .kind-at .ensures .1 (c .before .before .before .before .before .pre .1 .table)) ∙ c .before .enum-told6 .given .1) (λ e. c .binary-at .ensures ∙ sym (w.value-bin _ _ _ e))
 
 value-returns-9 : (t : ℕ) → value-lts.Need-returns-9 (value-claims t) (value-at t) value.Post
-value-returns-9 t c = unchanged (c .before .before .before .before .before .pre .1) (c .string-at .ensures ∙ sym (w.value-str _ _ _ (sym (c .before .before .before .kind-at .ensures .1 (c .before .before .before .before .before .pre .1 .table)) ∙ c .before .enum-told7 .given .1)))
+value-returns-9 t c = plain Kind.Str refl (c .before .before .before .before .before .pre .1) (sym (c .before .before .before .kind-at .ensures .1 (c .before .before .before .before .before .pre .1 .table)) ∙ c .before .enum-told7 .given .1) (λ e. c .string-at .ensures ∙ sym (w.value-str _ _ _ e))
 
 value-returns-10 : (t : ℕ) → value-lts.Need-returns-10 (value-claims t) (value-at t) value.Post
-value-returns-10 t c =
-    unchanged (c .before .before .before .before .before .before .before .before .pre .1)
-    (sym (w.array-cut _ _ _ (pos-of-ne-zero (c .before .before .before .if1 .left)) (sym (c .before .before .before .before .before .before .kind-at .ensures .1 (c .before .before .before .before .before .before .before .before .pre .1 .table)) ∙ c .before .before .before .before .enum-told8 .given .1) (sym (c .before .before .head-at .ensures .1 (c .before .before .before .before .before .before .before .before .pre .1 .table)) ∙ c .enum-told9 .given .1)))
+value-returns-10 t c = (unchanged (c .before .before .before .before .before .before .before .before .pre .1) (sym (w.array-cut _ _ _ (pos-of-ne-zero (c .before .before .before .if1 .left)) (sym (c .before .before .before .before .before .before .kind-at .ensures .1 (c .before .before .before .before .before .before .before .before .pre .1 .table)) ∙ c .before .before .before .before .enum-told8 .given .1) (sym (c .before .before .head-at .ensures .1 (c .before .before .before .before .before .before .before .before .pre .1 .table)) ∙ c .enum-told9 .given .1))), value-unnoted)
 
 value-returns-11 : (t : ℕ) → value-lts.Need-returns-11 (value-claims t) (value-at t) value.Post
 value-returns-11 t c =
     let pos = pos-of-ne-zero (c .before .before .before .before .before .before .before .if1 .left) in
-    walked-in (omega arith) (w.array-at _ _ _ pos (sym (c .before .before .before .before .before .before .before .before .before .before .kind-at .ensures .1 (c .before .before .before .before .before .before .before .before .before .before .before .before .pre .1 .table)) ∙ c .before .before .before .before .before .before .before .before .enum-told8 .given .1) (sym (c .before .before .before .before .before .before .head-at .ensures .1 (c .before .before .before .before .before .before .before .before .before .before .before .before .pre .1 .table)) ∙ c .before .before .before .before .n .given .1)) (walked-more (c .array .ensures))
+    let kind = sym (c .before .before .before .before .before .before .before .before .before .before .kind-at .ensures .1 (c .before .before .before .before .before .before .before .before .before .before .before .before .pre .1 .table)) ∙ c .before .before .before .before .before .before .before .before .enum-told8 .given .1 in
+    (walked-in (omega arith) (w.array-at _ _ _ pos kind (sym (c .before .before .before .before .before .before .head-at .ensures .1 (c .before .before .before .before .before .before .before .before .before .before .before .before .pre .1 .table)) ∙ c .before .before .before .before .n .given .1)) (walked-more (c .array .ensures)), no-map Kind.Array refl kind)
 
 value-returns-12 : (t : ℕ) → value-lts.Need-returns-12 (value-claims t) (value-at t) value.Post
 value-returns-12 t c =
-    unchanged (c .before .before .before .before .before .before .before .before .pre .1)
-    (sym (w.map-cut _ _ _ (pos-of-ne-zero (c .before .before .before .if2 .left)) (sym (c .before .before .before .before .before .before .kind-at .ensures .1 (c .before .before .before .before .before .before .before .before .pre .1 .table)) ∙ c .before .before .before .before .enum-told10 .given .1) (sym (c .before .before .head-at2 .ensures .1 (c .before .before .before .before .before .before .before .before .pre .1 .table)) ∙ c .enum-told11 .given .1)))
+    (unchanged (c .before .before .before .before .before .before .before .before .pre .1)
+    (sym (w.map-cut _ _ _ (pos-of-ne-zero (c .before .before .before .if2 .left)) (sym (c .before .before .before .before .before .before .kind-at .ensures .1 (c .before .before .before .before .before .before .before .before .pre .1 .table)) ∙ c .before .before .before .before .enum-told10 .given .1) (sym (c .before .before .head-at2 .ensures .1 (c .before .before .before .before .before .before .before .before .pre .1 .table)) ∙ c .enum-told11 .given .1))), value-unnoted)
 
 value-returns-13 : (t : ℕ) → value-lts.Need-returns-13 (value-claims t) (value-at t) value.Post
 value-returns-13 t c =
     let pos = pos-of-ne-zero (c .before .before .before .before .before .before .before .if2 .left) in
-    walked-in (omega arith) (w.map-at _ _ _ pos (sym (c .before .before .before .before .before .before .before .before .before .before .kind-at .ensures .1 (c .before .before .before .before .before .before .before .before .before .before .before .before .pre .1 .table)) ∙ c .before .before .before .before .before .before .before .before .enum-told10 .given .1) (sym (c .before .before .before .before .before .before .head-at2 .ensures .1 (c .before .before .before .before .before .before .before .before .before .before .before .before .pre .1 .table)) ∙ c .before .before .before .before .n2 .given .1)) (c .map .ensures)
+    let head = sym (c .before .before .before .before .before .before .head-at2 .ensures .1 (c .before .before .before .before .before .before .before .before .before .before .before .before .pre .1 .table)) ∙ c .before .before .before .before .n2 .given .1 in
+    (walked-in (omega arith) (w.map-at _ _ _ pos (sym (c .before .before .before .before .before .before .before .before .before .before .kind-at .ensures .1 (c .before .before .before .before .before .before .before .before .before .before .before .before .pre .1 .table)) ∙ c .before .before .before .before .before .before .before .before .enum-told10 .given .1) head) (c .map .ensures .0), map-noted head (c .map .ensures .1))
 
 -- the value in a loop
 
@@ -349,7 +383,7 @@ pub +array+element+map+value-spec : {M : Type 1} → statement M
     (λ c. search needs)
     (λ c κs. search needs)
     (element-value-requires t)
-    (λ c. c .value .ensures)
+    (λ c. c .value .ensures .0)
     (element-leaf-at-requires t)
     (λ c. search needs)
     (λ c. search needs)
@@ -359,8 +393,8 @@ pub +array+element+map+value-spec : {M : Type 1} → statement M
     (element-value-requires-3 t)
     (element-returns-3 t)
     (element-returns-4 t)
-    (λ c. c .value2 .ensures)
-    (λ c. c .value3 .ensures))
+    (λ c. c .value2 .ensures .0)
+    (λ c. c .value3 .ensures .0))
     (λ t. map-lts.spec
     (map-claims t)
     (map-at t)

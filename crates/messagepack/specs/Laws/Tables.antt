@@ -2,14 +2,18 @@
 -- Assumes nothing.
 use mathlib.Core.Path.{_≡_, refl, sym, ap, subst, _∙_}
 use mathlib.Core.Bool.{Bool, false, _||_}
-use mathlib.Core.List.{List, _∷_}
+use mathlib.Core.List.{List, [], _∷_, _++_, append-nil}
 use mathlib.Core.Logic.{⊎-elim, _≢_}
 use Prim.Native.Nat.{ℕ, zero, suc, _+_, _-_, _*_, _%_, _<_, _≤_}
 use native.Mathlib.Nat.{not-suc-le-zero, eq-or-lt-of-le, le-of-suc-le-suc, add-zero, mod-eq-of-lt}
+use native.Mathlib.Numerals.{add-one}
 use native.Mathlib.Omega.{arith}
 use lib.ListN.{length, getD, take, drop, set, length-set, length-drop}
-use lib.Seq.{drop-drop, getD-drop, getD-set-same, getD-set-other, drop-set-lt, drop-set-add}
+use lib.Seq.{drop-drop, getD-drop, getD-set-same, getD-set-other, drop-set-lt, drop-set-add, take-suc, take-suc-set, append-snoc, drop-cons, set-at, length-take-le}
 use borrow.Author.Tests.{le-leb, lt-leb}
+use Rattle.refusal.specs.Table.{bufferTooSmall}
+use Rattle.refusal.specs.Answer.{answered, leaves}
+use Rattle.refusal.specs.declared.Answer.{Answer}
 use Rattle.numbers.specs.BigEndian.{unsignedAt}
 use Rattle.numbers.specs.Laws.BigEndian.{unsignedAt-part, unsignedAt-out}
 use Rattle.text.specs.Equal.{equal}
@@ -19,11 +23,13 @@ use Rattle.heads.specs.Table.{leadTable}
 use Rattle.heads.specs.declared.Head.{Head}
 use Rattle.heads.specs.Laws.Span.{part-length}
 use Rattle.messagepack.specs.Limits.{fileLimit, nestingLimit, entryLimit}
-use Rattle.messagepack.specs.Walk.{among, keyAt, entriesFrom, entriesAt}
-use Rattle.messagepack.specs.Keys.{tableLength, printOf, keyBytes, keyHere, keysOf, keysIn, KeyThere, RowHolds, Stored, Free, Kept, Rows, Sought, refused, repeated, noted, KeyNoted, KeysWalked}
+use Rattle.messagepack.specs.Walk.{among, keyAt, entriesFrom, entriesAt, valueAt}
+use Rattle.messagepack.specs.Outer.{keysFrom}
+use Rattle.messagepack.specs.Keys.{tableLength, printOf, keyBytes, keyHere, keysOf, keysIn, KeyThere, RowHolds, Stored, Free, Kept, Rows, Sought, refused, repeated, noted, KeyNoted, KeysWalked, MapNoted, EntriesNoted, ValueNoted}
 use Rattle.messagepack.specs.declared.Walk.{Walk}
 use Rattle.messagepack.specs.declared.Text.{Text}
 use Rattle.messagepack.specs.Laws.Walk as w
+use Rattle.messagepack.specs.Laws.Outer as o
 
 -- prints
 
@@ -163,10 +169,30 @@ module _ {s starts prints : List ℕ} {base end at print : ℕ} (x : Sought s ba
   pub noted-keys : keysIn s (set starts end at) base (end + 1) ≡ keyHere s at ∷ keysIn s starts base end
   noted-keys = rw (rows-set starts at, next) (keys-more s (drop base starts) (end - base) at starts-room)
 
+  pub noted-places : (rest : List ℕ) → take (end + 1 - base) (drop base (set starts end at)) ++ rest ≡ take (end - base) (drop base starts) ++ (at ∷ rest)
+  noted-places rest = rw (rows-set starts at, next, take-suc-set (drop base starts) (end - base) at starts-room) (append-snoc (take (end - base) (drop base starts)) at rest)
+
   pub noted-stored : Stored s (drop base (set starts end at)) (drop base (set prints end print)) (end + 1 - base)
   noted-stored =
       rw (rows-set starts at, rows-set prints print, next)
       (stored-more s (drop base starts) (drop base prints) (end - base) at print starts-room prints-room (x .key) (x .is) (x .rows .stored))
+
+-- a row more is copied to a buffer
+pub row-copied : (rows old : List ℕ) (i v : ℕ) → i < length old → i < length rows → v ≡ getD rows i 0 → set (take i rows ++ drop i old) i v ≡ take (i + 1) rows ++ drop (i + 1) old
+row-copied rows old i v h k is =
+    ap (λ (l : List ℕ). set (take i rows ++ l) i v) (drop-cons old i 0 h)
+    ∙ set-at (take i rows) (getD old i 0) (drop (suc i) old) v i (length-take-le i rows (omega arith))
+    ∙ sym (append-snoc (take i rows) v (drop (suc i) old))
+    ∙ ap (λ (l : List ℕ). l ++ drop (suc i) old) (ap (λ (y : ℕ). take i rows ++ (y ∷ [])) is ∙ sym (take-suc rows i 0 k))
+    ∙ rw (add-one i)
+
+-- the first n rows, if there is room for them
+module _ (rows old : List ℕ) (n : ℕ) (h : n ≤ length rows) where
+  pub rows-refused : length old < n → (Answer.Refused bufferTooSmall ≡ answered n (length old)) × (old ≡ leaves (take n rows) old)
+  rows-refused l = (rw (lt-leb n (length old) l), rw (length-take-le n rows h, lt-leb n (length old) l))
+
+  pub rows-copied : n ≤ length old → (Answer.Count n ≡ answered n (length old)) × (take n rows ++ drop n old ≡ leaves (take n rows) old)
+  rows-copied l = (rw (le-leb n (length old) l), rw (length-take-le n rows h, le-leb n (length old) l))
 
 -- tables that are kept
 
@@ -205,6 +231,14 @@ walked-more v = record { answer = v .answer; starts-kept = kept-more (v .starts-
 pub noted-as : {s : List ℕ} {at base end : ℕ} {starts prints starts' prints' : List ℕ} {r q : Walk} → r ≡ q → KeyNoted s at base end starts prints r starts' prints' → KeyNoted s at base end starts prints q starts' prints'
 noted-as {s} {at} {base} {end} {starts} {prints} {starts'} {prints'} e n = subst (λ (v : Walk). KeyNoted s at base end starts prints v starts' prints') e n
 
+-- nothing is noted of entries that are refused, nor of a value that is refused or no map
+
+pub entries-unnoted : {s : List ℕ} {levels n at k : ℕ} {starts : List ℕ} → EntriesNoted s levels n at (Walk.Refused k) starts
+entries-unnoted = record { says = λ e q. let z : _≡_ {A = ℕ} 0 1 = cc in absurd (omega arith) }
+
+pub value-unnoted : {s : List ℕ} {depth at k : ℕ} {starts : List ℕ} → ValueNoted s depth at (Walk.Refused k) starts
+value-unnoted = record { says = λ n p e m h q. let z : _≡_ {A = ℕ} 0 1 = cc in absurd (omega arith) }
+
 -- a row of the level itself is not among those that are kept
 pub kept-set : (depth i v : ℕ) (t : List ℕ) → length t ≡ tableLength → i < (depth + 1) * entryLimit → Kept (depth + 1) t (set t i v)
 kept-set depth i v t l lt = record { long = length-set t i v ∙ l; same = drop-set-lt ((depth + 1) * entryLimit) t i v lt }
@@ -216,7 +250,7 @@ among-key : (s : List ℕ) (at : ℕ) (keys : List (List ℕ)) {a m : ℕ} {t : 
 among-key s at keys k b = rw k at b
 
 -- the rows of the map's level hold its first keys, and the entries from here on decide
-pub record Going (leads s : List ℕ) (f : ℕ → Walk) (n at depth : ℕ) (starts₀ prints₀ starts prints : List ℕ) (row p : ℕ) : Type 0 where
+pub record Going (leads s : List ℕ) (n at depth : ℕ) (starts₀ prints₀ starts prints : List ℕ) (row p : ℕ) : Type 0 where
   pub table : leads ≡ leadTable
   pub levels : depth < nestingLimit
   pub small : length s ≤ fileLimit
@@ -226,10 +260,11 @@ pub record Going (leads s : List ℕ) (f : ℕ → Walk) (n at depth : ℕ) (sta
   pub starts-kept : Kept (depth + 1) starts₀ starts
   pub prints-kept : Kept (depth + 1) prints₀ prints
   pub stored : Stored s (drop (depth * entryLimit) starts) (drop (depth * entryLimit) prints) (row - depth * entryLimit)
-  pub goes : entriesAt s f n at ≡ entriesFrom s f (depth * entryLimit + n - row) (keysIn s starts (depth * entryLimit) row) p
+  pub places : take (row - depth * entryLimit) (drop (depth * entryLimit) starts) ++ keysFrom s depth (depth * entryLimit + n - row) p ≡ keysFrom s depth n at
+  pub goes : entriesAt s (valueAt s depth) n at ≡ entriesFrom s (valueAt s depth) (depth * entryLimit + n - row) (keysIn s starts (depth * entryLimit) row) p
 
-module _ {leads s : List ℕ} (f : ℕ → Walk) {n at depth : ℕ} where
-  pub going-first : {starts prints : List ℕ} → Free leads s (depth + 1) starts prints → n ≤ entryLimit → Going leads s f n at depth starts prints starts prints (depth * entryLimit) at
+module _ {leads s : List ℕ} {n at depth : ℕ} where
+  pub going-first : {starts prints : List ℕ} → Free leads s (depth + 1) starts prints → n ≤ entryLimit → Going leads s n at depth starts prints starts prints (depth * entryLimit) at
   unfolding Stored keysOf
   going-first {starts} {prints} x few =
       let e : depth * entryLimit + n - depth * entryLimit ≡ n = omega arith in
@@ -244,13 +279,21 @@ module _ {leads s : List ℕ} (f : ℕ → Walk) {n at depth : ℕ} where
         starts-kept = kept-all (depth + 1) (x .starts-long);
         prints-kept = kept-all (depth + 1) (x .prints-long);
         stored = λ i lt. absurd (not-suc-le-zero (rw z at lt));
-        goes = rw (e, z) (w.entries-few s f n at few);
+        places = rw (e, z);
+        goes = rw (e, z) (w.entries-few s (valueAt s depth) n at few);
       }
 
-  module _ {starts₀ prints₀ starts prints : List ℕ} {row p : ℕ} (g : Going leads s f n at depth starts₀ prints₀ starts prints row p) where
-    pub going-last : depth * entryLimit + n ≤ row → KeysWalked (entriesAt s f n at) (depth + 1) starts₀ prints₀ (Walk.End p) starts prints
+  module _ {starts₀ prints₀ starts prints : List ℕ} {row p : ℕ} (g : Going leads s n at depth starts₀ prints₀ starts prints row p) where
+    -- the rows hold the places of all keys
+    pub going-noted : depth * entryLimit + n ≤ row → MapNoted s depth n at starts
+    going-noted le =
+        let e : row - depth * entryLimit ≡ n = omega (arith, g .to) in
+        let z : depth * entryLimit + n - row ≡ 0 = omega arith in
+        record { few = g .few; places = sym (append-nil (take n (drop (depth * entryLimit) starts))) ∙ rw (e, z, o.keys-none s depth p) at (g .places) }
+
+    pub going-last : depth * entryLimit + n ≤ row → KeysWalked (entriesAt s (valueAt s depth) n at) (depth + 1) starts₀ prints₀ (Walk.End p) starts prints
     going-last le = record {
-      answer = sym (g .goes ∙ w.entries-none s f (depth * entryLimit + n - row) p (keysIn s starts (depth * entryLimit) row) (omega arith));
+      answer = sym (g .goes ∙ w.entries-none s (valueAt s depth) (depth * entryLimit + n - row) p (keysIn s starts (depth * entryLimit) row) (omega arith));
       starts-kept = g .starts-kept;
       prints-kept = g .prints-kept;
     }
@@ -267,14 +310,14 @@ module _ {leads s : List ℕ} (f : ℕ → Walk) {n at depth : ℕ} where
       }
 
       -- a key that is refused
-      pub going-key : {e : ℕ} {starts' prints' : List ℕ} → KeyNoted s p (depth * entryLimit) row starts prints (Walk.Refused e) starts' prints' → KeysWalked (entriesAt s f n at) (depth + 1) starts₀ prints₀ (Walk.Refused e) starts' prints'
+      pub going-key : {e : ℕ} {starts' prints' : List ℕ} → KeyNoted s p (depth * entryLimit) row starts prints (Walk.Refused e) starts' prints' → KeysWalked (entriesAt s (valueAt s depth) n at) (depth + 1) starts₀ prints₀ (Walk.Refused e) starts' prints'
       going-key (refused k) = record {
-        answer = sym (g .goes ∙ w.entries-key s f (depth * entryLimit + n - row) p (keysIn s starts (depth * entryLimit) row) (omega arith) k);
+        answer = sym (g .goes ∙ w.entries-key s (valueAt s depth) (depth * entryLimit + n - row) p (keysIn s starts (depth * entryLimit) row) (omega arith) k);
         starts-kept = g .starts-kept;
         prints-kept = g .prints-kept;
       }
       going-key (repeated k b) = record {
-        answer = sym (g .goes ∙ w.entries-twice s f (depth * entryLimit + n - row) p (keysIn s starts (depth * entryLimit) row) (omega arith) k (among-key s p (keysIn s starts (depth * entryLimit) row) k b));
+        answer = sym (g .goes ∙ w.entries-twice s (valueAt s depth) (depth * entryLimit + n - row) p (keysIn s starts (depth * entryLimit) row) (omega arith) k (among-key s p (keysIn s starts (depth * entryLimit) row) k b));
         starts-kept = g .starts-kept;
         prints-kept = g .prints-kept;
       }
@@ -297,17 +340,19 @@ module _ {leads s : List ℕ} (f : ℕ → Walk) {n at depth : ℕ} where
       kept-past {t₀} {t} {t'} v a b = kept-then a (kept-then (kept-set depth row v t (a .long) row-below) (kept-more b))
 
       -- its value is refused
-      pub going-value : {q e : ℕ} {starts' prints' starts'' prints'' : List ℕ} → KeyNoted s p (depth * entryLimit) row starts prints (Walk.End q) starts' prints' → KeysWalked (f q) depth starts' prints' (Walk.Refused e) starts'' prints'' → KeysWalked (entriesAt s f n at) (depth + 1) starts₀ prints₀ (Walk.Refused e) starts'' prints''
+      pub going-value : {q e : ℕ} {starts' prints' starts'' prints'' : List ℕ} → KeyNoted s p (depth * entryLimit) row starts prints (Walk.End q) starts' prints' → KeysWalked (valueAt s depth q) depth starts' prints' (Walk.Refused e) starts'' prints'' → KeysWalked (entriesAt s (valueAt s depth) n at) (depth + 1) starts₀ prints₀ (Walk.Refused e) starts'' prints''
       going-value (noted k x b) v = record {
-        answer = sym (g .goes ∙ w.entries-value s f (depth * entryLimit + n - row) p (keysIn s starts (depth * entryLimit) row) (omega arith) k (among-key s p (keysIn s starts (depth * entryLimit) row) k b) (sym (v .answer)));
+        answer = sym (g .goes ∙ w.entries-value s (valueAt s depth) (depth * entryLimit + n - row) p (keysIn s starts (depth * entryLimit) row) (omega arith) k (among-key s p (keysIn s starts (depth * entryLimit) row) k b) (sym (v .answer)));
         starts-kept = kept-past _ (g .starts-kept) (v .starts-kept);
         prints-kept = kept-past _ (g .prints-kept) (v .prints-kept);
       }
 
       -- its value ends: one entry more is done
-      pub going-next : {q e : ℕ} {starts' prints' starts'' prints'' : List ℕ} → KeyNoted s p (depth * entryLimit) row starts prints (Walk.End q) starts' prints' → KeysWalked (f q) depth starts' prints' (Walk.End e) starts'' prints'' → Going leads s f n at depth starts₀ prints₀ starts'' prints'' (row + 1) e
-      going-next (noted k x b) v =
+      pub going-next : {q e : ℕ} {starts' prints' starts'' prints'' : List ℕ} → KeyNoted s p (depth * entryLimit) row starts prints (Walk.End q) starts' prints' → KeysWalked (valueAt s depth q) depth starts' prints' (Walk.End e) starts'' prints'' → Going leads s n at depth starts₀ prints₀ starts'' prints'' (row + 1) e
+      going-next {e = e} (noted k x b) v =
           let d : depth * entryLimit + n - row - 1 ≡ depth * entryLimit + n - (row + 1) = omega arith in
+          let left : List ℕ = keysFrom s depth (depth * entryLimit + n - (row + 1)) e in
+          let one : keysFrom s depth (depth * entryLimit + n - row) p ≡ p ∷ left = o.keys-next s depth (depth * entryLimit + n - row) p (omega arith) k (sym (v .answer)) ∙ ap (λ (j : ℕ). p ∷ keysFrom s depth j e) d in
           record {
             table = g .table;
             levels = g .levels;
@@ -318,8 +363,9 @@ module _ {leads s : List ℕ} (f : ℕ → Walk) {n at depth : ℕ} where
             starts-kept = kept-past _ (g .starts-kept) (v .starts-kept);
             prints-kept = kept-past _ (g .prints-kept) (v .prints-kept);
             stored = rw (v .starts-kept .same, v .prints-kept .same) (noted-stored x);
+            places = rw (v .starts-kept .same, noted-places x left, ← one) (g .places);
             goes =
                 g .goes
-                ∙ w.entries-end s f (depth * entryLimit + n - row) p (keysIn s starts (depth * entryLimit) row) (omega arith) k (among-key s p (keysIn s starts (depth * entryLimit) row) k b) (sym (v .answer))
+                ∙ w.entries-end s (valueAt s depth) (depth * entryLimit + n - row) p (keysIn s starts (depth * entryLimit) row) (omega arith) k (among-key s p (keysIn s starts (depth * entryLimit) row) k b) (sym (v .answer))
                 ∙ rw (v .starts-kept .same, noted-keys x, k, d);
           }
