@@ -15,7 +15,7 @@ ghost use Rattle.fields.specs.Table.{fieldCount};
 ghost use Rattle.fields.specs.Tests.{typed};
 ghost use Rattle.fields.specs.Fields.{fieldTypeOf, isVersionOne, fieldsNumber, findRow};
 ghost use Rattle.fields.specs.Noted.{Noted, Spanned};
-ghost use Rattle.fields.specs.Numbers.{typeTable, nameOf, rowsFrom, typeOf, rowTest, build, covered, marked, lacking, distinctNames, tableByte, allRows, hintOf, hinted};
+ghost use Rattle.fields.specs.Numbers.{typeTable, typeDepth, firstField, nameOf, rowsFrom, typeOf, rowTest, build, covered, marked, lacking, distinctNames, tableByte, allRows, hintOf, hinted};
 ghost use Rattle.fields.specs.Steps.{headKind, hasBody, plainEnd, ValueSays, ItemsSay, RunSays, EntriesSay, RowSays, noPlaces};
 use heads::Head;
 use heads::Kind;
@@ -139,7 +139,7 @@ pub fn note(leads: &[u8; 256], file: &[u8], count: usize, at: usize) -> Fields
     let mut left = count;
     let mut p = at;
     while 0 < left {
-        let key = values::text_at(leads, file, p);
+        let key = values::key_at(leads, file, p);
         let a = key.at;
         let m = key.count;
         let value = a + m;
@@ -245,16 +245,7 @@ fn judge(leads: &[u8; 256], file: &[u8], types: &[u8; TABLE_SIZE], at: usize, ro
     requires { ⌜ now types ≡ typeTable ⌝ }
     ensures { λ r. ⌜ RowSays (now (leads .entry)) (now (file .entry)) row at (r .end) (r .typed) ⌝ }
 {
-    let e = row_typed(
-        leads,
-        file,
-        types,
-        at,
-        FIRST_FIELD,
-        FIELD_COUNT,
-        row,
-        TYPE_DEPTH,
-    );
+    let e = field_typed(leads, file, types, at, row);
     if e == 0 {
         return Judged {
             end: values::skip(leads, file, at),
@@ -265,6 +256,35 @@ fn judge(leads: &[u8; 256], file: &[u8], types: &[u8; TABLE_SIZE], at: usize, ro
         end: e,
         typed: true,
     }
+}
+
+// The value at a place as that of a named field, or of none, as `row_typed` has it: one that holds no others is found with no step into the recursion.
+fn field_typed(
+    leads: &[u8; 256],
+    file: &[u8],
+    types: &[u8; TABLE_SIZE],
+    at: usize,
+    row: usize,
+) -> usize
+    requires { ⌜ now types ≡ typeTable ⌝ }
+    ensures { λ r. ⌜ ValueSays (now (leads .entry)) (now (file .entry)) (rowTest row (rowsFrom (typeOf typeDepth) fieldCount firstField)) at r ⌝ }
+{
+    if row < FIELD_COUNT {
+        let code = cell(types, (FIRST_FIELD + row) * ROW_SIZE + ROWS_AT + 2);
+        if code < PLAIN_TYPES {
+            return plain_at(leads, file, at, code + 1);
+        }
+    }
+    row_typed(
+        leads,
+        file,
+        types,
+        at,
+        FIRST_FIELD,
+        FIELD_COUNT,
+        row,
+        TYPE_DEPTH,
+    )
 }
 
 // The value at a place as that of one of the n rows from first on, or of none: where it ends, 0 if it has not its type.
@@ -837,6 +857,9 @@ const BINARY: usize = 4;
 const ARRAY: usize = 5;
 
 const MAP: usize = 6;
+
+// The types of a value that holds no others come first, in the order of the kinds.
+const PLAIN_TYPES: usize = BINARY;
 
 // The numbers of the types of a string and of an array of integers.
 const A_STRING: usize = 2;

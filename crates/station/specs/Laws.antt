@@ -2,4 +2,3 @@
 pub mod Output
 pub mod Reading
 pub mod Receipts
-pub mod Listing

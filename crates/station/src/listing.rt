@@ -2,6 +2,7 @@
 ghost use mathlib.Core.Path.{_≡_};
 ghost use lib.ListN.{length};
 ghost use Rattle.text.specs.Put.{Put};
+ghost use Rattle.messagepack.specs.Limits.{entryLimit};
 ghost use Rattle.commands.specs.Listing.{fieldLine};
 use crate::output;
 use refusal::Answer;
@@ -9,14 +10,14 @@ use refusal::Answer;
 // Writes the fields of a file that is accepted, in the file's order.
 pub(crate) fn write_fields(file: &[u8]) -> bool {
     let mut places = no_places();
-    match views::outer::keys(file, &mut places) {
+    match messagepack::keys(file, &mut places) {
         Answer::Refused(_) => false,
         Answer::Count(n) => write_lines(file, &places[..n]),
     }
 }
 
 // Writes the fields whose keys stand at places.
-fn write_lines(file: &[u8], places: &[usize]) -> bool {
+fn write_lines(file: &[u8], places: &[u32]) -> bool {
     let mut buffer = output::room();
     let mut at: usize = 0;
     let mut i: usize = 0;
@@ -27,7 +28,7 @@ fn write_lines(file: &[u8], places: &[usize]) -> bool {
             }
             at = 0;
         }
-        at = put_field(&mut buffer, at, file, places[i]);
+        at = put_field(&mut buffer, at, file, numbers::u32_to_usize(places[i]));
         i += 1;
     }
     output::write_first(&buffer, at)
@@ -45,9 +46,9 @@ fn put_field(buffer: &mut [u8], at: usize, file: &[u8], key: usize) -> usize
     lines::single::put_field(buffer, at, name, sort, codec, length)
 }
 
-// Room for the places of the outer keys, which are 256 at most.
-fn no_places() -> [usize; 256]
-    ensures { λ r. ⌜ length r ≡ 256 ⌝ }
+// Room for the places of the outer keys.
+fn no_places() -> [u32; messagepack::ENTRY_LIMIT]
+    ensures { λ r. ⌜ length r ≡ entryLimit ⌝ }
 {
-    [0usize; 256]
+    [0u32; messagepack::ENTRY_LIMIT]
 }

@@ -4,5 +4,4 @@ pub mod Search
 pub mod View
 pub mod Unique
 pub mod Binary
-pub mod Outer
 pub mod Shapes

@@ -3,9 +3,11 @@ use mathlib.Core.Path.{_≡_}
 use mathlib.Core.List.{List, _++_}
 use Prim.Native.Nat.{ℕ, _+_, _-_, _≤_}
 use lib.ListN.{length, drop}
-use Rattle.messagepack.specs.Limits.{nestingLimit}
+use Rattle.refusal.specs.Table.{accepted}
 use Rattle.messagepack.specs.Document.{Document, Entries, size, Writes, WritesEntries}
-use Rattle.messagepack.specs.Rules.{depthEntries, KeepsEntries}
+use Rattle.messagepack.specs.Rules.{depthEntries, KeepsEntries, Container}
+use Rattle.messagepack.specs.Walk.{containerNumber}
+use Rattle.messagepack.specs.Outer.{outerLevels, keysOf}
 use Rattle.views.specs.View.{shown}
 use Rattle.views.specs.declared.Place.{Place}
 
@@ -22,5 +24,11 @@ pub record Ahead (s : List ℕ) (left p : ℕ) : Type 0 where
   pub entries : Entries
   pub writes : WritesEntries entries (drop p s)
   pub counts : size entries ≡ left
-  pub nested : depthEntries entries ≤ nestingLimit
+  pub nested : depthEntries entries ≤ outerLevels
   pub keeps : KeepsEntries entries
+
+-- the places of the outer keys of a container
+pub record Keyed (s places : List ℕ) : Type 0 where
+  pub container : Container s
+  pub passed : containerNumber s ≡ accepted
+  pub are : places ≡ keysOf s

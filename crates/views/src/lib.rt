@@ -1,21 +1,23 @@
-// Views: the part of a file that shows an outer key's value, for any name and any key of a file that passes as a container. Modules have the
-// places of the outer keys, what stands at a place, and the shape of a value.
-pub mod outer;
+// Views: the part of a file that shows an outer key's value, for any name and any key of a file that passes as a container; a file is walked
+// once, and the places of its outer keys come from that walk. Modules have what stands at a place, and the shape of a value.
 pub mod plain;
 pub mod shapes;
 
 ghost use mathlib.Core.Path.{_≡_};
 ghost use mathlib.Core.Logic.{_↔_};
 ghost use Prim.Native.Nat.{ℕ, _-_};
+ghost use lib.ListN.{length};
 ghost use Rattle.heads.specs.Table.{leadTable};
 ghost use Rattle.heads.specs.Head.{headAt};
+ghost use Rattle.messagepack.specs.Limits.{entryLimit};
 ghost use Rattle.values.specs.Standing.{Standing};
 ghost use Rattle.views.specs.View.{Viewable, viewNumber, binaryUnder};
-ghost use Rattle.views.specs.Place.{isText, bodyPlace, entryPlace, placeOf, partOf};
-ghost use Rattle.views.specs.Shown.{ShowsAt, Ahead};
+ghost use Rattle.views.specs.Place.{isText, bodyPlace, placeOf, partOf};
+ghost use Rattle.views.specs.Shown.{ShowsAt, Keyed};
 ghost use Rattle.views.specs.declared.Place.{Place};
 use heads::Head;
 use heads::Kind;
+use refusal::Answer;
 
 // Where a part starts and how long it is, or the number of the refusal.
 pub enum Place {
@@ -67,25 +69,21 @@ pub fn is_binary(file: &[u8], name: &[u8]) -> bool
 pub fn find(file: &[u8], name: &[u8]) -> Place
     ensures { λ r. ⌜ r ≡ placeOf (now (file .entry)) (now (name .entry)) ⌝ }
 {
-    let number = messagepack::container(file);
-    if number != refusal::ACCEPTED {
-        return Place::Refused(number);
-    }
-    let leads = heads::leads();
-    match heads::head_at(&leads, file, 0) {
-        Head::Cut => Place::Refused(refusal::NO_SUCH_FIELD),
-        Head::At(n, p) => entry(&leads, file, name, n, p),
+    let mut places = no_places();
+    match messagepack::keys(file, &mut places) {
+        Answer::Refused(number) => Place::Refused(number),
+        Answer::Count(n) => entry(&heads::leads(), file, name, &places[..n]),
     }
 }
 
-// The n entries from a place on: the one with the name.
-fn entry(leads: &[u8; 256], file: &[u8], name: &[u8], n: usize, at: usize) -> Place
-    requires { ⌜ (now leads ≡ leadTable) × Ahead (now file) n at ⌝ }
-    ensures { λ r. ⌜ r ≡ entryPlace (now (file .entry)) (now (name .entry)) n at ⌝ }
+// The outer key with the name, by the places of all of them: the place of the part that shows its value.
+fn entry(leads: &[u8; 256], file: &[u8], name: &[u8], places: &[u32]) -> Place
+    requires { ⌜ (now leads ≡ leadTable) × Keyed (now file) (now places) ⌝ }
+    ensures { λ r. ⌜ r ≡ placeOf (now (file .entry)) (now (name .entry)) ⌝ }
 {
-    let mut left = n;
-    let mut p = at;
-    while 0 < left {
+    let mut i: usize = 0;
+    while i < places.len() {
+        let p = numbers::u32_to_usize(places[i]);
         let Head::At(m, a) = heads::head_at(leads, file, p) else {
             return Place::Refused(refusal::NO_SUCH_FIELD);
         };
@@ -93,10 +91,16 @@ fn entry(leads: &[u8; 256], file: &[u8], name: &[u8], n: usize, at: usize) -> Pl
         if text::same_bytes(&file[a..value], name) {
             return part(leads, file, value);
         }
-        p = values::skip(leads, file, value);
-        left -= 1;
+        i += 1;
     }
     Place::Refused(refusal::NO_SUCH_FIELD)
+}
+
+// Room for the places of the outer keys.
+fn no_places() -> [u32; messagepack::ENTRY_LIMIT]
+    ensures { λ r. ⌜ length r ≡ entryLimit ⌝ }
+{
+    [0u32; messagepack::ENTRY_LIMIT]
 }
 
 // The part that shows the value at a place.

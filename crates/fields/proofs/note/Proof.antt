@@ -27,7 +27,7 @@ loop-holds c =
     (c .before .before .types .ensures, (ap length (c .before .no-places .ensures), (ap length (c .no-places2 .ensures), λ r h. subst (λ (l : List ℕ). NoteSays (a .leads .now) (a .file .now) noPlaces l 0 true (a .count) (a .at) r) (c .no-places2 .ensures) (subst (λ (l : List ℕ). NoteSays (a .leads .now) (a .file .now) l (c .no-places2 .result) 0 true (a .count) (a .at) r) (c .before .no-places .ensures) h))))
 
 row-of-requires : tie.Need-row-of-requires Inv-loop μ-loop
-row-of-requires c κs = (c .before .before .before .loop .inv .0, (c .before .text-at .ensures .0, (lit< tt, (lit< tt, named-hinted))))
+row-of-requires c κs = (c .before .before .before .loop .inv .0, (c .before .key-at .ensures .0, (lit< tt, (lit< tt, named-hinted))))
 
 judge-requires : tie.Need-judge-requires Inv-loop μ-loop
 judge-requires c κs = c .before .before .before .before .before .loop .inv .0
@@ -45,10 +45,10 @@ loop-again : tie.Need-loop-again Inv-loop μ-loop
 loop-again c =
     let a = c .before .before .before .before .before .before .before .before .before .before .before .before .before .before .before .before .before .args in
     let l = c .before .before .before .before .before .before .before .before .before .before .before .before .loop in
-    let key = c .before .before .before .before .before .before .before .before .before .before .text-at .result in
+    let key = c .before .before .before .before .before .before .before .before .before .before .key-at .result in
     let i = c .before .before .before .before .before .before .before .before .row-of .result in
     let judged = c .before .before .before .before .before .before .judge .result in
-    (l .inv .0, (ap length (c .before .before .before .before .put-place .ensures) ∙ length-set (l .places) i (key .at + key .count) ∙ l .inv .1 .0, (ap length (c .before .before .put-place2 .ensures) ∙ length-set (l .ends) i (judged .end) ∙ l .inv .1 .1 .0, λ r h. l .inv .1 .1 .1 r (note-next (a .leads .now) (a .file .now) (l .places) (l .ends) (l .presence) (l .typed) (l .left) (l .p) i (judged .end) (judged .typed) (c .before .before .before .before .before .before .before .before .before .before .before .loop-test .taken) (l .inv .1 .0) (l .inv .1 .1 .0) (record { says = c .before .before .before .before .before .before .before .before .before .before .text-at .ensures .1 .1 }) (c .before .before .before .before .before .before .before .before .row-of .ensures) (c .before .before .before .before .before .before .judge .ensures) (c .before .before .before .before .put-place .ensures) (c .before .before .put-place2 .ensures) (c .before .mark .ensures) (c .both .ensures) h))))
+    (l .inv .0, (ap length (c .before .before .before .before .put-place .ensures) ∙ length-set (l .places) i (key .at + key .count) ∙ l .inv .1 .0, (ap length (c .before .before .put-place2 .ensures) ∙ length-set (l .ends) i (judged .end) ∙ l .inv .1 .1 .0, λ r h. l .inv .1 .1 .1 r (note-next (a .leads .now) (a .file .now) (l .places) (l .ends) (l .presence) (l .typed) (l .left) (l .p) i (judged .end) (judged .typed) (c .before .before .before .before .before .before .before .before .before .before .before .loop-test .taken) (l .inv .1 .0) (l .inv .1 .1 .0) (record { says = c .before .before .before .before .before .before .before .before .before .before .key-at .ensures .1 .1 }) (c .before .before .before .before .before .before .before .before .row-of .ensures) (c .before .before .before .before .before .before .judge .ensures) (c .before .before .before .before .put-place .ensures) (c .before .before .put-place2 .ensures) (c .before .mark .ensures) (c .both .ensures) h))))
 
 returns : tie.Need-returns Inv-loop μ-loop
 returns c =

@@ -2,10 +2,11 @@
 use mathlib.Core.Path.{ap, _∙_}
 use native.Mathlib.Omega.{arith}
 use native.Mathlib.Nat.{pos-of-ne-zero}
+use lib.Dec.{lit<}
 use borrow.Author.Needs.{needs}
 use Rattle.fields.specs.Types.{plain, arrayOf}
 use Rattle.fields.specs.Numbers.{typeOf}
-use Rattle.fields.specs.Laws.Numbers.{string-type, integers-type}
+use Rattle.fields.specs.Laws.Numbers.{plain-type, integers-type}
 use Rattle.fields.specs.Laws.Steps.{value-as, row-says}
 use Rattle.fields.proofs.quick_row.Statement.{statement}
 use Rattle.fields.proofs.quick_row.Tie as tie
@@ -13,7 +14,7 @@ use Rattle.fields.proofs.quick_row.Tie as tie
 returns-3 : tie.Need-returns-3
 returns-3 c =
     let a = c .before .before .before .before .before .before .args in
-    λ h leads. row-says leads (a .file .now) (typeOf (a .depth)) (a .n) (a .first) (a .row) (omega arith) (c .before .before .cell .ensures .0) (value-as (typeOf (a .depth) _) (plain 3) (ap (typeOf (a .depth)) (c .before .if3 .taken) ∙ string-type (a .depth) (pos-of-ne-zero (c .before .before .before .before .if1 .left))) (c .quick-end .ensures h leads))
+    λ h leads. row-says leads (a .file .now) (typeOf (a .depth)) (a .n) (a .first) (a .row) (omega arith) (c .before .before .cell .ensures .0) (value-as (typeOf (a .depth) _) (plain 3) (ap (typeOf (a .depth)) (c .before .if3 .taken) ∙ plain-type (a .depth) 2 (pos-of-ne-zero (c .before .before .before .before .if1 .left)) (lit< tt)) (c .quick-end .ensures h leads))
 
 returns-4 : tie.Need-returns-4
 returns-4 c =

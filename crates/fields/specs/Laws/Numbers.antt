@@ -340,11 +340,15 @@ unfolding typeOf
 type-is zero c h lt = absurd (omega arith)
 type-is (suc d) c h lt = let e : suc d - 1 ≡ d = omega arith in rw (lt-ltb c codeCount lt, e)
 
--- the type of a string
-pub string-type : (d : ℕ) → 0 < d → typeOf d 2 ≡ plain 3
+-- the types of values that hold no others
+pub plain-type : (d c : ℕ) → 0 < d → c < 4 → typeOf d c ≡ plain (c + 1)
 unfolding typeOf tableByte typeTable
-string-type zero h = absurd (omega arith)
-string-type (suc d) h = refl
+plain-type zero c h l = absurd (omega arith)
+plain-type (suc d) zero h l = refl
+plain-type (suc d) (suc zero) h l = refl
+plain-type (suc d) (suc (suc zero)) h l = refl
+plain-type (suc d) (suc (suc (suc zero))) h l = refl
+plain-type (suc d) (suc (suc (suc (suc c)))) h l = absurd (omega arith)
 
 -- the type of an array of integers
 pub integers-type : (d : ℕ) → 0 < d → typeOf d 4 ≡ arrayOf (plain 1)

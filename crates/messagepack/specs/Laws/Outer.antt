@@ -6,10 +6,11 @@ use mathlib.Core.List.{List, [], _∷_}
 use Prim.Native.Nat.{ℕ, zero, suc, _+_, _-_, _<_, _≤_}
 use native.Mathlib.Numerals.{sub-one}
 use native.Mathlib.Omega.{arith}
-use lib.Dec.{eqb, lit<}
-use lib.ListN.{length}
-use borrow.Author.Tests.{eqb-true, eq-eqb, ne-eqb, le-leb}
-use Rattle.refusal.specs.Table.{accepted, cutShort, bytesAfter}
+use lib.Dec.{eqb, leb, lit<}
+use lib.ListN.{length, take, drop}
+use lib.Seq.{take-append-seam}
+use borrow.Author.Tests.{eqb-true, eqb-false, eq-eqb, ne-eqb, leb-true, le-leb}
+use Rattle.refusal.specs.Table.{accepted, cutShort, bytesAfter, bufferTooSmall}
 use Rattle.refusal.specs.Answer.{answered, leaves, answerNumber}
 use Rattle.refusal.specs.declared.Answer.{Answer}
 use Rattle.numbers.specs.BigEndian.{Bytes}
@@ -116,3 +117,37 @@ keys-number s room few = go (eqb (containerNumber s) accepted) refl
     go : (b : Bool) → eqb (containerNumber s) accepted ≡ b → answerNumber (cond b (answered (length (keysOf s)) room) (Answer.Refused (containerNumber s))) ≡ containerNumber s
     go true e = let z = eqb-true (containerNumber s) accepted e in rw (le-leb (length (keysOf s)) room (few z)) (sym z)
     go false e = refl
+
+-- where there is room for as many keys as a map may have, the answer is how many there are, or the container's number
+
+pub keys-counted : (s : List ℕ) {n : ℕ} (room : ℕ) → Answer.Count n ≡ keysAnswer s room → (containerNumber s ≡ accepted) × (n ≡ length (keysOf s)) × (n ≤ room)
+unfolding keysAnswer
+keys-counted s {n} room h = go (eqb (containerNumber s) accepted) (leb (length (keysOf s)) room) refl refl h
+  where
+    go : (b t : Bool) → eqb (containerNumber s) accepted ≡ b → leb (length (keysOf s)) room ≡ t → Answer.Count n ≡ cond b (cond t (Answer.Count (length (keysOf s))) (Answer.Refused bufferTooSmall)) (Answer.Refused (containerNumber s)) → (containerNumber s ≡ accepted) × (n ≡ length (keysOf s)) × (n ≤ room)
+    go true true e l q = let i : n ≡ length (keysOf s) = cc in (eqb-true (containerNumber s) accepted e, i, omega (arith, leb-true (length (keysOf s)) room l))
+    go true false e l q = let z : _≡_ {A = ℕ} 0 1 = cc in absurd (omega arith)
+    go false t e l q = let z : _≡_ {A = ℕ} 0 1 = cc in absurd (omega arith)
+
+pub keys-uncounted : (s : List ℕ) {n : ℕ} (room : ℕ) → (containerNumber s ≡ accepted → length (keysOf s) ≤ room) → Answer.Refused n ≡ keysAnswer s room → (containerNumber s ≡ n) × (containerNumber s ≡ accepted → ⊥)
+unfolding keysAnswer
+keys-uncounted s {n} room few h = go (eqb (containerNumber s) accepted) refl h
+  where
+    go : (b : Bool) → eqb (containerNumber s) accepted ≡ b → Answer.Refused n ≡ cond b (answered (length (keysOf s)) room) (Answer.Refused (containerNumber s)) → (containerNumber s ≡ n) × (containerNumber s ≡ accepted → ⊥)
+    go true e q =
+        let y = le-leb (length (keysOf s)) room (few (eqb-true _ _ e)) in
+        let k : Answer.Refused n ≡ Answer.Count (length (keysOf s)) = rw y at q in
+        let z : _≡_ {A = ℕ} 0 1 = cc in
+        absurd (omega arith)
+    go false e q = let i : containerNumber s ≡ n = cc in (i, λ z. eqb-false _ _ e z)
+
+-- the count of an answer is within a buffer of the same length
+pub keys-within : (s : List ℕ) (r : Answer) (room n k : ℕ) → r ≡ keysAnswer s room → n ≡ room → r ≡ Answer.Count k → k ≤ n
+keys-within s r room n k e q c = omega (arith, keys-counted s room (sym c ∙ e) .2)
+
+-- the places that were put are those of the outer keys
+pub keys-put : (s old : List ℕ) {n : ℕ} → n ≡ length (keysOf s) → n ≤ length old → take n (keysLeave s old) ≡ keysOf s
+unfolding keysLeave
+keys-put s old {n} e l =
+    let h : length (keysOf s) ≤ length old = omega arith in
+    rw (e, le-leb (length (keysOf s)) (length old) h) (take-append-seam (keysOf s) (drop (length (keysOf s)) old))

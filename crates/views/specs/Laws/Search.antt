@@ -2,11 +2,13 @@
 -- Assumes nothing.
 use mathlib.Core.Path.{_≡_, refl, sym, ap, _∙_}
 use mathlib.Core.Bool.{Bool, true, false, cond}
-use mathlib.Core.List.{List, _++_, append-assoc}
+use mathlib.Core.List.{List, _∷_, _++_, append-assoc}
 use Prim.Native.Nat.{ℕ, zero, suc, _+_, _-_, _<_, _≤_}
 use native.Mathlib.Omega.{arith}
 use native.Mathlib.Nat.{zero-add}
-use lib.ListN.{length, take, drop, length-append}
+use native.Mathlib.Numerals.{add-one}
+use lib.ListN.{length, getD, take, drop, length-append}
+use lib.Seq.{drop-cons}
 use borrow.Author.Tests.{eq-eqb, ne-eqb}
 use Rattle.refusal.specs.Table.{accepted, noSuchField}
 use Rattle.text.specs.Equal.{equal}
@@ -18,10 +20,13 @@ use Rattle.heads.specs.Laws.Head.{head-told}
 use Rattle.messagepack.specs.Limits.{nestingLimit}
 use Rattle.messagepack.specs.Document.{Document, Entries, empty, entry, size, TextOf, Writes, WritesEntries}
 use Rattle.messagepack.specs.Rules.{depth, depthEntries, Keeps, KeepsEntries, Container}
-use Rattle.messagepack.specs.Walk.{valueAt, containerNumber}
-use Rattle.messagepack.specs.Laws.Complete.{value-of}
+use Rattle.messagepack.specs.Walk.{keyAt, valueAt, containerNumber}
+use Rattle.messagepack.specs.Outer.{outerLevels, entryEnd, keysFrom}
+use Rattle.messagepack.specs.declared.Text.{Text}
+use Rattle.messagepack.specs.Laws.Complete.{text-there, key-there, value-of}
+use Rattle.messagepack.specs.Laws.Outer as o
 use Rattle.views.specs.Place.{afterHead, afterValue, valuePlace, entryPlace, placeOf}
-use Rattle.views.specs.Shown.{shownPlace, Ahead}
+use Rattle.views.specs.Shown.{shownPlace, Ahead, Keyed}
 use Rattle.views.specs.Laws.Shown.{value-shows}
 use Rattle.views.specs.declared.Place.{Place}
 
@@ -73,12 +78,13 @@ pub record Next (s : List ℕ) (left p : ℕ) : Type 0 where
   pub fits : from + length k ≤ length s
   pub start : from + length k ≡ p + length a
   pub value : drop (from + length k) s ≡ w ++ v
-  pub nested : depth x ≤ nestingLimit
+  pub key-read : keyAt s p ≡ Text.At from (length k)
+  pub nested : depth x ≤ outerLevels
   pub keeps : Keeps x
   pub rest : drop (from + length k + length w) s ≡ v
   pub others : Ahead s (left - 1) (from + length k + length w)
 
-entry-next : {s : List ℕ} {left p : ℕ} (es : Entries) → WritesEntries es (drop p s) → size es ≡ left → depthEntries es ≤ nestingLimit → KeepsEntries es → 0 < left → Next s left p
+entry-next : {s : List ℕ} {left p : ℕ} (es : Entries) → WritesEntries es (drop p s) → size es ≡ left → depthEntries es ≤ outerLevels → KeepsEntries es → 0 < left → Next s left p
 unfolding size depth WritesEntries Keeps
 entry-next empty wr e n ky pos = absurd (omega arith)
 entry-next {s} {left} {p} (entry k x es) wr e n ky pos =
@@ -105,6 +111,7 @@ entry-next {s} {left} {p} (entry k x es) wr e n ky pos =
       fits = omega arith;
       start = omega arith;
       value = d;
+      key-read = key-there s k p (p + length (wr .a)) from (text-there s Kind.Str k (wr .a) (wr .u ++ wr .v) p (wr .key) (wr .is)) (ky .0);
       nested = omega arith;
       keeps = ky .1;
       rest = r;
@@ -158,10 +165,86 @@ module _ {s : List ℕ} {left p : ℕ} (n : Next s left p) where
 
     -- the entry with the key is shown
     pub next-shown : 0 < left → equal (n .k) name ≡ true → entryPlace s name left p ≡ shownPlace (n .from + length (n .k)) (n .x) (n .w)
-    next-shown pos e = entry-step s name left p pos (n .head) ∙ rw (n .key, e) (value-shows s (n .from + length (n .k)) (n .x) (n .w) (n .v) (n .writes) (n .nested) (n .keeps) (n .value))
+    next-shown pos e = entry-step s name left p pos (n .head) ∙ rw (n .key, e) (value-shows s (n .from + length (n .k)) (n .x) (n .w) (n .v) (n .writes) (omega (arith, n .nested)) (n .keeps) (n .value))
 
     -- after another key the search goes on behind the value
     pub next-other : 0 < left → equal (n .k) name ≡ false → entryPlace s name left p ≡ entryPlace s name (left - 1) (n .from + length (n .k) + length (n .w))
     next-other pos e =
         entry-step s name left p pos (n .head)
-        ∙ rw (n .key, e, value-of s (n .x) (n .w) nestingLimit (n .from + length (n .k)) (n .v) (n .writes) (n .nested) (n .keeps) (n .value))
+        ∙ rw (n .key, e, value-of s (n .x) (n .w) nestingLimit (n .from + length (n .k)) (n .v) (n .writes) (omega (arith, n .nested)) (n .keeps) (n .value))
+
+    -- the entry ends where its value does
+    pub next-end : entryEnd s outerLevels p ≡ n .from + length (n .k) + length (n .w)
+    next-end =
+        o.entry-end s outerLevels p (n .key-read) (value-of s (n .x) (n .w) outerLevels (n .from + length (n .k)) (n .v) (n .writes) (n .nested) (n .keeps) (n .value))
+
+-- The search by the places of the outer keys
+
+-- the keys before the row i are others, and the entries from its place on are ahead
+pub record Looking (s name places : List ℕ) (i : ℕ) : Type 0 where
+  pub p : ℕ
+  pub within : i ≤ length places
+  pub ahead : Ahead s (length places - i) p
+  pub left : drop i places ≡ keysFrom s outerLevels (length places - i) p
+  pub is : entryPlace s name (length places - i) p ≡ placeOf s name
+
+module _ {s : List ℕ} (name : List ℕ) {places : List ℕ} where
+  pub look-first : Keyed s places → Looking s name places 0
+  look-first k =
+      let u = outer-of (k .container) in
+      let e : places ≡ keysFrom s outerLevels (size (k .container .entries)) (length (u .h)) = k .are ∙ o.keys-are s (k .passed) (u .there) in
+      let l : length places - 0 ≡ size (k .container .entries) = (let c = ap length e ∙ o.keys-count s outerLevels (size (k .container .entries)) (length (u .h)) in omega arith) in
+      record {
+        p = length (u .h);
+        within = omega arith;
+        ahead = rw l (u .ahead);
+        left = rw l e;
+        is = rw l (sym (place-container s name (k .passed) (u .there)));
+      }
+
+  module _ {i : ℕ} (g : Looking s name places i) where
+    pub look-last : length places ≤ i → Place.Refused noSuchField ≡ placeOf s name
+    look-last h = entry-last s name _ (g .p) (omega arith) ∙ g .is
+
+    module _ (lt : i < length places) where
+      pos : 0 < length places - i
+      pos = omega arith
+
+      rows : getD places i 0 ∷ drop (suc i) places ≡ g .p ∷ keysFrom s outerLevels (length places - i - 1) (entryEnd s outerLevels (g .p))
+      rows = sym (drop-cons places i 0 lt) ∙ g .left ∙ o.keys-first s outerLevels (length places - i) (g .p) pos
+
+      -- the row has the place of the next key
+      pub look-row : getD places i 0 ≡ g .p
+      look-row = let e = rows in cc
+
+      pub look-next : Next s (length places - i) (g .p)
+      look-next = next-of (g .ahead) pos
+
+      -- the head that was read at the row's place is the next key's
+      pub look-read : {q m a : ℕ} → q ≡ getD places i 0 → headAt s q ≡ Head.At m a → (m ≡ length (look-next .k)) × (a ≡ look-next .from)
+      look-read e h = next-read look-next (ap (headAt s) (sym look-row ∙ sym e) ∙ h)
+
+      pub look-inside : {q m a : ℕ} → q ≡ getD places i 0 → headAt s q ≡ Head.At m a → a + m ≤ length s
+      look-inside e h = let r = look-read e h in omega (arith, look-next .fits)
+
+      pub look-cut : {q : ℕ} → q ≡ getD places i 0 → headAt s q ≡ Head.Cut → ⊥
+      look-cut e h = let k = sym (look-next .head) ∙ ap (headAt s) (sym look-row ∙ sym e) ∙ h in let z : _≡_ {A = ℕ} 0 1 = cc in absurd (omega arith)
+
+      -- the next entry is shown
+      pub look-found : equal (look-next .k) name ≡ true → shownPlace (look-next .from + length (look-next .k)) (look-next .x) (look-next .w) ≡ placeOf s name
+      look-found e = sym (next-shown look-next name pos e) ∙ g .is
+
+      -- or the search goes on
+      pub look-on : equal (look-next .k) name ≡ false → Looking s name places (i + 1)
+      look-on e =
+          let n = look-next in
+          let q = rows in
+          let c : length places - (i + 1) ≡ length places - i - 1 = omega arith in
+          let t : drop (suc i) places ≡ keysFrom s outerLevels (length places - i - 1) (entryEnd s outerLevels (g .p)) = cc in
+          record {
+            p = entryEnd s outerLevels (g .p);
+            within = omega arith;
+            ahead = rw (c, next-end n name) (n .others);
+            left = ap (λ (j : ℕ). drop j places) (add-one i) ∙ t ∙ ap (λ (j : ℕ). keysFrom s outerLevels j (entryEnd s outerLevels (g .p))) (sym c);
+            is = rw (c, next-end n name) (sym (next-other n name pos e) ∙ g .is);
+          }
