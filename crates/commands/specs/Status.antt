@@ -1,4 +1,4 @@
--- The status of a run: 0 where the file is accepted or the data were written, 1 where the file is refused, 2 where nothing was produced. No lemma
+-- The status of a run: 0 where the file is accepted or the data were written, 1 where the file or the column is refused, 2 where nothing was produced. No lemma
 -- stands here. Assumes nothing.
 use mathlib.Core.Bool.{Bool, cond}
 use mathlib.Core.List.{List}

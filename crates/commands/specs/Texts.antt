@@ -30,6 +30,6 @@ itemText s p =
     (cond (isFloat (kindAt s p)) (line floatText (bitsAt s p))
     (line (numberText 1) (integerAt s p)))
 
--- where it ends
+-- where the plain value at a place ends
 abbrev pub itemEnd : List ℕ → ℕ → ℕ
 itemEnd s p = cond (isString (kindAt s p)) (textEnd s p) (headEnd s p)

@@ -4,7 +4,7 @@ ghost use Rattle.commands.specs.Status.{descriptorIn, verdictStatus, wri
 use sentences::OfPart;
 use text::Number;
 
-// The file is accepted or the data were written; the file is refused; or nothing was produced.
+// The file is accepted or the data were written; the file or the column is refused; or nothing was produced.
 pub enum Status {
     Done,
     Refused,

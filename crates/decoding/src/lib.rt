@@ -8,7 +8,7 @@ ghost use lib.ListN.{length, drop, replicate};
 ghost use Rattle.columns.specs.Table.{suits};
 ghost use Rattle.columns.specs.Decode.{decode, judgedPayload};
 ghost use Rattle.payloads.specs.Limits.{packedSize};
-ghost use Rattle.payloads.specs.Blocks.{NoLimit, HasPlaces, Stored};
+ghost use Rattle.payloads.specs.Blocks.{NoLimit, HasPlaces, StoredTotals};
 ghost use Rattle.payloads.specs.Results.{paste, Filled, HasRoom, HasResults, Covered, Wrote};
 ghost use Rattle.columns.specs.Buffer.{decodedAnswer};
 ghost use Rattle.decoding.specs.Steps.{namesPayload, charsPayload, isWritten, HasPlain, WrotePart};
@@ -168,18 +168,18 @@ fn put_plain(payload: &[u8], size: Size, n: usize, buffer: &mut [i32])
 }
 
 // How many plain numbers a block has.
-const BLOCK: usize = 65536;
+const PLAIN_BLOCK: usize = 65536;
 
-// Writes n plain numbers in blocks. A loop that stands in a loop begins at a multiple of 16 bytes, and its speed is then the same wherever
-// the function comes to stand.
+// Writes n plain numbers in blocks. The compiler begins the code of a loop within a loop at a multiple of 16 bytes, so that its speed does not
+// depend on where the linker puts the function.
 fn write_plain(payload: &[u8], size: Size, n: usize, buffer: &mut [i32])
     requires { ⌜ HasResults (Form.Plain size) (now payload) n × (n ≤ length (now buffer)) ⌝ }
     ensures { λ r. ⌜ Wrote asNumber (Form.Plain size) false (now (payload .entry)) (now (buffer .entry)) (now (buffer .exit)) ⌝ }
 {
     let mut i: usize = 0;
-    while BLOCK <= n - i {
-        write_part(payload, size, i, i + BLOCK, buffer);
-        i += BLOCK;
+    while PLAIN_BLOCK <= n - i {
+        write_part(payload, size, i, i + PLAIN_BLOCK, buffer);
+        i += PLAIN_BLOCK;
     }
     write_part(payload, size, i, n, buffer);
 }
@@ -199,13 +199,16 @@ fn write_part(payload: &[u8], size: Size, from: usize, to: usize, buffer: &mut [
     }
 }
 
-// Writes the results of packed numbers of one or two bytes, in blocks of sixteen numbers and the rest, by one total: of the result that has
+// How many packed numbers a block has.
+const PACKED_BLOCK: usize = 16;
+
+// Writes the results of packed numbers of one or two bytes, in blocks and the rest, by one total: of the result that has
 // begun, and with delta of those before it too.
 fn write_packed(payload: &[u8], two: bool, delta: bool, buffer: &mut [i32])
     requires { ⌜ HasRoom (Form.Packed (packedSize two)) (now payload) (length (now buffer)) ⌝ }
     ensures { λ r. ⌜ Wrote asNumber (Form.Packed (packedSize two)) delta (now (payload .entry)) (now (buffer .entry)) (now (buffer .exit)) ⌝ }
 {
-    let k = 16 * steps::bytes(payloads::packed_size(two));
+    let k = PACKED_BLOCK * steps::bytes(payloads::packed_size(two));
     let mut i: usize = 0;
     let mut o: usize = 0;
     let mut total: i32 = 0;
@@ -214,7 +217,7 @@ fn write_packed(payload: &[u8], two: bool, delta: bool, buffer: &mut [i32])
         let limits = payloads::limits_of(block, two);
         total = put_block(block, two, delta, limits == 0, total, o, buffer);
         i += k;
-        o += 16 - limits;
+        o += PACKED_BLOCK - limits;
     }
     write_block(&payload[i..], two, delta, false, total, o, buffer);
 }
@@ -231,7 +234,7 @@ fn put_block(
     buffer: &mut [i32],
 ) -> i32
     requires { ⌜ NoLimit (packedSize two) (now block) quick × HasPlaces (packedSize two) (now block) from (length (now buffer)) ⌝ }
-    ensures { λ r. ⌜ Stored (packedSize two) delta (now (block .entry)) begun from (now (buffer .entry)) (now (buffer .exit)) r ⌝ }
+    ensures { λ r. ⌜ StoredTotals (packedSize two) delta (now (block .entry)) begun from (now (buffer .entry)) (now (buffer .exit)) r ⌝ }
 {
     if !quick {
         return write_block(block, two, delta, false, begun, from, buffer);
@@ -254,7 +257,7 @@ fn write_block(
     buffer: &mut [i32],
 ) -> i32
     requires { ⌜ NoLimit (packedSize two) (now block) quick × HasPlaces (packedSize two) (now block) from (length (now buffer)) ⌝ }
-    ensures { λ r. ⌜ Stored (packedSize two) delta (now (block .entry)) begun from (now (buffer .entry)) (now (buffer .exit)) r ⌝ }
+    ensures { λ r. ⌜ StoredTotals (packedSize two) delta (now (block .entry)) begun from (now (buffer .entry)) (now (buffer .exit)) r ⌝ }
 {
     let size = payloads::packed_size(two);
     let k = steps::bytes(size);

@@ -32,16 +32,20 @@ unfoldable pub rowAt : Size → List ℕ → ℕ → ℕ
 rowAt z s zero = 0
 rowAt z s (suc k) = cond (isLimit (upper z) (lower z) (signedAt (widthOf z) s (sizeOf z * k))) (suc (rowAt z s k)) 0
 
+-- no row among k numbers is longer than m
+abbrev pub RowsWithin : ℕ → Bool → List ℕ → ℕ → Type 0
+RowsWithin m two s k = (j : ℕ) → j ≤ k → rowAt (packedSize two) s j ≤ m
+
 -- so many limits in a row, and a number after them, have a sum of 32 bits
 abbrev pub mostLimits : Bool → ℕ
 mostLimits true = 65534
 mostLimits false = 16777214
 
--- no row among k numbers is longer
-abbrev pub Short : Bool → List ℕ → ℕ → Type 0
-Short two s k = (j : ℕ) → j ≤ k → rowAt (packedSize two) s j ≤ mostLimits two
-
--- so many limits, and a number after them, have a sum that is exact in single precision
+-- so many limits in a row, and a number after them, have a sum that is exact in single precision
 abbrev pub exactLimits : Bool → ℕ
 exactLimits true = 510
 exactLimits false = 131070
+
+-- no row is longer where no block of 256 numbers is all limits
+abbrev pub blockRow : ℕ
+blockRow = 510

@@ -17,7 +17,7 @@ ghost use Rattle.columns.specs.Table.{elements};
 ghost use Rattle.payloads.specs.Exact.{exact};
 ghost use Rattle.payloads.specs.Results.{ResultsJudged};
 ghost use Rattle.payloads.specs.Scan.{scanOf, judgesExact, refusalOf};
-ghost use Rattle.payloads.specs.Limits.{packedSize, limitAt, limitsIn, endsAtLimit, mostLimits, exactLimits, Short};
+ghost use Rattle.payloads.specs.Limits.{packedSize, limitAt, limitsIn, endsAtLimit, RowsWithin, mostLimits, exactLimits, blockRow};
 ghost use Rattle.payloads.specs.Blocks.{countIn};
 ghost use Rattle.payloads.specs.Items.{itemAt, outcomeRefusal};
 use steps::Form;
@@ -191,8 +191,8 @@ fn scan_packed(payload: &[u8], size: Size, delta: bool, length: usize) -> Outcom
     Outcome::Fine(exact)
 }
 
-// Scans packed numbers of one or two bytes: their refusal first, and then whether their results are exact, as all are where there are few
-// limits and no delta.
+// Scans packed numbers of one or two bytes: their refusal first, and then whether their results are exact, as all are without delta where the
+// limits stand in short rows.
 fn scan_totals(payload: &[u8], two: bool, delta: bool, length: usize) -> Outcome
     ensures { λ r. ⌜ r ≡ scanOf (Form.Packed (packedSize two)) delta length (readIn (Form.Packed (packedSize two)) (now (payload .entry))) ⌝ }
 {
@@ -200,8 +200,10 @@ fn scan_totals(payload: &[u8], two: bool, delta: bool, length: usize) -> Outcome
     if refused != refusal::ACCEPTED {
         return Outcome::Refused(refused);
     }
-    if !delta & has_few_limits(payload, two, length) {
-        return Outcome::Fine(true);
+    if !delta {
+        if has_short_rows(payload, two, length) {
+            return Outcome::Fine(true);
+        }
     }
     if two {
         return Outcome::Fine(are_exact(payload, true, delta));
@@ -209,12 +211,16 @@ fn scan_totals(payload: &[u8], two: bool, delta: bool, length: usize) -> Outcome
     Outcome::Fine(are_exact(payload, false, delta))
 }
 
-// Whether so few packed numbers are limits that each result without delta is exact. A number that is no limit ends a result, so the limits
-// are the numbers less the results.
-fn has_few_limits(payload: &[u8], two: bool, length: usize) -> bool
-    ensures { λ r. ⌜ r ≡ leb (countIn (packedSize two) (now (payload .entry)) - length) (exactLimits two) ⌝ }
+// Whether it is known that each result without delta is exact: there are few limits, or none of them stand in a long row. A number that is no
+// limit ends a result, so the limits are the numbers less the results.
+fn has_short_rows(payload: &[u8], two: bool, length: usize) -> bool
+    ensures { λ r. ⌜ (r ≡ true → 0 ≡ refusalOf length (readIn (Form.Packed (packedSize two)) (now (payload .entry))) → ResultsJudged (packedSize two) false (now (payload .entry)) true) ⌝ }
 {
-    less(count_of(payload.len(), two), length) <= exact_limits(two)
+    let count = count_of(payload.len(), two);
+    if less(count, length) <= exact_limits(two) {
+        return true;
+    }
+    !has_row(payload, two, count)
 }
 
 // Whether the results of packed numbers are exact, by one total: of the result that has begun, and with delta of those before it too.
@@ -294,7 +300,7 @@ fn count_packed(payload: &[u8], two: bool, length: usize) -> u8
 // Whether it is known that no sum leaves 32 bits: there are few limits, or none of them stand in a long row.
 fn sums_fit(payload: &[u8], two: bool, count: usize, limits: usize) -> bool
     requires { ⌜ (sizeOf (packedSize two) * count ≤ length (now payload)) × (limits ≡ limitsIn (packedSize two) (now payload) 0 count) ⌝ }
-    ensures { λ r. ⌜ (r ≡ true → Short two (now (payload .entry)) count) ⌝ }
+    ensures { λ r. ⌜ (r ≡ true → RowsWithin (mostLimits two) two (now (payload .entry)) count) ⌝ }
 {
     if limits <= most_limits(two) {
         return true;
@@ -305,7 +311,7 @@ fn sums_fit(payload: &[u8], two: bool, count: usize, limits: usize) -> bool
 // Whether one of the blocks is all limits. If none is, a row of limits is shorter than two blocks.
 fn has_row(payload: &[u8], two: bool, count: usize) -> bool
     requires { ⌜ sizeOf (packedSize two) * count ≤ length (now payload) ⌝ }
-    ensures { λ r. ⌜ (r ≡ false → Short two (now (payload .entry)) count) ⌝ }
+    ensures { λ r. ⌜ (r ≡ false → RowsWithin blockRow two (now (payload .entry)) count) ⌝ }
 {
     let mut i: usize = 0;
     while 256 <= count - i {

@@ -154,8 +154,8 @@ pub fn are_names(names: &[u8], size: usize) -> bool
     }
 }
 
-// Whether every byte is ASCII, by the highest of them. Both halves are gone through in one loop, and a last odd byte after it: so the speed
-// depends less on where the loop stands.
+// Whether every byte is ASCII, by the highest of them. One loop goes through both halves at once, and a last odd byte is looked at after it:
+// with more bytes in a turn, it matters less where the linker puts the loop.
 fn are_ascii(bytes: &[u8]) -> bool
     ensures { λ r. ⌜ r ≡ allIn Range.Ascii (map pos (now (bytes .entry))) ⌝ }
 {

@@ -28,7 +28,7 @@ bitsFor z (u ∷ us) = bytesOf (sizeOf z) u ++ bitsFor z us
 unfoldable pub upTo : ℕ → ℕ → ℕ
 upTo room n = cond (leb n room) n (room + 1)
 
--- what a payload holds for the cells after the one at i
+-- what a payload holds for the cells after the one at i, whose own value is taken by its 32 bits, as the code reads it
 abbrev pub cellsAfter : Bool → List ℤ → ℕ → List ℤ
 cellsAfter d xs i = deltasFrom d (toZ w32 (ofZ w32 (getD xs i (pos 0)))) (drop (i + 1) xs)
 

@@ -58,7 +58,8 @@ pub fn place_chars(values: &[u8], buffer: &mut [u8], at: usize) -> Placed
 // How many cells a block has: few enough for their runs to be counted in 32 bits.
 const BLOCK: usize = 65536;
 
-// How many runs there are: one, and one more for each cell that begins another. Those are counted in blocks.
+// How many runs there are: one, one more if the second cell begins another, and one more for each later cell that does. The later ones are
+// counted in blocks; `i` is two before the next cell to be counted.
 fn count_numbers(values: &[i32], delta: bool) -> usize
     ensures { λ r. ⌜ r * 2 ≡ length (runsOf (deltasIf delta (now (values .entry)))) ⌝ }
 {
@@ -79,8 +80,8 @@ fn count_numbers(values: &[i32], delta: bool) -> usize
     n + begun_in(values, delta, i, last - i) as usize + 1
 }
 
-// How many runs `count` cells begin, the first of them two after `from`. Each is compared with the one before it, so that the processor
-// compares several at a time, and counts in 32 bits.
+// How many of `count` cells begin a run; the first of them is the cell at `from` + 2. Each is compared with the one before it in memory, so that
+// the processor compares several at once; 32 bits are enough for the count.
 fn begun_in(values: &[i32], delta: bool, from: usize, count: usize) -> u32
     requires { ⌜ (from + count + 2 ≤ length (now values)) × (count ≤ 65536) ⌝ }
     ensures { λ r. ⌜ BegunIn delta (now (values .entry)) from count r ⌝ }

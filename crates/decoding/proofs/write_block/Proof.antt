@@ -14,7 +14,7 @@ use Rattle.steps.specs.Delta.{plusDelta}
 use Rattle.steps.specs.Packing.{isLimit}
 use Rattle.steps.specs.Laws.Numbers.{size-pos}
 use Rattle.payloads.specs.Limits.{packedSize}
-use Rattle.payloads.specs.Blocks.{countIn, numberIn}
+use Rattle.payloads.specs.Blocks.{countIn, blockNumber}
 use Rattle.payloads.specs.Laws.Blocks.{StoredTo, number-inside, index-inside, number-filled, none-limit, quick-limit, stored-start, stored-length, stored-next}
 use Rattle.decoding.proofs.write_block.Statement.{statement}
 use Rattle.decoding.proofs.write_block.Tie as tie
@@ -51,19 +51,19 @@ has-room c =
     (omega arith, n)
 
 -- the number that was read, and whether it is a limit
-number : (c : tie.After-number-at Inv-loop μ-loop) → toZ w32 (ofZ w32 (c .number-at .result)) ≡ numberIn (packedSize (c .before .before .before .before .before .before .before .args .two)) (c .before .before .before .before .before .before .before .args .block .now) (c .before .before .before .loop .i)
+number : (c : tie.After-number-at Inv-loop μ-loop) → toZ w32 (ofZ w32 (c .number-at .result)) ≡ blockNumber (packedSize (c .before .before .before .before .before .before .before .args .two)) (c .before .before .before .before .before .before .before .args .block .now) (c .before .before .before .loop .i)
 number c =
     let a = c .before .before .before .before .before .before .before .args in
     toZ-ofZ {w = w32} (record { sfits = c .number-at .ok }) ∙ c .number-at .ensures
     ∙ number-filled (packedSize (a .two)) (c .before .before .before .before .before .packed-size .result) (a .block .now) (c .before .before .before .before .bytes .result) (c .before .before .before .loop .i) (c .before .before .before .before .before .packed-size .ensures) (width (c .before .before .before .before)) (left (c .before .before))
 
-limit : (c : tie.After-is-limit Inv-loop μ-loop) → isLimit (upper (packedSize (c .before .before .before .before .before .before .before .before .before .args .two))) (lower (packedSize (c .before .before .before .before .before .before .before .before .before .args .two))) (numberIn (packedSize (c .before .before .before .before .before .before .before .before .before .args .two)) (c .before .before .before .before .before .before .before .before .before .args .block .now) (c .before .before .before .before .before .loop .i)) ≡ (not (c .before .before .before .before .before .before .before .before .before .args .quick) && c .is-limit .result)
+limit : (c : tie.After-is-limit Inv-loop μ-loop) → isLimit (upper (packedSize (c .before .before .before .before .before .before .before .before .before .args .two))) (lower (packedSize (c .before .before .before .before .before .before .before .before .before .args .two))) (blockNumber (packedSize (c .before .before .before .before .before .before .before .before .before .args .two)) (c .before .before .before .before .before .before .before .before .before .args .block .now) (c .before .before .before .before .before .loop .i)) ≡ (not (c .before .before .before .before .before .before .before .before .before .args .quick) && c .is-limit .result)
 limit c =
     let a = c .before .before .before .before .before .before .before .before .before in
     let z = packedSize (a .args .two) in
     let i = c .before .before .before .before .before .loop .i in
     let e = c .is-limit .ensures ∙ ap (λ (y : Size). isLimit (upper y) (lower y) (toZ w32 (ofZ w32 (c .before .before .number-at .result)))) (c .before .before .before .before .before .before .before .packed-size .ensures) ∙ ap (isLimit (upper z) (lower z)) (number (c .before .before)) in
-    sym (ap (λ (l : Bool). not (a .args .quick) && l) e ∙ quick-limit (a .args .quick) (isLimit (upper z) (lower z) (numberIn z (a .args .block .now) i)) (λ q. none-limit z (a .args .block .now) (countIn z (a .args .block .now)) i (a .pre .0 q) (left (c .before .before .before .before))))
+    sym (ap (λ (l : Bool). not (a .args .quick) && l) e ∙ quick-limit (a .args .quick) (isLimit (upper z) (lower z) (blockNumber z (a .args .block .now) i)) (λ q. none-limit z (a .args .block .now) (countIn z (a .args .block .now)) i (a .pre .0 q) (left (c .before .before .before .before))))
 
 -- at most one result ends
 one : (c : tie.After-ended-at Inv-loop μ-loop) → c .ended-at .result ≤ 1

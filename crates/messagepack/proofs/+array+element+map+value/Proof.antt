@@ -175,12 +175,14 @@ abbrev map-μ-loop : map-lts.MeasureT-loop
 map-μ-loop leads file n at depth starts₀ prints₀ base end row₀ p₀ starts prints row p = end - row
 
 map-returns : (t : ℕ) → map-lts.Need-returns (map-claims t) (map-at t) map.Post map-Inv-loop map-μ-loop
-map-returns t c =
-    (record {
-      answer = sym (w.entries-many _ _ _ _ (c .if1 .taken));
-      starts-kept = kept-all _ (c .before .before .pre .1 .starts-long);
-      prints-kept = kept-all _ (c .before .before .pre .1 .prints-long);
-    }, entries-unnoted)
+map-returns t c = (
+  record {
+    answer = sym (w.entries-many _ _ _ _ (c .if1 .taken));
+    starts-kept = kept-all _ (c .before .before .pre .1 .starts-long);
+    prints-kept = kept-all _ (c .before .before .pre .1 .prints-long);
+  },
+  entries-unnoted,
+)
 
 map-mul-base : (t : ℕ) → map-lts.Need-mul-base (map-claims t) (map-at t) map.Post map-Inv-loop map-μ-loop
 map-mul-base t c = omega (arith, c .before .before .pre .1 .levels)
@@ -316,9 +318,11 @@ value-returns-11 t c =
     (walked-in (omega arith) (w.array-at _ _ _ pos kind (sym (c .before .before .before .before .before .before .head-at .ensures .1 (c .before .before .before .before .before .before .before .before .before .before .before .before .pre .1 .table)) ∙ c .before .before .before .before .n .given .1)) (walked-more (c .array .ensures)), no-map Kind.Array refl kind)
 
 value-returns-12 : (t : ℕ) → value-lts.Need-returns-12 (value-claims t) (value-at t) value.Post
-value-returns-12 t c =
-    (unchanged (c .before .before .before .before .before .before .before .before .pre .1)
-    (sym (w.map-cut _ _ _ (pos-of-ne-zero (c .before .before .before .if2 .left)) (sym (c .before .before .before .before .before .before .kind-at .ensures .1 (c .before .before .before .before .before .before .before .before .pre .1 .table)) ∙ c .before .before .before .before .enum-told10 .given .1) (sym (c .before .before .head-at2 .ensures .1 (c .before .before .before .before .before .before .before .before .pre .1 .table)) ∙ c .enum-told11 .given .1))), value-unnoted)
+value-returns-12 t c = (
+  unchanged (c .before .before .before .before .before .before .before .before .pre .1)
+      (sym (w.map-cut _ _ _ (pos-of-ne-zero (c .before .before .before .if2 .left)) (sym (c .before .before .before .before .before .before .kind-at .ensures .1 (c .before .before .before .before .before .before .before .before .pre .1 .table)) ∙ c .before .before .before .before .enum-told10 .given .1) (sym (c .before .before .head-at2 .ensures .1 (c .before .before .before .before .before .before .before .before .pre .1 .table)) ∙ c .enum-told11 .given .1))),
+  value-unnoted,
+)
 
 value-returns-13 : (t : ℕ) → value-lts.Need-returns-13 (value-claims t) (value-at t) value.Post
 value-returns-13 t c =

@@ -1,9 +1,9 @@
--- Where each block has a number that is no limit, no row of limits is long (`broken-more`, `broken-short`).
+-- Where each block has a number that is no limit, no row of limits is long (`broken-more`, `broken-rows`).
 use mathlib.Core.Path.{_≡_, ap, _∙_}
 use Prim.Native.Nat.{ℕ, _-_, _≤_}
 use native.Mathlib.Omega.{arith}
 use Rattle.payloads.specs.Limits.{packedSize, limitsIn}
-use Rattle.payloads.specs.Laws.Limits.{block-within, Broken, broken-start, broken-more, broken-short}
+use Rattle.payloads.specs.Laws.Limits.{block-within, Broken, broken-start, broken-more, broken-rows}
 use Rattle.payloads.proofs.has_row.Statement.{statement}
 use Rattle.payloads.proofs.has_row.Tie as tie
 
@@ -27,7 +27,7 @@ loop-again c =
     (omega arith, broken-more (a .two) (a .payload .now) (p .i) (p .inv .1) (λ q. c .if1 .left (f ∙ q)))
 
 returns-2 : tie.Need-returns-2 Inv-loop μ-loop
-returns-2 c e = let a = c .before .before .before .args in let p = c .before .loop in broken-short (a .two) (a .payload .now) (p .i) (a .count) (p .inv .1) (p .inv .0) (omega (arith, p .inv .0))
+returns-2 c e = let a = c .before .before .before .args in let p = c .before .loop in broken-rows (a .two) (a .payload .now) (p .i) (a .count) (p .inv .1) (p .inv .0) (omega (arith, p .inv .0))
 
 pub has-row-spec : {M : Type 1} → statement M
 has-row-spec =

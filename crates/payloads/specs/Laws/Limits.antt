@@ -1,7 +1,7 @@
 -- Laws of limits among packed numbers: how many there are in blocks, what their bytes are, and what their count says of the results where
 -- no row of them is long. Assumes nothing.
-use mathlib.Core.Path.{_≡_, refl, ap, _∙_}
-use mathlib.Core.Bool.{Bool, true, false, cond}
+use mathlib.Core.Path.{_≡_, refl, sym, ap, _∙_}
+use mathlib.Core.Bool.{Bool, true, false, cond, _&&_}
 use mathlib.Core.List.{List}
 use Prim.Native.Nat.{ℕ, zero, suc, _+_, _-_, _*_, _/_, _%_, _<_, _≤_}
 use native.Mathlib.Nat.{add-zero, mul-zero}
@@ -27,10 +27,14 @@ use Rattle.steps.specs.Payload.{readIn}
 use Rattle.steps.specs.Steps.{turnOf}
 use Rattle.steps.specs.Laws.NumbersBack.{signedAt-fits}
 use Rattle.steps.specs.Laws.Packing.{mag-add, turn-inside}
+use Rattle.steps.specs.Delta.{sumsIf}
+use Rattle.payloads.specs.Exact.{exactLimit, exact, allExact}
+use Rattle.payloads.specs.Results.{ResultsJudged}
 use Rattle.payloads.specs.Scan.{scanOf, refusalOf}
 use Rattle.payloads.specs.Items.{outcomeRefusal}
-use Rattle.payloads.specs.Limits.{packedSize, limitAt, limitsIn, endsAtLimit, rowAt, mostLimits, Short}
-use Rattle.payloads.specs.Laws.Packed.{Unpacked, unpacked-start, unpacked-more, unpacked-done, unpacked-unfinished, unpacked-other, unpacked-all}
+use Rattle.payloads.specs.Limits.{packedSize, limitAt, limitsIn, endsAtLimit, rowAt, RowsWithin, mostLimits, exactLimits, blockRow}
+use Rattle.payloads.specs.Laws.Packed.{Unpacked, unpacked-start, unpacked-more, unpacked-done, unpacked-unfinished, unpacked-whole, unpacked-other, unpacked-all}
+use Rattle.payloads.specs.Laws.Exact.{small-exact}
 use Rattle.payloads.specs.Laws.Refusal.{outcome-scan}
 
 few : (t : Bool) → cond t 1 0 ≤ 1
@@ -134,8 +138,8 @@ module _ (z : Size) (s : List ℕ) where
       by false f h = omega arith
 
 -- few limits are in short rows
-pub short-few : (two : Bool) (s : List ℕ) (k : ℕ) → limitsIn (packedSize two) s 0 k ≤ mostLimits two → Short two s k
-short-few two s k h j l =
+pub rows-few : (m : ℕ) (two : Bool) (s : List ℕ) (k : ℕ) → limitsIn (packedSize two) s 0 k ≤ m → RowsWithin m two s k
+rows-few m two s k h j l =
     let a = row-limits (packedSize two) s j in
     let e : j + (k - j) ≡ k = omega arith in
     let b = ap (limitsIn (packedSize two) s 0) e in
@@ -144,13 +148,13 @@ short-few two s k h j l =
 
 -- no block among i numbers is all limits
 abbrev pub Broken : Bool → List ℕ → ℕ → Type 0
-Broken two s i = (rowAt (packedSize two) s i ≤ 255) × ((j : ℕ) → j ≤ i → rowAt (packedSize two) s j ≤ 511)
+Broken two s i = (rowAt (packedSize two) s i ≤ 255) × RowsWithin blockRow two s i
 
 -- a place in what follows, or before
-row-past : (two : Bool) (s : List ℕ) (i k j : ℕ) → Broken two s i → j ≤ i + k → k ≤ 256 → rowAt (packedSize two) s j ≤ 511
-row-past two s i k j w h l = by (ltb i j) refl
+row-past : (two : Bool) (s : List ℕ) (i j : ℕ) → Broken two s i → j < i + 256 → rowAt (packedSize two) s j ≤ blockRow
+row-past two s i j w h = by (ltb i j) refl
   where
-    by : (t : Bool) → ltb i j ≡ t → rowAt (packedSize two) s j ≤ 511
+    by : (t : Bool) → ltb i j ≡ t → rowAt (packedSize two) s j ≤ blockRow
     by true e =
         let m = ltb-true i j e in
         let q : i + (j - i) ≡ j = omega arith in
@@ -169,14 +173,23 @@ broken-more two s i w q =
     let f = limits-few (packedSize two) s (sizeOf (packedSize two) * i) 256 in
     let l : limitsIn (packedSize two) s (sizeOf (packedSize two) * i) 256 < 256 = omega (arith, q) in
     let a = row-ends (packedSize two) s i 256 l in
-    (omega arith, (λ j h. row-past two s i 256 j w h (omega arith)))
-
-pub broken-short : (two : Bool) (s : List ℕ) (i k : ℕ) → Broken two s i → i ≤ k → k - i < 256 → Short two s k
-broken-short two s i k w h l j m = let a = row-past two s i (k - i) j w (omega arith) (omega arith) in wide two a
+    (omega arith, (λ j h. by (ltb j (i + 256)) refl a h))
   where
-    wide : (t : Bool) → rowAt (packedSize two) s j ≤ 511 → rowAt (packedSize two) s j ≤ mostLimits t
-    wide true a = omega arith
-    wide false a = omega arith
+    by : {j : ℕ} (t : Bool) → ltb j (i + 256) ≡ t → rowAt (packedSize two) s (i + 256) < 256 → j ≤ i + 256 → rowAt (packedSize two) s j ≤ blockRow
+    by {j} true e a h = row-past two s i j w (ltb-true j (i + 256) e)
+    by {j} false e a h = let l = ltb-false j (i + 256) e in let q : j ≡ i + 256 = omega arith in rw q (omega arith)
+
+pub broken-rows : (two : Bool) (s : List ℕ) (i k : ℕ) → Broken two s i → i ≤ k → k - i < 256 → RowsWithin blockRow two s k
+broken-rows two s i k w h l j m = row-past two s i j w (omega arith)
+
+-- rows that are within a bound are within a larger one
+pub rows-most : (two : Bool) (s : List ℕ) (k : ℕ) → RowsWithin blockRow two s k → RowsWithin (mostLimits two) two s k
+rows-most true s k q j l = let a = q j l in omega arith
+rows-most false s k q j l = let a = q j l in omega arith
+
+rows-exact : (two : Bool) (s : List ℕ) (k : ℕ) → RowsWithin blockRow two s k → RowsWithin (exactLimits two) two s k
+rows-exact true s k q j l = let a = q j l in omega arith
+rows-exact false s k q j l = let a = q j l in omega arith
 
 -- The bytes of a limit
 
@@ -258,9 +271,9 @@ module _ (z : Size) (s : List ℕ) where
 
 -- The results, where rows of limits are short
 
--- the numbers before the place are unpacked, and the limits of a result that has begun stand in a row
-abbrev Few : Size → List ℕ → ℕ → ℕ → Bool → ℕ → Type 0
-Few z s at count begun row = (part : ℤ) × (sum : ℤ) × (ok : Bool) × Unpacked z false s at part begun count sum ok × (mag part ≤ lower z * row)
+-- the numbers before the place are unpacked, and the limits of a result that has begun stand in a row; all results are exact where E holds
+abbrev Few : Size → List ℕ → ℕ → ℕ → Bool → ℕ → Type 0 → Type 0
+Few z s at count begun row E = (part : ℤ) × (sum : ℤ) × (ok : Bool) × Unpacked z false s at part begun count sum ok × (mag part ≤ lower z * row) × (E → ok ≡ true)
 
 -- a number more on top of a row
 row-sum : (two : Bool) (m n row : ℕ) → m ≤ lower (packedSize two) * row → n < lower (packedSize two) → row ≤ mostLimits two
@@ -276,10 +289,18 @@ pub no-row : (two : Bool) → mag (pos 0) ≤ lower (packedSize two) * 0
 no-row true = omega arith
 no-row false = omega arith
 
-one-more : (two : Bool) (s : List ℕ) (at count : ℕ) (begun : Bool) (row : ℕ) → Few (packedSize two) s at count begun row → at + sizeOf (packedSize two) ≤ length s → row ≤ mostLimits two → (t : Bool)
-    → isLimit (upper (packedSize two)) (lower (packedSize two)) (signedAt (widthOf (packedSize two)) s at) ≡ t
-    → Few (packedSize two) s (at + sizeOf (packedSize two)) (count + cond t 0 1) t (cond t (suc row) 0)
-one-more two s at count begun row w h l t e = by t e
+-- a number after a short row
+pub near-exact : (two : Bool) (x : ℤ) (row : ℕ) → mag x ≤ lower (packedSize two) * suc row → row ≤ exactLimits two → exact x ≡ true
+near-exact two x row h l = small-exact exactLimit x (omega arith) (by two h l)
+  where
+    by : (t : Bool) → mag x ≤ lower (packedSize t) * suc row → row ≤ exactLimits t → mag x < exactLimit
+    by true a b = omega arith
+    by false a b = omega arith
+
+one-more : (two : Bool) (s : List ℕ) (at count : ℕ) (begun : Bool) (row : ℕ) (E F : Type 0) → Few (packedSize two) s at count begun row E → at + sizeOf (packedSize two) ≤ length s → row ≤ mostLimits two
+    → (F → E × (row ≤ exactLimits two)) → (t : Bool) → isLimit (upper (packedSize two)) (lower (packedSize two)) (signedAt (widthOf (packedSize two)) s at) ≡ t
+    → Few (packedSize two) s (at + sizeOf (packedSize two)) (count + cond t 0 1) t (cond t (suc row) 0) F
+one-more two s at count begun row E F w h l f t e = by t e
   where
     x : ℤ
     x = signedAt (widthOf (packedSize two)) s at
@@ -290,23 +311,26 @@ one-more two s at count begun row w h l t e = by t e
     turned : turnOf (packedSize two) (w .0) x ≡ cond (isLimit (upper (packedSize two)) (lower (packedSize two)) x) (More (w .0 +ℤ x)) (Done (w .0 +ℤ x))
     turned = turn-inside (packedSize two) (w .0) x (let a = mag-add (w .0) x in let b = near .1 in omega arith)
 
-    by : (t : Bool) → isLimit (upper (packedSize two)) (lower (packedSize two)) x ≡ t → Few (packedSize two) s (at + sizeOf (packedSize two)) (count + cond t 0 1) t (cond t (suc row) 0)
+    by : (t : Bool) → isLimit (upper (packedSize two)) (lower (packedSize two)) x ≡ t → Few (packedSize two) s (at + sizeOf (packedSize two)) (count + cond t 0 1) t (cond t (suc row) 0) F
     by true e =
         let q : turnOf (packedSize two) (w .0) x ≡ More (w .0 +ℤ x) = turned ∙ rw e in
         let a = mag-add (w .0) x in
         let b = near .0 in
-        rw (add-zero count) (w .0 +ℤ x, w .1, w .2, unpacked-more (packedSize two) false 0 s at (w .0) begun count (w .1) (w .2) (w .3) h (w .0 +ℤ x) q, omega arith)
+        rw (add-zero count) (w .0 +ℤ x, w .1, w .2, unpacked-more (packedSize two) false 0 s at (w .0) begun count (w .1) (w .2) (w .3) h (w .0 +ℤ x) q, omega arith, (λ y. w .5 (f y .0)))
     by false e =
         let q : turnOf (packedSize two) (w .0) x ≡ Done (w .0 +ℤ x) = turned ∙ rw e in
-        (pos 0, w .0 +ℤ x, _, unpacked-done (packedSize two) false 0 s at (w .0) begun count (w .1) (w .2) (w .3) h (w .0 +ℤ x) (w .0 +ℤ x) q refl, no-row two)
+        let a = mag-add (w .0) x in
+        let b = near .0 in
+        let c : mag (w .0 +ℤ x) ≤ lower (packedSize two) * suc row = omega arith in
+        (pos 0, w .0 +ℤ x, w .2 && exact (w .0 +ℤ x), unpacked-done (packedSize two) false 0 s at (w .0) begun count (w .1) (w .2) (w .3) h (w .0 +ℤ x) (w .0 +ℤ x) q refl, no-row two, (λ y. rw (w .5 (f y .0), near-exact two (w .0 +ℤ x) row c (f y .1))))
 
 -- so many numbers
 abbrev FewAt : Bool → List ℕ → ℕ → Type 0
-FewAt two s k = Few (packedSize two) s (sizeOf (packedSize two) * k) (k - limitsIn (packedSize two) s 0 k) (endsAtLimit (packedSize two) s k) (rowAt (packedSize two) s k)
+FewAt two s k = Few (packedSize two) s (sizeOf (packedSize two) * k) (k - limitsIn (packedSize two) s 0 k) (endsAtLimit (packedSize two) s k) (rowAt (packedSize two) s k) (RowsWithin (exactLimits two) two s k)
 
 few-none : (two : Bool) (s : List ℕ) → FewAt two s 0
 unfolding limitsIn endsAtLimit rowAt
-few-none two s = rw (mul-zero (sizeOf (packedSize two))) (pos 0, pos 0, true, unpacked-start (packedSize two) false s, no-row two)
+few-none two s = rw (mul-zero (sizeOf (packedSize two))) (pos 0, pos 0, true, unpacked-start (packedSize two) false s, no-row two, (λ y. refl))
 
 few-next : (two : Bool) (s : List ℕ) (k : ℕ) → sizeOf (packedSize two) * suc k ≤ length s → rowAt (packedSize two) s k ≤ mostLimits two → FewAt two s k → FewAt two s (suc k)
 few-next two s k h q w =
@@ -314,17 +338,17 @@ few-next two s k h q w =
     let m = limits-next (packedSize two) s k in
     let f = limits-few (packedSize two) s 0 k in
     let n : suc k - limitsIn (packedSize two) s 0 (suc k) ≡ (k - limitsIn (packedSize two) s 0 k) + cond (isLimit (upper (packedSize two)) (lower (packedSize two)) (signedAt (widthOf (packedSize two)) s (sizeOf (packedSize two) * k))) 0 1 = ap (λ (t : ℕ). suc k - t) m ∙ counted (isLimit (upper (packedSize two)) (lower (packedSize two)) (signedAt (widthOf (packedSize two)) s (sizeOf (packedSize two) * k))) (limitsIn (packedSize two) s 0 k) f in
-    rw (p, n, ends-next (packedSize two) s k, row-next (packedSize two) s k) (one-more two s (sizeOf (packedSize two) * k) (k - limitsIn (packedSize two) s 0 k) (endsAtLimit (packedSize two) s k) (rowAt (packedSize two) s k) w (omega arith) q (isLimit (upper (packedSize two)) (lower (packedSize two)) (signedAt (widthOf (packedSize two)) s (sizeOf (packedSize two) * k))) refl)
+    rw (p, n, ends-next (packedSize two) s k, row-next (packedSize two) s k) (one-more two s (sizeOf (packedSize two) * k) (k - limitsIn (packedSize two) s 0 k) (endsAtLimit (packedSize two) s k) (rowAt (packedSize two) s k) (RowsWithin (exactLimits two) two s k) (RowsWithin (exactLimits two) two s (suc k)) w (omega arith) q (λ y. ((λ j l. y j (omega arith)), y k (omega arith))) (isLimit (upper (packedSize two)) (lower (packedSize two)) (signedAt (widthOf (packedSize two)) s (sizeOf (packedSize two) * k))) refl)
   where
     counted : (t : Bool) (m : ℕ) → m ≤ k → suc k - (m + cond t 1 0) ≡ (k - m) + cond t 0 1
     counted true m l = omega arith
     counted false m l = omega arith
 
-few-all : (two : Bool) (s : List ℕ) (k : ℕ) → sizeOf (packedSize two) * k ≤ length s → Short two s k → FewAt two s k
+few-all : (two : Bool) (s : List ℕ) (k : ℕ) → sizeOf (packedSize two) * k ≤ length s → RowsWithin (mostLimits two) two s k → FewAt two s k
 few-all two s zero h q = few-none two s
 few-all two s (suc k) h q = let p = place-next (packedSize two) k in few-next two s k h (q k (omega arith)) (few-all two s k (omega arith) (λ j l. q j (omega arith)))
 
-module _ (two : Bool) (n : ℕ) (s : List ℕ) (k : ℕ) (h : sizeOf (packedSize two) * k ≤ length s) (g : length s - sizeOf (packedSize two) * k < sizeOf (packedSize two)) (q : Short two s k) where
+module _ (two : Bool) (n : ℕ) (s : List ℕ) (k : ℕ) (h : sizeOf (packedSize two) * k ≤ length s) (g : length s - sizeOf (packedSize two) * k < sizeOf (packedSize two)) (q : RowsWithin (mostLimits two) two s k) where
   all : FewAt two s k
   all = few-all two s k h q
 
@@ -346,3 +370,18 @@ module _ (two : Bool) (n : ℕ) (s : List ℕ) (k : ℕ) (h : sizeOf (packedSize
     limits-all f =
         let w = all in
         ap outcomeRefusal (unpacked-all (packedSize two) false n s (sizeOf (packedSize two) * k) (w .0) _ _ (w .1) (w .2) (w .3) g e f) ∙ told
+
+-- results without delta are exact where each row of limits is short
+pub rows-judged : (two d : Bool) (n : ℕ) (s : List ℕ) (k : ℕ) → sizeOf (packedSize two) * k ≤ length s → length s - sizeOf (packedSize two) * k < sizeOf (packedSize two) → d ≡ false
+    → RowsWithin blockRow two s k → 0 ≡ refusalOf n (readIn (Packed (packedSize two)) s) → ResultsJudged (packedSize two) d s true
+rows-judged two d n s k h g f q r l e = by (endsAtLimit (packedSize two) s k) refl
+  where
+    w : FewAt two s k
+    w = few-all two s k h (rows-most two s k q)
+
+    by : (t : Bool) → endsAtLimit (packedSize two) s k ≡ t → true ≡ allExact (sumsIf d l)
+    by true b = let u = limits-unfinished two n s k h g (rows-most two s k q) b ∙ sym r in absurd (omega arith)
+    by false b =
+        let v = unpacked-whole (packedSize two) false n s (sizeOf (packedSize two) * k) (w .0) (endsAtLimit (packedSize two) s k) _ (w .1) (w .2) (w .3) g b in
+        let i : w .3 .0 ≡ l = cc in
+        sym (w .5 (rows-exact two s k q)) ∙ w .3 .4 ∙ rw (f, i)

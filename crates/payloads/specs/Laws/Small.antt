@@ -23,13 +23,12 @@ use Rattle.steps.specs.Laws.Numbers.{length-numbers}
 use Rattle.steps.specs.Laws.NumbersBack.{numbersIn-fit}
 use Rattle.steps.specs.Laws.Packing.{mag-add}
 use Rattle.steps.specs.Laws.Delta.{results-plain}
-use Rattle.payloads.specs.Exact.{exactLimit, exact, allExact}
+use Rattle.payloads.specs.Exact.{allExact}
 use Rattle.payloads.specs.Limits.{packedSize, exactLimits}
 use Rattle.payloads.specs.Blocks.{countIn}
 use Rattle.payloads.specs.Results.{ResultsJudged}
 use Rattle.payloads.specs.Scan.{refusalOf}
-use Rattle.payloads.specs.Laws.Exact.{small-exact}
-use Rattle.payloads.specs.Laws.Limits.{no-row}
+use Rattle.payloads.specs.Laws.Limits.{no-row, near-exact}
 
 module _ (two : Bool) where
   -- a number more on top of limits
@@ -39,14 +38,6 @@ module _ (two : Bool) where
       by : (t : Bool) → mag (x +ℤ y) ≤ suc (mag x + mag y) → mag x ≤ lower (packedSize t) * row → SFits (widthOf (packedSize t)) y → mag (x +ℤ y) ≤ lower (packedSize t) * suc row
       by true a b f = let c = f .sfits in omega arith
       by false a b f = let c = f .sfits in omega arith
-
-  -- few limits and a number after them
-  near-exact : (x : ℤ) (row : ℕ) → mag x ≤ lower (packedSize two) * suc row → row ≤ exactLimits two → exact x ≡ true
-  near-exact x row h l = small-exact exactLimit x (omega arith) (by two h l)
-    where
-      by : (t : Bool) → mag x ≤ lower (packedSize t) * suc row → row ≤ exactLimits t → mag x < exactLimit
-      by true a b = omega arith
-      by false a b = omega arith
 
   -- the results of numbers after a row of limits that have a sum
   abbrev Small : List ℤ → ℕ → List ℤ → Type 0
@@ -69,7 +60,7 @@ module _ (two : Bool) where
           let q : (sum +ℤ x) ∷ t ≡ l = cc in
           let a = g t refl in
           let b = a .0 in
-          rw (← q) (omega arith, (λ k. rw (near-exact (sum +ℤ x) row n (omega arith), a .1 (omega arith))))
+          rw (← q) (omega arith, (λ k. rw (near-exact two (sum +ℤ x) row n (omega arith), a .1 (omega arith))))
 
       by : (a b : Bool) → mag (sum +ℤ x) ≤ lower (packedSize two) * suc row
           → (mag (sum +ℤ x) ≤ lower (packedSize two) * suc row → unpackFrom (upper (packedSize two)) (lower (packedSize two)) (sum +ℤ x) true xs ≡ some l → Small xs (suc row) l)

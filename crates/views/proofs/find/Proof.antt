@@ -21,12 +21,14 @@ slice-aggregate-entry c = sym (length-take-le _ (c .before .before .before .befo
 entry-requires : tie.Need-entry-requires
 entry-requires c κs =
     let s = c .before .before .before .before .before .before .before .before .before .before .before .before .args .file .now in
-    let k = keys-counted s (length (c .before .before .before .before .before .before .before .before .before .no-places .result)) (sym (c .before .before .before .before .n .given .1) ∙ c .before .before .before .before .before .before .before .keys .ensures .0) in
-    (c .before .before .leads .ensures, record {
-      container = container-exactly s (bytes-of _ (λ i. omega (arith, c .before .before .before .before .before .before .before .before .before .before .before .shared-slice-known .given i))) .0 (k .0);
-      passed = k .0;
-      are = ap (take (c .before .before .before .before .n .given .0 .0)) (c .before .before .before .before .before .before .before .keys .ensures .1) ∙ keys-put s (c .before .before .before .before .before .before .before .before .before .no-places .result) (k .1) (k .2);
-    })
+    let k = keys-counted s (length (c .before .before .before .before .before .before .before .before .before .no-places .result)) (sym (c .before .before .before .before .n .given .1) ∙ c .before .before .before .before .before .before .before .keys .ensures .0) in (
+      c .before .before .leads .ensures,
+      record {
+        container = container-exactly s (bytes-of _ (λ i. omega (arith, c .before .before .before .before .before .before .before .before .before .before .before .shared-slice-known .given i))) .0 (k .0);
+        passed = k .0;
+        are = ap (take (c .before .before .before .before .n .given .0 .0)) (c .before .before .before .before .before .before .before .keys .ensures .1) ∙ keys-put s (c .before .before .before .before .before .before .before .before .before .no-places .result) (k .1) (k .2);
+      },
+    )
 
 returns : tie.Need-returns
 returns c =
