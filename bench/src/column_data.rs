@@ -128,11 +128,17 @@ pub const SHAPES: &[Shape] = &[
     usual(11, 100, "b-factors", |rng, n| Integers(factors(rng, n))),
     worst(11, 100, "any number", |rng, n| Integers(any_16(rng, n))),
     usual(12, 100, "b-factors", |rng, n| Integers(factors(rng, n))),
+    usual(12, 100, "one of 100 packed", |rng, n| {
+        Integers(mostly_small(rng, [1_000, 100_000], n))
+    }),
     worst(12, 100, "0 to 7 limits", |rng, n| {
         Integers(limits(rng, 32_767, n))
     }),
     usual(13, 100, "occupancies", |rng, n| {
         Integers(each(rng, n, |rng| *rng.pick(&[100, 100, 100, 50, 62, 38])))
+    }),
+    usual(13, 100, "one of 100 packed", |rng, n| {
+        Integers(mostly_small(rng, [100, 400], n))
     }),
     worst(13, 100, "0 to 7 limits", |rng, n| {
         Integers(limits(rng, 127, n))
