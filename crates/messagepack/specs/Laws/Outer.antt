@@ -2,7 +2,7 @@
 -- Assumes nothing.
 use mathlib.Core.Path.{_≡_, refl, sym, ap, subst, _∙_}
 use mathlib.Core.Bool.{Bool, true, false, cond}
-use mathlib.Core.List.{List, [], _∷_}
+use mathlib.Core.List.{List, [], _∷_, _++_, append-assoc, append-nil}
 use Prim.Native.Nat.{ℕ, zero, suc, _+_, _-_, _<_, _≤_}
 use native.Mathlib.Numerals.{sub-one}
 use native.Mathlib.Omega.{arith}
@@ -18,15 +18,17 @@ use Rattle.heads.specs.Head.{kindAt, headAt}
 use Rattle.heads.specs.declared.Kind.{Kind}
 use Rattle.heads.specs.declared.Head.{Head}
 use Rattle.messagepack.specs.Limits.{fileLimit, nestingLimit, entryLimit}
+use Rattle.heads.specs.Laws.Span.{follows}
 use Rattle.heads.specs.Laws.Head.{head-told}
-use Rattle.messagepack.specs.Document.{size, Writes}
-use Rattle.messagepack.specs.Rules.{Keeps, Container}
+use Rattle.messagepack.specs.Document.{Document, Entries, empty, entry, size, TextOf, Writes, WritesEntries}
+use Rattle.messagepack.specs.Rules.{depth, depthEntries, Keeps, KeepsEntries, Container}
 use Rattle.messagepack.specs.Walk.{keyAt, valueAt, containerNumber}
 use Rattle.messagepack.specs.Outer.{outerLevels, entryEnd, keysFrom, keysOf, keysAnswer, keysLeave}
 use Rattle.messagepack.specs.declared.Walk.{Walk}
 use Rattle.messagepack.specs.declared.Text.{Text}
 use Rattle.messagepack.specs.Laws.Walk as w
 use Rattle.messagepack.specs.Laws.Refused.{Sure, refused, value-sure}
+use Rattle.messagepack.specs.Laws.Complete.{past, text-there, key-there, value-of}
 use Rattle.messagepack.specs.Laws.Container.{container-exactly}
 
 module _ (s : List ℕ) (levels : ℕ) where
@@ -151,3 +153,32 @@ unfolding keysLeave
 keys-put s old {n} e l =
     let h : length (keysOf s) ≤ length old = omega arith in
     rw (e, le-leb (length (keysOf s)) (length old) h) (take-append-seam (keysOf s) (drop (length (keysOf s)) old))
+
+-- The places and the document
+
+-- at each place a key is written, those of the entries in their order
+pub data KeysStand (s : List ℕ) : List ℕ → Entries → Type 0 where
+  none : KeysStand s [] empty
+  stands : {p : ℕ} {ps : List ℕ} {k : List ℕ} {x : Document} {es : Entries} (a r : List ℕ) → TextOf Kind.Str k a → drop p s ≡ a ++ r → KeysStand s ps es → KeysStand s (p ∷ ps) (entry k x es)
+
+keys-from : (s : List ℕ) (es : Entries) (p : ℕ) (x t : List ℕ) → WritesEntries es x → depthEntries es ≤ outerLevels → KeepsEntries es → drop p s ≡ x ++ t → KeysStand s (keysFrom s outerLevels (size es) p) es
+unfolding keysFrom size WritesEntries depth Keeps
+keys-from s empty p x t wr n ky h = none
+keys-from s (entry k d es) p x t wr n ky h =
+    let q : drop p s ≡ wr .a ++ ((wr .u ++ wr .v) ++ t) = past s p (wr .a) (wr .u ++ wr .v) t x (wr .is) h in
+    let g = text-there s Kind.Str k (wr .a) ((wr .u ++ wr .v) ++ t) p (wr .key) q in
+    let f : drop (p + length (wr .a)) s ≡ wr .u ++ (wr .v ++ t) = follows s p (wr .a) ((wr .u ++ wr .v) ++ t) q ∙ append-assoc (wr .u) (wr .v) t in
+    let v : valueAt s outerLevels (p + length (wr .a)) ≡ Walk.End (p + length (wr .a) + length (wr .u)) = value-of s d (wr .u) outerLevels (p + length (wr .a)) (wr .v ++ t) (wr .first) (omega arith) (ky .1) f in
+    let e : entryEnd s outerLevels p ≡ p + length (wr .a) + length (wr .u) = entry-end s outerLevels p (key-there s k p (p + length (wr .a)) (p + length (wr .key .h)) g (ky .0)) (ap (valueAt s outerLevels) (g .end) ∙ v) in
+    let rest = keys-from s es (p + length (wr .a) + length (wr .u)) (wr .v) t (wr .rest) (omega arith) (ky .2) (follows s (p + length (wr .a)) (wr .u) (wr .v ++ t) f) in
+    stands (wr .a) ((wr .u ++ wr .v) ++ t) (wr .key) q (subst (λ (i : ℕ). KeysStand s (keysFrom s outerLevels (size es) i) es) (sym e) rest)
+
+-- the places of the outer keys are those of the document's keys
+pub keys-stand : (s : List ℕ) → Bytes s → (c : Container s) → KeysStand s (keysOf s) (c .entries)
+unfolding Writes depth Keeps
+keys-stand s bytes c =
+    let w = c .writes in
+    let h = head-told s 0 (w .v) (w .head) (w .is) .head in
+    let z = container-exactly s bytes .1 c in
+    let n = c .nested in
+    subst (λ (ps : List ℕ). KeysStand s ps (c .entries)) (sym (keys-are s z h)) (keys-from s (c .entries) (0 + length (w .h)) (w .v) [] (w .body) (omega arith) (c .keeps .2) (follows s 0 (w .h) (w .v) (w .is) ∙ sym (append-nil (w .v))))
