@@ -97,11 +97,11 @@ pub record MapNoted (s : List ℕ) (levels n at : ℕ) (starts : List ℕ) : Typ
   pub few : n ≤ entryLimit
   pub places : take n (drop (levels * entryLimit) starts) ≡ keysFrom s levels n at
 
--- so it is after n entries that end
+-- if n entries end, the rows of their level have the places of their keys
 pub record EntriesNoted (s : List ℕ) (levels n at : ℕ) (r : Walk) (starts : List ℕ) : Type 0 where
   pub says : (e : ℕ) → r ≡ Walk.End e → MapNoted s levels n at starts
 
--- and after a map that ends
+-- if the value at a place is a map and ends, the rows of its level have the places of its keys
 pub record ValueNoted (s : List ℕ) (depth at : ℕ) (r : Walk) (starts : List ℕ) : Type 0 where
   pub says : (n p e : ℕ) → kindAt s at ≡ Kind.Map → headAt s at ≡ Head.At n p → r ≡ Walk.End e → MapNoted s (depth - 1) n p starts
 

@@ -1,7 +1,7 @@
 // The container of a file: one walk from the first byte, which refuses with the numbers 1 to 11 in the order of paper 01, or finds that the
 // file is a writing of a map within the limits. Values, arrays and maps are walked by functions that call each other, the levels left falling.
 // The keys of the maps that are open stand in two tables that are made once for a walk: where each starts, and a print of it to compare first.
-// Where the outer keys start is handed over, so that nobody walks a file again to find them.
+// The places of the outer keys are handed over, so that nothing walks a file again to find them.
 ghost use mathlib.Core.Path.{_≡_};
 ghost use mathlib.Core.Logic.{_↔_};
 ghost use mathlib.Core.Bool.{true, false};
@@ -428,7 +428,7 @@ fn no_keys() -> [u32; KEY_ROWS]
     [0u32; KEY_ROWS]
 }
 
-// The value at a place, with so many levels left. It leaves alone the rows of the maps that are open; a map's own keys stand in its rows then.
+// The value at a place, with so many levels left. It leaves alone the rows of the maps that are open. After a map, its own rows have the places of its keys.
 fn value(
     leads: &[u8; 256],
     file: &[u8],
