@@ -17,8 +17,8 @@
  * - An out parameter points to an object of its type, which is not another out parameter and not part of what is read or of
  *   the buffer.
  * - Floats are rounded to nearest, as they are when a C program starts: mmtf_decode_float32 and mmtf_cell divide.
- * - There is room on the stack: 96 KiB are enough for every call. The most that was measured is 60 KiB for mmtf_verdict,
- *   mmtf_fields and mmtf_write_receipt, and 29 KiB for every other call.
+ * - There is room on the stack: 96 KiB are enough for every call. The most that was measured is 38 KiB for mmtf_fields,
+ *   36 KiB for mmtf_verdict and mmtf_write_receipt, and 31 KiB for every other call.
  */
 #ifndef MMTF_H
 #define MMTF_H
