@@ -5,7 +5,6 @@ use Prim.Native.Nat.{ℕ, _+_, _-_, _*_, _≤_}
 use native.Mathlib.Omega.{arith}
 use lib.ListN.{length, getD, take, drop, set, length-set, length-drop}
 use lib.Seq.{getD-drop}
-use borrow.Author.Needs.{needs}
 use Rattle.messagepack.specs.Limits.{entryLimit}
 use Rattle.messagepack.specs.Outer.{outerLevels}
 use Rattle.messagepack.specs.Keys.{tableLength}

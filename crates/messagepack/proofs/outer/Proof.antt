@@ -1,5 +1,5 @@
 -- Each case of the walk is a case of `ended`; the tables are as long as a walk asks, and the rows of a map that ends have the places of its keys.
-use mathlib.Core.Path.{_≡_, sym, ap, _∙_}
+use mathlib.Core.Path.{sym, ap, _∙_}
 use mathlib.Core.List.{List}
 use Prim.Native.Nat.{ℕ}
 use native.Mathlib.Omega.{arith}

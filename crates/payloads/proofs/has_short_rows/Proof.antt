@@ -1,5 +1,5 @@
 -- The limits are what is more than the results: few of them leave every result exact (`few-judged`), and so do short rows (`rows-judged`).
-use mathlib.Core.Path.{_≡_, refl, sym, ap, _∙_}
+use mathlib.Core.Path.{refl, sym, ap, _∙_}
 use Prim.Native.Nat.{ℕ, _-_, _*_, _<_, _≤_}
 use native.Mathlib.Omega.{arith}
 use lib.ListN.{length}

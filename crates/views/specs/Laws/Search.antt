@@ -53,15 +53,6 @@ outer-of {s} c =
       ahead = record { entries = c .entries; writes = rw d (wr .body); counts = refl; nested = omega arith; keeps = c .keeps .2 };
     }
 
--- the entries of a container are ahead after the head that is read first
-pub ahead-first : {s : List ℕ} {n p : ℕ} → Container s → headAt s 0 ≡ Head.At n p → Ahead s n p
-ahead-first {s} {n} {p} c g =
-    let o = outer-of c in
-    let t = o .there in
-    let m : n ≡ size (c .entries) = cc in
-    let i : p ≡ length (o .h) = cc in
-    rw (m, i) (o .ahead)
-
 -- the next of the entries ahead: its key is read, its value stands after that, and the others follow
 pub record Next (s : List ℕ) (left p : ℕ) : Type 0 where
   pub k : List ℕ
@@ -130,12 +121,7 @@ module _ (s name : List ℕ) where
   entry-step zero p pos h = absurd (omega arith)
   entry-step (suc n) p pos h = let e : suc n - 1 ≡ n = omega arith in rw (h, e)
 
-  -- a head that is cut short ends the search, and so does the last entry
-
-  pub entry-cut : (left p : ℕ) → headAt s p ≡ Head.Cut → Place.Refused noSuchField ≡ entryPlace s name left p
-  unfolding entryPlace
-  entry-cut zero p h = refl
-  entry-cut (suc n) p h = rw h
+  -- the last entry ends the search
 
   pub entry-last : (left p : ℕ) → left ≡ 0 → Place.Refused noSuchField ≡ entryPlace s name left p
   unfolding entryPlace
