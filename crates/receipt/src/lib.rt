@@ -1,16 +1,16 @@
 // Receipts: what a lab is billed by. One is written for a file, whatever its bytes, and shows one unit exactly when the file is accepted; and one is
-// read back from bytes that are a receipt by the rules of paper 01.
+// read back from bytes that are a receipt by the rules of paper 01, or found at a place of bytes that go on.
 ghost use mathlib.Core.Path.{_≡_};
 ghost use Prim.Native.Nat.{ℕ};
-ghost use lib.ListN.{length, set, take, replicate};
-ghost use lib.Seq.{sets};
+ghost use lib.ListN.{length, take, drop};
 ghost use Rattle.numbers.specs.Ranges.{within};
 ghost use Rattle.text.specs.Put.{Put};
 ghost use Rattle.receipt.specs.Receipt.{pageRoom, numbered, acceptedRight, refusedRight, line, written, rulesKept};
 ghost use Rattle.structure.specs.Summary.{summaryOf};
 ghost use Rattle.receipt.specs.File.{unitsOf, receiptBy, Receipted, receiptAnswer, receiptBuffer};
-ghost use Rattle.receipt.specs.Reading.{withByte, receiptFrom, readingOf, lineNumbers};
-ghost use Rattle.receipt.specs.Steps.{countsLines, firstLines, lastLines};
+ghost use Rattle.text.specs.Decimal.{isDigit};
+ghost use Rattle.receipt.specs.Reading.{readingOf, foundAt};
+ghost use Rattle.receipt.specs.Steps.{countsLines, firstLines, lastLines, noLine, takesDigit, digitsAt, numberAt, lineAt};
 use refusal::Answer;
 
 // The last station and job.
@@ -26,6 +26,9 @@ const COUNT_LIMIT: u32 = counts::COUNT_LIMIT as u32;
 const FIELDS_LEAST: u32 = fields::REQUIRED_FIELDS as u32;
 
 const FIELDS_MOST: u32 = fields::FIELD_COUNT as u32;
+
+// The bytes of the longest receipt.
+pub const RECEIPT_LIMIT: usize = 128;
 
 // Room on a page for ten lines: their names, signs and line feeds, 76 bytes, and ten digits for each number.
 const ROOM: usize = 176;
@@ -48,6 +51,18 @@ pub struct Receipt {
 pub enum Reading {
     Numbers(Receipt),
     Refused(u8),
+}
+
+// What stands at a place of bytes: a receipt, and where it ends; or none.
+pub enum Found {
+    At(Receipt, usize),
+    None,
+}
+
+// A line of a receipt: its number, and the place after it.
+pub struct Line {
+    pub number: u32,
+    pub end: usize,
 }
 
 // Writes the receipt of a file into the buffer: 29 for a station or a job out of range, then 25. A refused file gets its receipt too.
@@ -101,82 +116,117 @@ fn units_of(verdict: u8) -> u32
 pub fn read(bytes: &[u8]) -> Reading
     ensures { λ r. ⌜ r ≡ readingOf (now (bytes .entry)) ⌝ }
 {
-    if ROOM < bytes.len() {
+    let Found::At(receipt, end) = find(bytes, 0) else {
         return Reading::Refused(refusal::RECEIPT_MALFORMED);
-    }
-    let numbers = numbers_in(bytes);
-    let receipt = from_numbers(&numbers);
-    if !is_allowed(receipt) {
-        return Reading::Refused(refusal::RECEIPT_MALFORMED);
-    }
-    let mut page = blank();
-    let end = put_receipt(&mut page, receipt);
-    if !text::same_bytes(&page[..end], bytes) {
+    };
+    if end != bytes.len() {
         return Reading::Refused(refusal::RECEIPT_MALFORMED);
     }
     Reading::Numbers(receipt)
 }
 
-// The numbers at the ends of the first ten lines, whatever the lines are: those of a receipt, if the bytes are one.
-fn numbers_in(bytes: &[u8]) -> [u32; 10]
-    ensures { λ r. ⌜ r ≡ sets (replicate 10 0) 0 (lineNumbers (now (bytes .entry)) 0) ⌝ }
+// The receipt that stands at a place, whatever follows it, and where it ends; none where no receipt stands there.
+pub fn find(bytes: &[u8], at: usize) -> Found
+    ensures { λ r. ⌜ r ≡ foundAt (now (bytes .entry)) at ⌝ }
 {
-    let mut numbers = [0u32; 10];
-    let mut line: usize = 0;
-    let mut number: u32 = 0;
-    let mut i: usize = 0;
+    let station = line_at(bytes, at, b"station=");
+    let job = line_at(bytes, station.end, b"job=");
+    let verdict = line_at(bytes, job.end, b"verdict=");
+    let models = line_at(bytes, verdict.end, b"models=");
+    let chains = line_at(bytes, models.end, b"chains=");
+    let groups = line_at(bytes, chains.end, b"groups=");
+    let atoms = line_at(bytes, groups.end, b"atoms=");
+    let bonds = line_at(bytes, atoms.end, b"bonds=");
+    let fields = line_at(bytes, bonds.end, b"fields=");
+    let units = line_at(bytes, fields.end, b"units=");
+    let receipt = Receipt {
+        station: station.number,
+        job: job.number,
+        verdict: verdict.number,
+        models: models.number,
+        chains: chains.number,
+        groups: groups.number,
+        atoms: atoms.number,
+        bonds: bonds.number,
+        fields: fields.number,
+        units: units.number,
+    };
+    if !is_allowed(receipt) {
+        return Found::None;
+    }
+    Found::At(receipt, units.end)
+}
+
+// The line at a place that begins with a word: its number, and the place after it. Where there is no such line, the number is one that no receipt has.
+fn line_at(bytes: &[u8], at: usize, word: &[u8]) -> Line
+    ensures { λ r. ⌜ r ≡ lineAt (now (word .entry)) (now (bytes .entry)) at ⌝ }
+{
+    if !text::stands_at(bytes, at, word) {
+        return no_line();
+    }
+    number_at(bytes, at + word.len())
+}
+
+// The number in decimal at a place with a line feed after it, and the place after that.
+fn number_at(bytes: &[u8], at: usize) -> Line
+    ensures { λ r. ⌜ r ≡ numberAt (drop at (now (bytes .entry))) at ⌝ }
+{
+    if bytes.len() <= at {
+        return no_line();
+    }
+    let byte = bytes[at];
+    if !is_digit(byte) {
+        return no_line();
+    }
+    digits_at(bytes, at + 1, numbers::u8_to_u32(byte - b'0'))
+}
+
+// The number that goes on at a place after digits that say `number`: further digits up to a line feed. There is none after a leading zero, and none
+// of more than nine digits.
+fn digits_at(bytes: &[u8], at: usize, number: u32) -> Line
+    ensures { λ r. ⌜ r ≡ digitsAt (drop at (now (bytes .entry))) number at ⌝ }
+{
+    let mut said = number;
+    let mut i = at;
     while i < bytes.len() {
         let byte = bytes[i];
         if byte == b'\n' {
-            store(&mut numbers, line, number);
-            line += 1;
-            number = 0;
-        } else {
-            number = with_byte(number, byte);
+            return Line {
+                number: said,
+                end: i + 1,
+            };
         }
+        if !takes_digit(said, byte) {
+            return no_line();
+        }
+        said = said * 10 + numbers::u8_to_u32(byte - b'0');
         i += 1;
     }
-    numbers
+    no_line()
 }
 
-// Stores the number of a line; those of lines past the tenth are left out.
-fn store(numbers: &mut [u32], line: usize, number: u32)
-    ensures { λ r. ⌜ now (numbers .exit) ≡ set (now (numbers .entry)) line number ⌝ }
+// What stands for a line that is not there.
+fn no_line() -> Line
+    ensures { λ r. ⌜ r ≡ noLine ⌝ }
 {
-    if line < numbers.len() {
-        numbers[line] = number;
+    Line {
+        number: u32::MAX,
+        end: 0,
     }
 }
 
-// A number with one digit more; as it was where the byte is no digit.
-fn with_byte(number: u32, byte: u8) -> u32
-    ensures { λ r. ⌜ r ≡ withByte number byte ⌝ }
+// Whether a byte is a digit that can follow those of a number.
+fn takes_digit(number: u32, byte: u8) -> bool
+    ensures { λ r. ⌜ r ≡ takesDigit number byte ⌝ }
 {
-    if byte < b'0' {
-        return number;
-    }
-    if b'9' < byte {
-        return number;
-    }
-    text::with_digit(number, byte - b'0')
+    numbers::both(is_digit(byte), is_within(1, 99_999_999, number))
 }
 
-// Ten numbers as a receipt's.
-fn from_numbers(numbers: &[u32; 10]) -> Receipt
-    ensures { λ r. ⌜ r ≡ receiptFrom (now (numbers .entry)) ⌝ }
+// Whether a byte is a decimal digit.
+fn is_digit(byte: u8) -> bool
+    ensures { λ r. ⌜ r ≡ isDigit byte ⌝ }
 {
-    Receipt {
-        station: numbers[0],
-        job: numbers[1],
-        verdict: numbers[2],
-        models: numbers[3],
-        chains: numbers[4],
-        groups: numbers[5],
-        atoms: numbers[6],
-        bonds: numbers[7],
-        fields: numbers[8],
-        units: numbers[9],
-    }
+    numbers::both(b'0' <= byte, byte <= b'9')
 }
 
 // Whether the numbers are those of a receipt.
@@ -283,7 +333,7 @@ fn put_last(page: &mut [u8], at: usize, receipt: Receipt) -> usize
 }
 
 // Puts a line: a name, an equals sign, a number in decimal and a line feed.
-fn put_line(page: &mut [u8], at: usize, name: &[u8], number: u32) -> usize
+pub fn put_line(page: &mut [u8], at: usize, name: &[u8], number: u32) -> usize
     ensures { λ r. ⌜ Put (now (page .entry)) at (line (now (name .entry)) number) (now (page .exit)) r ⌝ }
 {
     let sign = text::put(page, at, name);

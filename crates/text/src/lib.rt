@@ -1,8 +1,9 @@
-// Bytes as text: whether two strings of bytes are the same, text put into a lent buffer, one piece after the other, and decimal words read as
-// numbers. Every call is total: of what goes beyond the buffer's end nothing is put.
+// Bytes as text: whether two strings of bytes are the same, whether a word stands at a place, text put into a lent buffer, one piece after the
+// other, and decimal words read as numbers. Every call is total: of what goes beyond the buffer's end nothing is put.
 ghost use mathlib.Core.Path.{_≡_};
 ghost use mathlib.Core.List.{[], _∷_};
-ghost use Rattle.text.specs.Equal.{equal};
+ghost use lib.ListN.{length, drop};
+ghost use Rattle.text.specs.Equal.{equal, begins};
 ghost use Rattle.text.specs.Put.{Put};
 ghost use Rattle.text.specs.Decimal.{glyph, decimal, withDigit, numberIn};
 
@@ -27,6 +28,20 @@ pub fn same_bytes(x: &[u8], y: &[u8]) -> bool
         i += 1;
     }
     true
+}
+
+// Whether a word stands at a place of bytes.
+pub fn stands_at(bytes: &[u8], at: usize, word: &[u8]) -> bool
+    ensures { λ r. ⌜ r ≡ begins (now (word .entry)) (drop at (now (bytes .entry))) ⌝ }
+{
+    if bytes.len() <= at {
+        return word.len() == 0;
+    }
+    if bytes.len() - at < word.len() {
+        return false;
+    }
+    let end = at + word.len();
+    same_bytes(&bytes[at..end], word)
 }
 
 // Puts a byte at a place, and gives the place after it.
@@ -62,6 +77,19 @@ pub fn put_decimal(buffer: &mut [u8], at: usize, number: u32) -> usize
     }
     let next = put_decimal(buffer, at, number / 10);
     put_byte(buffer, next, digit(number % 10))
+}
+
+// How many digits a number has in decimal.
+pub fn digit_count(number: u32) -> usize
+    ensures { λ r. ⌜ r ≡ length (decimal number) ⌝ }
+{
+    let mut rest = number;
+    let mut count: usize = 1;
+    while 10 <= rest {
+        rest = rest / 10;
+        count += 1;
+    }
+    count
 }
 
 // The last digit of a number in base 16, in ASCII.

@@ -42,6 +42,16 @@ unfolding decimal
 decimal-more n h r =
     decimal-last 9 n h r ∙ ap (λ (d : ℕ). decimalIn 9 (n / 10) ++ (d ∷ [])) (sym (glyph-digit (n % 10) (omega arith)))
 
+-- a digit after those of a number other than 0
+pub decimal-digit : (n b : ℕ) → 1 ≤ n → n ≤ 99999999 → 48 ≤ b → b ≤ 57 → decimal (n * 10 + (b - 48)) ≡ decimal n ++ (b ∷ [])
+decimal-digit n b l h p q =
+    let m : ℕ = n * 10 + (b - 48) in
+    let tenth : (n * 10 + (b - 48)) / 10 ≡ n = omega arith in
+    let last : (n * 10 + (b - 48)) % 10 ≡ b - 48 = omega arith in
+    let digit : 48 + (b - 48) ≡ b = omega arith in
+    decimal-more (n * 10 + (b - 48)) (omega arith) (omega arith)
+    ∙ rw (tenth, last, glyph-digit (b - 48) (omega arith), digit)
+
 -- a digit more at the end
 value-last : (s : List ℕ) (n d : ℕ) → valueFrom n (s ++ (d ∷ [])) ≡ valueFrom n s * 10 + (d - 48)
 unfolding valueFrom
@@ -77,6 +87,13 @@ decimalIn-few (suc k) n = by (ltb n 10) (decimalIn-few k (n / 10))
 pub decimal-few : (n : ℕ) → length (decimal n) ≤ 10
 unfolding decimal
 decimal-few n = decimalIn-few 9 n
+
+-- one digit, or one more than a tenth has
+pub digits-one : (n : ℕ) → n < 10 → length (decimal n) ≡ 1
+digits-one n h = ap length (decimal-one n h)
+
+pub digits-more : (n : ℕ) → 10 ≤ n → n < 10000000000 → length (decimal n) ≡ length (decimal (n / 10)) + 1
+digits-more n h l = ap length (decimal-more n h l) ∙ length-append (decimal (n / 10)) (glyph (n % 10) ∷ [])
 
 -- a larger number stays larger with digits after it
 most-from : (s : List ℕ) (n : ℕ) → n ≤ valueFrom n s

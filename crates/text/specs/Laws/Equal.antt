@@ -1,15 +1,15 @@
 -- Laws of the test of equal bytes: it tells what is equal, and what is left from a place on decides. Assumes nothing.
-use mathlib.Core.Path.{_≡_, refl, ap, ap₂}
+use mathlib.Core.Path.{_≡_, refl, sym, ap, ap₂, _∙_}
 use mathlib.Core.Bool.{Bool, true, false, _&&_}
-use mathlib.Core.List.{List, [], _∷_}
+use mathlib.Core.List.{List, [], _∷_, _++_}
 use Prim.Native.Nat.{ℕ, _+_, _<_, _≤_}
 use native.Mathlib.Numerals.{add-one}
 use native.Mathlib.Omega.{arith}
 use lib.Dec.{eqb}
-use lib.ListN.{length, getD, drop, drop-of-length-le}
-use lib.Seq.{drop-cons}
+use lib.ListN.{length, getD, take, drop, drop-of-length-le, length-take, length-drop, take-append-drop}
+use lib.Seq.{drop-cons, take-nil, take-append-seam}
 use borrow.Author.Tests.{eqb-true, eq-eqb, ne-eqb}
-use Rattle.text.specs.Equal.{equal}
+use Rattle.text.specs.Equal.{equal, begins}
 
 pub equal-true : (x y : List ℕ) → equal x y ≡ true → x ≡ y
 unfolding equal
@@ -55,3 +55,32 @@ module _ (x y : List ℕ) (i : ℕ) (lx : i < length x) (ly : i < length y) wher
 pub equal-end : (x y : List ℕ) (i : ℕ) → length x ≤ i → length y ≤ i → equal (drop i x) (drop i y) ≡ true
 unfolding equal
 equal-end x y i lx ly = rw (drop-of-length-le x lx, drop-of-length-le y ly)
+
+-- begins
+
+-- a word and anything after it begin with the word
+pub begins-append : (word rest : List ℕ) → begins word (word ++ rest) ≡ true
+begins-append word rest = rw (take-append-seam word rest) (equal-refl word)
+
+-- bytes that begin with a word are the word and what is left
+pub begins-true : (word bytes : List ℕ) → begins word bytes ≡ true → bytes ≡ word ++ drop (length word) bytes
+begins-true word bytes h =
+    sym (take-append-drop (length word) bytes) ∙ ap (λ (l : List ℕ). l ++ drop (length word) bytes) (equal-true (take (length word) bytes) word h)
+
+-- no bytes begin with the empty word alone
+begins-none : (word s : List ℕ) (at : ℕ) → length s ≤ at → begins word (drop at s) ≡ equal [] word
+begins-none word s at h = rw (drop-of-length-le s h, take-nil)
+
+-- a word that is longer than what is left does not stand there
+pub begins-long : (word s : List ℕ) (at : ℕ) → length (drop at s) < length word → begins word (drop at s) ≡ false
+begins-long word s at h = equal-lengths (take (length word) (drop at s)) word (λ e. omega (arith, length-take (length word) (drop at s)))
+
+-- whether a word is empty, by its length
+empty-test : (word : List ℕ) → eqb (length word) 0 ≡ equal [] word
+unfolding equal
+empty-test [] = refl
+empty-test (b ∷ word) = ne-eqb (length (b ∷ word)) 0 (λ e. omega arith)
+
+-- past the end only the empty word stands
+pub begins-past : (word s : List ℕ) (at : ℕ) → length s ≤ at → eqb (length word) 0 ≡ begins word (drop at s)
+begins-past word s at h = empty-test word ∙ sym (begins-none word s at h)
