@@ -6,7 +6,7 @@ use Prim.Native.Nat.{ℕ}
 use Prim.Native.String as Text
 use lib.Dec.{eqb}
 use lib.ListN.{length}
-use Rattle.refusal.specs.Table.{accepted, fileOverLimit, cutShort, leadByteUnknown, unsignedTooLarge, stringNotUtf8, nestedTooDeep, tooManyEntries, keyNotString, keyRepeated, outerNotMap, bytesAfter, fieldMissing, fieldType, columnShort, codecUnknown, headerRange, payloadSize, numberNotAllowed, lengthDiffers, countsDisagree, indexOutside, valueOutside, tooManyGroupTypes, versionNot1, bufferTooSmall, noSuchField, notExact, noSuchEntry, receiptMalformed}
+use Rattle.refusal.specs.Table.{accepted, fileOverLimit, cutShort, leadByteUnknown, unsignedTooLarge, stringNotUtf8, nestedTooDeep, tooManyEntries, keyNotString, keyRepeated, outerNotMap, bytesAfter, fieldMissing, fieldType, columnShort, codecUnknown, headerRange, payloadSize, numberNotAllowed, lengthDiffers, countsDisagree, indexOutside, valueOutside, tooManyGroupTypes, versionNot1, bufferTooSmall, noSuchField, notExact, noSuchEntry, receiptMalformed, jobNotRising}
 use Rattle.refusal.specs.Answer.{answered, leaves}
 use Rattle.refusal.specs.declared.Answer.{Answer}
 use Rattle.refusal.specs.declared.Answer.the-variants.{Refused}
@@ -52,6 +52,7 @@ meanings =
     ∷ says notExact "a number is not exact in single precision"
     ∷ says noSuchEntry "there is no such entry"
     ∷ says receiptMalformed "the receipt is malformed"
+    ∷ says jobNotRising "the job number does not rise within its station"
     ∷ []
 
 -- whether a row has a number

@@ -62,7 +62,8 @@ pub fn put_meaning(buffer: &mut [u8], at: usize, number: u8) -> usize
         \x1athere is no such field\n\
         \x1ba number is not exact in single precision\n\
         \x1cthere is no such entry\n\
-        \x1dthe receipt is malformed\n",
+        \x1dthe receipt is malformed\n\
+        \x1ethe job number does not rise within its station\n",
         number as u32,
     );
     text::put(buffer, at, words)

@@ -1,8 +1,9 @@
--- The table of refusal numbers of paper 01: what the contracts of this crate and of those above it cite. Each row is its meaning in
--- the paper's words, its name and its number. No lemma stands here: the laws are in Laws/Table.antt. Assumes nothing.
+-- The table of refusal numbers: the thirty of paper 01, and from 30 on those that paper 02 adds. The contracts of this crate and of those
+-- above it cite it. Each row is its meaning in the paper's words, its name and its number. No lemma stands here: the laws are in
+-- Laws/Table.antt. Assumes nothing.
 use Prim.Native.Nat.{ℕ}
 use Rattle.refusal.specs.declared.Refusal.{Refusal}
-use Rattle.refusal.specs.declared.Refusal.the-variants.{Accepted, FileOverLimit, CutShort, LeadByteUnknown, UnsignedTooLarge, StringNotUtf8, NestedTooDeep, TooManyEntries, KeyNotString, KeyRepeated, OuterNotMap, BytesAfter, FieldMissing, FieldType, ColumnShort, CodecUnknown, HeaderRange, PayloadSize, NumberNotAllowed, LengthDiffers, CountsDisagree, IndexOutside, ValueOutside, TooManyGroupTypes, VersionNot1, BufferTooSmall, NoSuchField, NotExact, NoSuchEntry, ReceiptMalformed}
+use Rattle.refusal.specs.declared.Refusal.the-variants.{Accepted, FileOverLimit, CutShort, LeadByteUnknown, UnsignedTooLarge, StringNotUtf8, NestedTooDeep, TooManyEntries, KeyNotString, KeyRepeated, OuterNotMap, BytesAfter, FieldMissing, FieldType, ColumnShort, CodecUnknown, HeaderRange, PayloadSize, NumberNotAllowed, LengthDiffers, CountsDisagree, IndexOutside, ValueOutside, TooManyGroupTypes, VersionNot1, BufferTooSmall, NoSuchField, NotExact, NoSuchEntry, ReceiptMalformed, JobNotRising}
 
 -- accepted
 abbrev pub accepted : ℕ
@@ -124,6 +125,10 @@ noSuchEntry = 28
 abbrev pub receiptMalformed : ℕ
 receiptMalformed = 29
 
+-- job not rising
+abbrev pub jobNotRising : ℕ
+jobNotRising = 30
+
 -- the number of a meaning
 abbrev pub refusalNumber : Refusal → ℕ
 refusalNumber Accepted = accepted
@@ -156,3 +161,4 @@ refusalNumber NoSuchField = noSuchField
 refusalNumber NotExact = notExact
 refusalNumber NoSuchEntry = noSuchEntry
 refusalNumber ReceiptMalformed = receiptMalformed
+refusalNumber JobNotRising = jobNotRising

@@ -65,6 +65,8 @@ pub const NOT_EXACT: u8 = 27;
 pub const NO_SUCH_ENTRY: u8 = 28;
 // receipt malformed
 pub const RECEIPT_MALFORMED: u8 = 29;
+// job not rising
+pub const JOB_NOT_RISING: u8 = 30;
 
 // The meanings, each under the name of its number.
 pub enum Refusal {
@@ -98,6 +100,7 @@ pub enum Refusal {
     NotExact,
     NoSuchEntry,
     ReceiptMalformed,
+    JobNotRising,
 }
 
 // What a call answers that fills a lent buffer: how many elements it wrote, or the number of its refusal.
@@ -141,6 +144,7 @@ pub fn number(refusal: Refusal) -> u8
         Refusal::NotExact => NOT_EXACT,
         Refusal::NoSuchEntry => NO_SUCH_ENTRY,
         Refusal::ReceiptMalformed => RECEIPT_MALFORMED,
+        Refusal::JobNotRising => JOB_NOT_RISING,
     }
 }
 
