@@ -1,5 +1,4 @@
--- The numbers at the ends of lines: one byte at a time, a line, and all lines of a receipt.
--- Assumes nothing.
+-- The numbers at the ends of lines: one byte at a time, and a line. -- Assumes nothing.
 use mathlib.Core.Path.{_≡_, refl, sym, ap, _∙_}
 use mathlib.Core.Bool.{Bool, true, false, _&&_}
 use mathlib.Core.List.{List, [], _∷_, _++_, append-assoc}
@@ -16,74 +15,13 @@ use Rattle.text.specs.Laws.Decimal.{glyph-digit, decimal-one, decimal-more}
 use Rattle.receipt.specs.Receipt.{line}
 use Rattle.receipt.specs.Reading.{withByte, receiptFrom, lineNumbers}
 
--- one byte more: a digit, where there is room for it, and what is no digit
+-- one byte more: a digit, where there is room for it, and a byte above the digits
 
 byte-digit : (n b : ℕ) → 48 ≤ b → b ≤ 57 → n < 100000000 → withByte n b ≡ n * 10 + (b - 48)
 byte-digit n b l h f = rw (le-leb 48 b l, le-leb b 57 h) (omega arith)
 
-pub byte-low : (n b : ℕ) → b < 48 → n ≡ withByte n b
-byte-low n b h = rw (lt-leb 48 b h)
-
-pub byte-high : (n b : ℕ) → 57 < b → n ≡ withByte n b
+byte-high : (n b : ℕ) → 57 < b → n ≡ withByte n b
 byte-high n b h = rw (le-leb 48 b (omega arith), lt-leb b 57 h)
-
--- a line's end, and another byte
-
-pub numbers-end : (s : List ℕ) (i n : ℕ) → i < length s → getD s i 0 ≡ 10 → lineNumbers (drop i s) n ≡ n ∷ lineNumbers (drop (i + 1) s) 0
-unfolding lineNumbers
-numbers-end s i n h e = rw (drop-cons s i 0 h, eq-eqb (getD s i 0) 10 e, add-one i)
-
-pub numbers-byte : (s : List ℕ) (i n : ℕ) → i < length s → (getD s i 0 ≡ 10 → ⊥) → lineNumbers (drop i s) n ≡ lineNumbers (drop (i + 1) s) (withByte n (getD s i 0))
-unfolding lineNumbers
-numbers-byte s i n h e = rw (drop-cons s i 0 h, ne-eqb (getD s i 0) 10 e, add-one i)
-
-pub numbers-none : (s : List ℕ) (i n : ℕ) → length s ≤ i → lineNumbers (drop i s) n ≡ []
-unfolding lineNumbers
-numbers-none s i n h = rw (drop-of-length-le s h)
-
--- what is left, stored from a line on, does not change at a line's end, nor at another byte
-
-pub store-end : (s ns ms t : List ℕ) (i at n line m : ℕ) → i < length s → getD s i 0 ≡ 10 → ms ≡ set ns at n → line ≡ at + 1 → m ≡ 0
-    → sets ns at (lineNumbers (drop i s) n) ≡ t → sets ms line (lineNumbers (drop (i + 1) s) m) ≡ t
-store-end s ns ms t i at n line m h e a b z q =
-    let p : sets ns at (lineNumbers (drop i s) n) ≡ sets (set ns at n) (suc at) (lineNumbers (drop (i + 1) s) 0) = ap (λ (l : List ℕ). sets ns at l) (numbers-end s i n h e) in
-    rw (a, b, z, add-one at) (sym p ∙ q)
-
-pub store-byte : (s ns ms t : List ℕ) (i at n line m : ℕ) → i < length s → (getD s i 0 ≡ 10 → ⊥) → ms ≡ ns → line ≡ at → m ≡ withByte n (getD s i 0)
-    → sets ns at (lineNumbers (drop i s) n) ≡ t → sets ms line (lineNumbers (drop (i + 1) s) m) ≡ t
-store-byte s ns ms t i at n line m h e a b z q = rw (a, b, z, ← numbers-byte s i n h e) q
-
--- ten numbers stored over zeros are the first ten
-
-sets-after : (x : ℕ) (l ns : List ℕ) (i : ℕ) → sets (x ∷ l) (suc i) ns ≡ x ∷ sets l i ns
-sets-after x l [] i = refl
-sets-after x l (n ∷ ns) i = sets-after x (set l i n) ns (suc i)
-
-getD-zeros : (k i : ℕ) → _≡_ {A = ℕ} (getD (replicate k 0) i 0) 0
-getD-zeros zero i = refl
-getD-zeros (suc k) zero = refl
-getD-zeros (suc k) (suc i) = getD-zeros k i
-
-getD-stored : (k : ℕ) (ns : List ℕ) (i : ℕ) → i < k → getD (sets (replicate k 0) 0 ns) i 0 ≡ getD ns i 0
-getD-stored zero ns i h = absurd (omega arith)
-getD-stored (suc k) [] i h = getD-zeros (suc k) i
-getD-stored (suc k) (n ∷ ns) zero h = ap (λ (l : List ℕ). getD l 0 0) (sets-after n (replicate k 0) ns 0)
-getD-stored (suc k) (n ∷ ns) (suc i) h = ap (λ (l : List ℕ). getD l (suc i) 0) (sets-after n (replicate k 0) ns 0) ∙ getD-stored k ns i (omega arith)
-
-pub first-ten : (ns : List ℕ) → receiptFrom (sets (replicate 10 0) 0 ns) ≡ receiptFrom ns
-first-ten ns =
-    rw (
-      getD-stored 10 ns 0 (lit< tt),
-      getD-stored 10 ns 1 (lit< tt),
-      getD-stored 10 ns 2 (lit< tt),
-      getD-stored 10 ns 3 (lit< tt),
-      getD-stored 10 ns 4 (lit< tt),
-      getD-stored 10 ns 5 (lit< tt),
-      getD-stored 10 ns 6 (lit< tt),
-      getD-stored 10 ns 7 (lit< tt),
-      getD-stored 10 ns 8 (lit< tt),
-      getD-stored 10 ns 9 (lit< tt),
-    )
 
 -- a line is read as its number
 

@@ -1,45 +1,39 @@
--- Reading: what is written is read back, so that no bytes are two receipts and no bytes have two answers; the definition gives the one there is.
--- Assumes nothing.
+-- Reading: what is written is read back, whatever follows it, so that no bytes are two receipts and no bytes have two answers; the definition
+-- gives the one there is. Assumes nothing.
 use mathlib.Core.Path.{_≡_, refl, sym, ap, subst, _∙_}
 use mathlib.Core.Bool.{Bool, true, false, cond, _&&_}
 use mathlib.Core.List.{List, [], _∷_, _++_, append-assoc, append-nil}
 use mathlib.Core.Logic.{_↔_}
-use Prim.Native.Nat.{ℕ, _<_}
+use Prim.Native.Nat.{ℕ}
 use Prim.Native.String as Text
-use native.Mathlib.Omega.{arith}
-use lib.ListN.{length, replicate}
-use lib.Seq.{sets}
+use lib.ListN.{length, drop}
 use Rattle.refusal.specs.Table.{receiptMalformed}
-use Rattle.numbers.specs.Laws.Tests.{clash}
-use Rattle.text.specs.Equal.{equal}
+use Rattle.numbers.specs.Laws.Tests.{clash, and-left, and-right}
+use Rattle.text.specs.Equal.{equal, begins}
 use Rattle.text.specs.Ascii.{ascii}
-use Rattle.text.specs.Laws.Equal.{equal-true, false-equal}
+use Rattle.text.specs.Laws.Equal.{equal-true, false-equal, begins-append, begins-true}
 use Rattle.receipt.specs.declared.Receipt.{Receipt}
 use Rattle.receipt.specs.declared.Reading.{Reading}
 use Rattle.receipt.specs.declared.Reading.the-variants.{Numbers, Refused}
-use Rattle.receipt.specs.Receipt.{pageRoom, numbersOf, namedLine, written, IsReceipt, Reads, is, none, rulesKept}
-use Rattle.receipt.specs.Reading.{receiptFrom, readFrom, readingOf, lineNumbers}
-use Rattle.receipt.specs.Laws.Rules.{Small, AllSmall, allowed-small, written-most}
-use Rattle.receipt.specs.Laws.Numbers.{plain, numbers-line, first-ten}
+use Rattle.receipt.specs.Receipt.{numbersOf, namedLine, written, IsReceipt, Reads, is, none, rulesKept}
+use Rattle.receipt.specs.Reading.{receiptFrom, readFrom, readingOf, lineNumbers, hasFront}
+use Rattle.receipt.specs.Laws.Rules.{Small, AllSmall, allowed-small}
+use Rattle.receipt.specs.Laws.Numbers.{plain, numbers-line}
 
 -- a line before others that are read already
 before : (name : Text.String) (n : ℕ) (rest ns : List ℕ) → plain (ascii name) ≡ true → Small n → lineNumbers rest 0 ≡ ns → lineNumbers (namedLine name n ++ rest) 0 ≡ n ∷ ns
 before name n rest ns h f q = numbers-line (ascii name) rest n h f ∙ ap (λ (l : List ℕ). n ∷ l) q
 
-nothing-read : lineNumbers [] 0 ≡ []
-unfolding lineNumbers
-nothing-read = refl
-
 -- the lines, each before the rest
-nested : (r : Receipt) → written r ≡ namedLine "station" (r .station) ++ (namedLine "job" (r .job) ++ (namedLine "verdict" (r .verdict) ++ (namedLine "models" (r .models)
+pub nested : (r : Receipt) (rest : List ℕ) → written r ++ rest ≡ namedLine "station" (r .station) ++ (namedLine "job" (r .job) ++ (namedLine "verdict" (r .verdict) ++ (namedLine "models" (r .models)
     ++ (namedLine "chains" (r .chains) ++ (namedLine "groups" (r .groups) ++ (namedLine "atoms" (r .atoms) ++ (namedLine "bonds" (r .bonds)
-    ++ (namedLine "fields" (r .fields) ++ (namedLine "units" (r .units) ++ [])))))))))
+    ++ (namedLine "fields" (r .fields) ++ (namedLine "units" (r .units) ++ rest)))))))))
 unfolding written
-nested r = simp (append-assoc, append-nil)
+nested r rest = simp append-assoc
 
-numbers-written : (r : Receipt) → AllSmall r → lineNumbers (written r) 0 ≡ numbersOf r
-numbers-written r s =
-    ap (λ (bs : List ℕ). lineNumbers bs 0) (nested r)
+numbers-written : (r : Receipt) (rest : List ℕ) → AllSmall r → lineNumbers (written r ++ rest) 0 ≡ numbersOf r ++ lineNumbers rest 0
+numbers-written r rest s =
+    ap (λ (bs : List ℕ). lineNumbers bs 0) (nested r rest)
     ∙ before "station" (r .station) _ _ refl (s .station)
     (before "job" (r .job) _ _ refl (s .job)
     (before "verdict" (r .verdict) _ _ refl (s .verdict)
@@ -49,12 +43,15 @@ numbers-written r s =
     (before "atoms" (r .atoms) _ _ refl (s .atoms)
     (before "bonds" (r .bonds) _ _ refl (s .bonds)
     (before "fields" (r .fields) _ _ refl (s .fields)
-    (before "units" (r .units) _ _ refl (s .units) nothing-read)))))))))
+    (before "units" (r .units) _ _ refl (s .units) refl)))))))))
 
--- what is written is read back
-pub read-written : (r : Receipt) → rulesKept r ≡ true → readFrom (written r) ≡ r
+-- what is written is read back, whatever follows it
+pub read-front : (r : Receipt) (rest : List ℕ) → rulesKept r ≡ true → readFrom (written r ++ rest) ≡ r
 unfolding readFrom
-read-written r h = ap receiptFrom (numbers-written r (allowed-small r h))
+read-front r rest h = ap receiptFrom (numbers-written r rest (allowed-small r h))
+
+pub read-written : (r : Receipt) → rulesKept r ≡ true → readFrom (written r) ≡ r
+read-written r h = ap readFrom (sym (append-nil (written r))) ∙ read-front r [] h
 
 pub read-receipt : {bytes : List ℕ} {r : Receipt} → IsReceipt bytes r → readFrom bytes ≡ r
 read-receipt {bytes} {r} i = ap readFrom (i .text) ∙ read-written r (i .rules)
@@ -87,25 +84,23 @@ reading-exactly bytes r = ((λ e. read-is (subst (Reads bytes) e (readingOf-is b
     read-is : Reads bytes (Numbers r) → IsReceipt bytes r
     read-is (is i) = i
 
--- the cases of reading
+-- The front of bytes
 
-pub reading-long : (bytes : List ℕ) → pageRoom < length bytes → Refused receiptMalformed ≡ readingOf bytes
-reading-long bytes h = one-reading (none (λ r i. let l = written-most r in let e = ap length (i .text) in omega arith)) (readingOf-is bytes)
+-- a receipt with anything after it stands at the front
+pub front-of : (r : Receipt) (rest : List ℕ) → rulesKept r ≡ true → hasFront (written r ++ rest) ≡ true
+unfolding hasFront
+front-of r rest h = rw (read-front r rest h, h) (begins-append (written r) rest)
 
-module _ (bytes ns : List ℕ) (r : Receipt) (stored : ns ≡ sets (replicate 10 0) 0 (lineNumbers bytes 0)) (from : r ≡ receiptFrom ns) where
-  read-here : readFrom bytes ≡ r
-  unfolding readFrom
-  read-here = sym (from ∙ ap receiptFrom stored ∙ first-ten (lineNumbers bytes 0))
+-- where a receipt stands at the front, it keeps the rules, and the bytes are its text and what is left
+module _ (bytes : List ℕ) (h : hasFront bytes ≡ true) where
+  pub front-rules : rulesKept (readFrom bytes) ≡ true
+  unfolding hasFront
+  front-rules = and-left (rulesKept (readFrom bytes)) (begins (written (readFrom bytes)) bytes) h
 
-  pub reading-broken : rulesKept r ≡ false → Refused receiptMalformed ≡ readingOf bytes
-  unfolding readingOf
-  reading-broken h = rw (read-here, h)
+  pub front-text : bytes ≡ written (readFrom bytes) ++ drop (length (written (readFrom bytes))) bytes
+  unfolding hasFront
+  front-text = begins-true (written (readFrom bytes)) bytes (and-right (rulesKept (readFrom bytes)) (begins (written (readFrom bytes)) bytes) h)
 
-  module _ (page : List ℕ) (a : rulesKept r ≡ true) (p : page ≡ written r) where
-    pub reading-other : equal page bytes ≡ false → Refused receiptMalformed ≡ readingOf bytes
-    unfolding readingOf
-    reading-other h = rw (read-here, a, ← p, h)
-
-    pub reading-same : equal page bytes ≡ true → Numbers r ≡ readingOf bytes
-    unfolding readingOf
-    reading-same h = rw (read-here, a, ← p, h)
+-- where none stands, no receipt is there
+pub no-front : (r : Receipt) (bytes rest : List ℕ) → hasFront bytes ≡ false → rulesKept r ≡ true → bytes ≡ written r ++ rest → ⊥
+no-front r bytes rest h k e = clash (sym h ∙ ap hasFront e ∙ front-of r rest k)

@@ -67,7 +67,11 @@ pub begins-true : (word bytes : List ℕ) → begins word bytes ≡ true → byt
 begins-true word bytes h =
     sym (take-append-drop (length word) bytes) ∙ ap (λ (l : List ℕ). l ++ drop (length word) bytes) (equal-true (take (length word) bytes) word h)
 
--- no bytes begin with the empty word alone
+-- the word is no longer than the bytes
+pub begins-fits : (word bytes : List ℕ) → begins word bytes ≡ true → length word ≤ length bytes
+begins-fits word bytes h = omega (arith, length-take (length word) bytes, ap length (equal-true (take (length word) bytes) word h))
+
+-- past the end there are no bytes
 begins-none : (word s : List ℕ) (at : ℕ) → length s ≤ at → begins word (drop at s) ≡ equal [] word
 begins-none word s at h = rw (drop-of-length-le s h, take-nil)
 
