@@ -16,7 +16,7 @@ use Rattle.numbers.specs.Ranges.{within}
 use Rattle.counts.specs.Counts.{countLimit}
 use Rattle.text.specs.Decimal.{glyph, decimal}
 use Rattle.text.specs.Put.{Put}
-use Rattle.text.specs.Laws.Decimal.{decimal-one, decimal-more, decimal-few}
+use Rattle.text.specs.Laws.Decimal.{decimal-one, decimal-more, decimal-few, decimal-some}
 use Rattle.text.specs.Laws.Put.{put-page}
 use Rattle.text.specs.Ascii.{ascii}
 use Rattle.receipt.specs.declared.Receipt.{Receipt}
@@ -163,7 +163,7 @@ page-holds r {old} {new} {next} l p = let m = written-most r in put-page p (omeg
 -- How long a receipt is that keeps the rules
 
 -- a number below ten to the power of k + 1 has at most k + 1 digits
-decimal-short : (k n : ℕ) → n < 10 ^ suc k → n < 1000000000 → length (decimal n) ≤ suc k
+pub decimal-short : (k n : ℕ) → n < 10 ^ suc k → n < 1000000000 → length (decimal n) ≤ suc k
 decimal-short zero n h f = rw (decimal-one n h) (omega arith)
 decimal-short (suc k) n h f = go (ltb n 10) refl (decimal-short k (n / 10) (let p = pow-suc 10 (suc k) in omega arith) (omega arith))
   where
@@ -222,7 +222,7 @@ rest-most r false e v h =
     let j : length (decimal (r .units)) ≤ 1 = fixed-digit (r .units) 0 refl (p .6) in
     omega arith
 
-line-length : (name : Text.String) (n : ℕ) → length (namedLine name n) ≡ length (ascii name) + 2 + length (decimal n)
+pub line-length : (name : Text.String) (n : ℕ) → length (namedLine name n) ≡ length (ascii name) + 2 + length (decimal n)
 unfolding line
 line-length name n = simp length-append (omega arith)
 
@@ -240,6 +240,25 @@ written-length r =
     let i = line-length "fields" (r .fields) in
     let j = line-length "units" (r .units) in
     simp length-append (omega arith)
+
+-- a receipt has a digit in each line
+pub written-least : (r : Receipt) → 86 ≤ length (written r)
+unfolding restDigits
+written-least r =
+    omega (
+      arith,
+      written-length r,
+      decimal-some (r .station),
+      decimal-some (r .job),
+      decimal-some (r .verdict),
+      decimal-some (r .models),
+      decimal-some (r .chains),
+      decimal-some (r .groups),
+      decimal-some (r .atoms),
+      decimal-some (r .bonds),
+      decimal-some (r .fields),
+      decimal-some (r .units)
+    )
 
 pub receipt-most : (r : Receipt) → rulesKept r ≡ true → length (written r) ≤ receiptLimit
 unfolding rulesKept

@@ -88,6 +88,20 @@ pub decimal-few : (n : ℕ) → length (decimal n) ≤ 10
 unfolding decimal
 decimal-few n = decimalIn-few 9 n
 
+-- at least one digit
+decimalIn-some : (k n : ℕ) → 1 ≤ length (decimalIn k n)
+unfolding decimalIn
+decimalIn-some zero n = omega arith
+decimalIn-some (suc k) n = by (ltb n 10)
+  where
+    by : (test : Bool) → 1 ≤ length (cond test ((48 + n) ∷ []) (decimalIn k (n / 10) ++ ((48 + n % 10) ∷ [])))
+    by true = omega arith
+    by false = simp length-append (omega arith)
+
+pub decimal-some : (n : ℕ) → 1 ≤ length (decimal n)
+unfolding decimal
+decimal-some n = decimalIn-some 9 n
+
 -- one digit, or one more than a tenth has
 pub digits-one : (n : ℕ) → n < 10 → length (decimal n) ≡ 1
 digits-one n h = ap length (decimal-one n h)
