@@ -2,8 +2,8 @@
  * libmmtf: an MMTF reader whose calls are proved to meet their contracts.
  *
  * The library checks a file or its container alone, opens a file with the places of all its fields, finds values by name,
- * decodes and encodes columns, reads one cell, gives the matrices of transforms, writes and reads receipts, and says each
- * refusal number in words. It is for x86-64 Linux.
+ * decodes and encodes columns, reads one cell, gives the matrices of transforms, writes and reads receipts, adds up bills of
+ * receipts, and says each refusal number in words. It is for x86-64 Linux.
  *
  * Every call takes whatever bytes and numbers it is given, and always ends with an answer. It keeps nothing between calls,
  * allocates nothing and writes to nothing but its buffer and its out parameters, so threads may call at the same time. The
@@ -45,7 +45,7 @@ extern "C" {
 uint32_t mmtf_version(void);
 
 /* The limits. Whatever exceeds a limit is refused, as each call says. */
-#define MMTF_FILE_LIMIT 67108864   /* bytes of a file */
+#define MMTF_FILE_LIMIT 67108864   /* bytes of a file, and of a run of receipts */
 #define MMTF_NESTING_LIMIT 12      /* levels of arrays and maps, the outer map among them */
 #define MMTF_ENTRY_LIMIT 256       /* entries of a map */
 #define MMTF_LENGTH_LIMIT 16777216 /* results of a column */
@@ -87,7 +87,8 @@ enum mmtf_refusal {
     MMTF_NO_SUCH_FIELD = 26,        /* there is no such field */
     MMTF_NOT_EXACT = 27,            /* a number is not exact in single precision */
     MMTF_NO_SUCH_ENTRY = 28,        /* there is no such entry */
-    MMTF_RECEIPT_MALFORMED = 29     /* the receipt is malformed */
+    MMTF_RECEIPT_MALFORMED = 29,    /* the receipt is malformed */
+    MMTF_JOB_NOT_RISING = 30        /* the job number does not rise within its station */
 };
 
 /* The bytes of the longest meaning, rounded up. A buffer with this room is never too small for one. */
@@ -464,6 +465,52 @@ uint8_t mmtf_write_receipt(uint32_t station, uint32_t job, const uint8_t *file, 
  * asked whether there is one with these counts.
  */
 uint8_t mmtf_read_receipt(const uint8_t *bytes, size_t n, uint32_t numbers[MMTF_RECEIPT_NUMBERS]);
+
+/*
+ * Bills. A run of receipts is the bytes of receipts, one directly after another; no bytes at all are a run of no receipts. It
+ * has a bill if the jobs of each station rise: the job of a receipt is above that of the last receipt of the same station
+ * before it, whatever their verdicts. Receipts of other stations may stand between the two.
+ *
+ * The lines of a bill are written as those of a receipt, again with nothing before and nothing after. Each station that has a
+ * receipt in the run has three lines, the stations rising by their numbers, and the total is the last line.
+ *
+ * line       number
+ * station    1 to 99
+ * accepted   how many of the station's receipts have verdict 0
+ * refused    how many of them have another verdict
+ * total      how many receipts of all stations have verdict 0
+ *
+ * A run with receipts of station 7, job 12, verdict 0; station 5, job 31, verdict 0; and station 5, job 32, verdict 3 has this
+ * bill:
+ *
+ *     station=5
+ *     accepted=1
+ *     refused=1
+ *     station=7
+ *     accepted=1
+ *     refused=0
+ *     total=2
+ */
+
+/* 46 bytes for each of the 99 stations, and 13 for the total. A buffer with this room is never too small for a bill. */
+#define MMTF_BILL_ROOM 4567
+
+/*
+ * Writes the bill of the run of receipts of n bytes.
+ *
+ * Answers MMTF_ACCEPTED with the bill at the buffer's start and the number of its bytes in *written; every byte of the buffer
+ * beyond is as it was, and no end mark is written. The bill of no receipts is the line total=0 alone. Otherwise the buffer and
+ * *written are as they were, and the answer is the first of these that applies:
+ * - MMTF_FILE_OVER_LIMIT: there are more than 67,108,864 bytes.
+ * - The number of the first receipt at fault, receipt by receipt from the first byte on: MMTF_RECEIPT_MALFORMED if the bytes
+ *   there do not begin with a receipt by the rules above, and otherwise MMTF_JOB_NOT_RISING if its job is not above that of
+ *   the last receipt of its station before it.
+ * - MMTF_BUFFER_TOO_SMALL: the bill has more bytes than the buffer has room for.
+ *
+ * No file is looked at. A station's accepted jobs are the units of its receipts added up, since a receipt has a unit exactly
+ * when its verdict is 0.
+ */
+uint8_t mmtf_bill(const uint8_t *receipts, size_t n, uint8_t *buffer, size_t room, uint64_t *written);
 
 #ifdef __cplusplus
 }

@@ -10,6 +10,7 @@
 _Static_assert(MMTF_VERSION_NUMBER == MMTF_VERSION_MAJOR * 10000 + MMTF_VERSION_MINOR * 100 + MMTF_VERSION_PATCH, "version");
 _Static_assert(MMTF_RECEIPT_NUMBERS == MMTF_RECEIPT_UNITS + 1, "the numbers of a receipt");
 _Static_assert(MMTF_FILE_LIMIT == 64 * 1024 * 1024, "the limit of a file");
+_Static_assert(MMTF_BILL_ROOM == 46 * MMTF_STATION_LIMIT + 13, "the room of a bill");
 
 static int wrong = 0;
 
@@ -40,7 +41,7 @@ static void refuses_meanings(void) {
     uint8_t buffer[] = {7, 7, 7, 7, 7, 7, 7};
     const uint8_t before[] = {7, 7, 7, 7, 7, 7, 7};
     uint64_t written = 77;
-    expect(mmtf_meaning(30, buffer, sizeof buffer, &written) == MMTF_NO_SUCH_ENTRY, "30 is not refused with 28.");
+    expect(mmtf_meaning(31, buffer, sizeof buffer, &written) == MMTF_NO_SUCH_ENTRY, "31 is not refused with 28.");
     expect(mmtf_meaning(255, NULL, 0, &written) == MMTF_NO_SUCH_ENTRY, "255 is not refused with 28.");
     expect(mmtf_meaning(MMTF_ACCEPTED, buffer, sizeof buffer, &written) == MMTF_BUFFER_TOO_SMALL,
            "A buffer one byte too small for \"accepted\" is not refused with 25.");
@@ -72,6 +73,7 @@ int main(void) {
     has_words(MMTF_ACCEPTED, "accepted");
     has_words(MMTF_LEAD_BYTE_UNKNOWN, "a lead byte is not in the subset");
     has_words(MMTF_RECEIPT_MALFORMED, "the receipt is malformed");
+    has_words(MMTF_JOB_NOT_RISING, "the job number does not rise within its station");
     refuses_meanings();
     reads_headers();
     return wrong;
