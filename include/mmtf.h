@@ -36,10 +36,10 @@ extern "C" {
 
 /* The version of this header, as numbers, as one number that a later version is above, and as text. */
 #define MMTF_VERSION_MAJOR 0
-#define MMTF_VERSION_MINOR 9
-#define MMTF_VERSION_PATCH 1
+#define MMTF_VERSION_MINOR 10
+#define MMTF_VERSION_PATCH 0
 #define MMTF_VERSION_NUMBER (MMTF_VERSION_MAJOR * 10000 + MMTF_VERSION_MINOR * 100 + MMTF_VERSION_PATCH)
-#define MMTF_VERSION "0.9.1"
+#define MMTF_VERSION "0.10.0"
 
 /* Answers the version of the library. It is MMTF_VERSION_NUMBER where the library and this header belong together. */
 uint32_t mmtf_version(void);

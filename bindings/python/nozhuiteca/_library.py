@@ -7,7 +7,7 @@ import os
 import pathlib
 
 # The version of the package, which is that of the library it takes.
-VERSION = "0.9.1"
+VERSION = "0.10.0"
 
 _BYTES, _SIZE = ctypes.c_void_p, ctypes.c_size_t
 _COUNT, _INTEGER = ctypes.POINTER(ctypes.c_uint64), ctypes.c_int32

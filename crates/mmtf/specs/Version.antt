@@ -5,10 +5,10 @@ abbrev pub versionMajor : ℕ
 versionMajor = 0
 
 abbrev pub versionMinor : ℕ
-versionMinor = 9
+versionMinor = 10
 
 abbrev pub versionPatch : ℕ
-versionPatch = 1
+versionPatch = 0
 
 -- as a number that a later version is above
 abbrev pub versionNumber : ℕ

@@ -45,9 +45,9 @@ use views::Place;
 // The version, as in specs/Version.antt.
 const MAJOR: u32 = 0;
 
-const MINOR: u32 = 9;
+const MINOR: u32 = 10;
 
-const PATCH: u32 = 1;
+const PATCH: u32 = 0;
 
 // The refusal of a file as a container, 1 to 11, or 0.
 #[no_mangle]

@@ -26,7 +26,7 @@ pub(crate) fn write_usage(descriptor: i32) -> bool {
 
 // Writes the version of the program.
 pub(crate) fn write_version() -> bool {
-    output::write(b"station 0.9.1\n")
+    output::write(b"station 0.10.0\n")
 }
 
 // Says which words a command takes.
