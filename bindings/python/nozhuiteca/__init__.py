@@ -1,4 +1,4 @@
-r"""MMTF files: verdicts, values by name, columns, matrices and receipts, by the calls of a library that is proved.
+r"""MMTF files: verdicts, values by name, columns, matrices, receipts and bills, by the calls of a proved library.
 
 The package decides nothing about a file: it hands bytes to the library, and the library's answers back. include/mmtf.h
 says what each call means, and in which order it refuses.
@@ -28,6 +28,7 @@ column gets more room as long as the library says that it has too little, up to 
 
 from __future__ import annotations
 
+from ._bills import Bill, BillRow, bill
 from ._columns import Column, Elements, FixedPoint, Floats, Header, Integers, cell, decode, encode, header
 from ._files import FieldValue, File, Part, column, container, fields, matrix, open, read, verdict, view
 from ._library import VERSION as __version__
@@ -37,7 +38,7 @@ from ._tables import CODECS, FIELDS
 from ._values import Value
 
 __all__ = [
-    "CODECS", "Column", "Elements", "FIELDS", "FieldValue", "File", "FixedPoint", "Floats", "Header", "Integers", "Part",
-    "Receipt", "Refusal", "RefusedError", "Value", "__version__", "cell", "column", "container", "decode", "encode",
-    "fields", "header", "matrix", "open", "read", "read_receipt", "receipt", "verdict", "view",
+    "Bill", "BillRow", "CODECS", "Column", "Elements", "FIELDS", "FieldValue", "File", "FixedPoint", "Floats", "Header",
+    "Integers", "Part", "Receipt", "Refusal", "RefusedError", "Value", "__version__", "bill", "cell", "column", "container",
+    "decode", "encode", "fields", "header", "matrix", "open", "read", "read_receipt", "receipt", "verdict", "view",
 ]

@@ -40,6 +40,7 @@ CALLS = {
     "mmtf_matrix": (_BYTES, _SIZE, ctypes.c_uint64, ctypes.c_uint64, ctypes.POINTER(ctypes.c_float * 4)),
     "mmtf_write_receipt": (ctypes.c_uint32, ctypes.c_uint32, _BYTES, _SIZE, _BYTES, _SIZE, _COUNT),
     "mmtf_read_receipt": (_BYTES, _SIZE, ctypes.POINTER(ctypes.c_uint32)),
+    "mmtf_bill": (_BYTES, _SIZE, _BYTES, _SIZE, _COUNT),
     "mmtf_meaning": (ctypes.c_uint8, _BYTES, _SIZE, _COUNT),
 }
 

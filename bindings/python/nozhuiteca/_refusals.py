@@ -48,6 +48,7 @@ class Refusal(enum.IntEnum):
     NOT_EXACT = 27
     NO_SUCH_ENTRY = 28
     RECEIPT_MALFORMED = 29
+    JOB_NOT_RISING = 30
 
     @property
     def accepted(self) -> bool:

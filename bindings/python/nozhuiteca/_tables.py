@@ -22,11 +22,12 @@ CODECS = {
     14: "int32", 15: "int32", 16: "int8",
 }
 
-# Bytes of a file, results of a column, bytes of a column's header, and bytes of the longest receipt and meaning.
+# Bytes of a file, results of a column, bytes of a column's header, and room for the longest receipt, bill and meaning.
 FILE_LIMIT = 67_108_864
 LENGTH_LIMIT = 16_777_216
 HEADER_SIZE = 12
 RECEIPT_ROOM = 128
+BILL_ROOM = 4_567
 MEANING_ROOM = 64
 
 # The kinds of a cell that are no integer.

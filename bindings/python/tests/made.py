@@ -1,15 +1,15 @@
-"""Files, columns and values made for the tests, without the package.
+"""Files, columns, values and receipts made for the tests, without the package.
 
 A document is written as MessagePack with long heads (`document`) or short ones (`shortest`). `structure` is a file with
 nothing in it that is accepted, `refused_files` has one for each number of a verdict, and `generated_column`,
-`generated_value` and `damaged` make others by chance.
+`generated_value`, `generated_run` and `damaged` make others by chance.
 """
 
 from __future__ import annotations
 
 import random
 import struct
-from typing import Any, Iterator
+from typing import Any, Iterable, Iterator
 
 # The bytes of a result of each codec where all have as many, and of a number where results are packed.
 PLAIN_WIDTH = {1: 4, 2: 1, 3: 2, 4: 4, 11: 2}
@@ -202,6 +202,39 @@ def runs(chance: random.Random, codec: int) -> tuple[int, bytes]:
 
 
 PAYLOADS = {**dict.fromkeys(PLAIN_WIDTH, plain), **dict.fromkeys(PACKED_WIDTH, packed), 5: names}
+
+
+def receipt(station: int, job: int, verdict: int = 0) -> bytes:
+    """A receipt; that of an accepted file is of one with nothing in it."""
+    accepted = int(verdict == 0)
+    numbers = {"station": station, "job": job, "verdict": verdict, "models": 0, "chains": 0, "groups": 0, "atoms": 0, "bonds": 0,
+               "fields": 39 * accepted, "units": accepted}
+    return "".join(f"{name}={number}\n" for name, number in numbers.items()).encode()
+
+
+def run(rows: Iterable[tuple[int, int, int]]) -> bytes:
+    """A run of receipts, given the station, the job and the verdict of each."""
+    return b"".join(receipt(*row) for row in rows)
+
+
+def generated_rows(chance: random.Random) -> list[tuple[int, int, int]]:
+    """Stations, jobs and verdicts of receipts, the jobs rising within each station but not from one receipt to the next."""
+    last: dict[int, int] = {}
+    rows = []
+    for _ in range(chance.randrange(30)):
+        station = chance.choice((1, 2, 10, 98, 99))
+        last[station] = last.get(station, 0) + chance.randint(1, 400)
+        rows.append((station, last[station], chance.choice((0, 0, 1, 24))))
+    return rows
+
+
+def generated_run(chance: random.Random) -> bytes:
+    """A run of receipts, most of them right, the others with a receipt twice or damaged somewhere."""
+    rows = generated_rows(chance)
+    if rows and chance.random() < 0.2:
+        rows.insert(chance.randrange(len(rows)), chance.choice(rows))
+    whole = run(rows)
+    return damaged(chance, whole) if whole and chance.random() < 0.2 else whole
 
 
 def damaged(chance: random.Random, whole: bytes) -> bytes:

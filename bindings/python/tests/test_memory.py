@@ -47,6 +47,7 @@ class Memory(Case):
             self.assertEqual(nozhuiteca.header(lent), nozhuiteca.header(column))
         for lent in self.lendings(receipt[:-1] + b"\n"):
             self.assertEqual(nozhuiteca.read_receipt(lent), nozhuiteca.read_receipt(receipt))
+            self.assertEqual(nozhuiteca.bill(lent).rows, ((7, 1, 0),))
 
     def test_words_of_four_bytes(self) -> None:
         """Memory of another type is taken as its bytes."""
@@ -73,13 +74,14 @@ class Memory(Case):
             self.refused(14, nozhuiteca.header, lent)
             self.refused(29, nozhuiteca.read_receipt, lent)
             self.assertEqual(nozhuiteca.read_receipt(nozhuiteca.receipt(lent, 1, 1)).verdict, 2)
+            self.assertEqual(nozhuiteca.bill(lent).text, "total=0\n")
 
     def test_what_cannot_be_lent(self) -> None:
         for wrong in (None, 5, "text", 1.5, [1, 2], {}, object(), pathlib.Path("x"), memoryview):
             for call, *more in ((nozhuiteca.read,), (nozhuiteca.verdict,), (nozhuiteca.container,), (nozhuiteca.fields,),
-                                (nozhuiteca.receipt, 1, 1), (nozhuiteca.read_receipt,), (nozhuiteca.view, "a"),
-                                (nozhuiteca.column, "a"), (nozhuiteca.decode,), (nozhuiteca.header,), (nozhuiteca.cell, 0),
-                                (nozhuiteca.matrix, 0, 0)):
+                                (nozhuiteca.receipt, 1, 1), (nozhuiteca.read_receipt,), (nozhuiteca.bill,),
+                                (nozhuiteca.view, "a"), (nozhuiteca.column, "a"), (nozhuiteca.decode,), (nozhuiteca.header,),
+                                (nozhuiteca.cell, 0), (nozhuiteca.matrix, 0, 0)):
                 with self.assertRaises(TypeError):
                     call(wrong, *more)
         for name in (None, 5, ["a"]):
@@ -96,7 +98,7 @@ class Memory(Case):
             call(file, *more)
             file.append(0)
             file.pop()
-        for call, *more in ((nozhuiteca.receipt, 0, 1), (nozhuiteca.read_receipt,), (nozhuiteca.view, "z"),
+        for call, *more in ((nozhuiteca.receipt, 0, 1), (nozhuiteca.read_receipt,), (nozhuiteca.bill,), (nozhuiteca.view, "z"),
                             (nozhuiteca.column, "z"), (nozhuiteca.column, "title"), (nozhuiteca.decode,),
                             (nozhuiteca.cell, 0), (nozhuiteca.matrix, 9, 9)):
             try:

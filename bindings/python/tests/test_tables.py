@@ -20,7 +20,7 @@ class Tables(Case):
 
     def test_refusals(self) -> None:
         """The names, the numbers and the meanings."""
-        self.assertEqual(sorted(MEANINGS), list(range(30)))
+        self.assertEqual(sorted(MEANINGS), list(range(31)))
         self.assertEqual({f"MMTF_{refusal.name}": refusal.value for refusal in nozhuiteca.Refusal}, header_numbers())
         self.assertEqual({refusal.value: refusal.meaning for refusal in nozhuiteca.Refusal}, MEANINGS)
         self.assertEqual((MEANINGS[0], MEANINGS[25]), ("accepted", "the buffer is too small"))
@@ -30,7 +30,7 @@ class Tables(Case):
         macros = {name: int(number) for name, number in re.findall(r"#define MMTF_(\w+) (\d+)", header_text())}
         kinds = {name: int(number) for name, number in re.findall(r" MMTF_(CELL_\w+) = (\d+)", header_text())}
         ours = {name: value for name, value in vars(_tables).items() if isinstance(value, int)}
-        self.assertEqual(len(ours), 7)
+        self.assertEqual(len(ours), 8)
         self.assertEqual({name: {**macros, **kinds}.get(name) for name in ours}, ours)
         self.assertEqual(len(dataclasses.fields(nozhuiteca.Receipt)), macros["RECEIPT_NUMBERS"])
 
