@@ -1,9 +1,9 @@
 /*
  * dump FILE...: writes what the library answers about each file, as text, for a comparison with another way to call it.
  *
- * Of each file: its verdicts, its receipt by station 7 and job 12, its fields, its matrices, and its views by name. Each
- * view, and the file itself, is taken as a column too: asked for its header, decoded to every kind, asked for cells, and what
- * was decoded encoded again.
+ * Of each file: its verdicts, its receipt by station 7 and job 12, its bill as a run of receipts, its fields, its matrices,
+ * and its views by name. Each view, and the file itself, is taken as a column too: asked for its header, decoded to every kind,
+ * asked for cells, and what was decoded encoded again.
  */
 #include <stdio.h>
 #include <string.h>
@@ -272,6 +272,15 @@ static void write_fields(const uint8_t *file, size_t n) {
     end_line(refusal, NULL, 0);
 }
 
+/* The bill of the file, taken as a run of receipts. */
+static void write_bill(const uint8_t *file, size_t n) {
+    uint8_t bill[MMTF_BILL_ROOM];
+    uint64_t written = 0;
+    const uint8_t refusal = mmtf_bill(file, n, bill, sizeof bill, &written);
+    printf("bill");
+    end_line(refusal, bill, written);
+}
+
 static void write_file(const uint8_t *file, size_t n) {
     uint8_t receipt[MMTF_RECEIPT_ROOM];
     uint64_t written = 0;
@@ -279,6 +288,7 @@ static void write_file(const uint8_t *file, size_t n) {
     if (mmtf_write_receipt(7, 12, file, n, receipt, sizeof receipt, &written) == MMTF_ACCEPTED) {
         fwrite(receipt, 1, written, stdout);
     }
+    write_bill(file, n);
     write_fields(file, n);
     write_matrices(file, n);
     write_column(file, n);

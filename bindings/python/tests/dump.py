@@ -30,6 +30,7 @@ def of_file(data: Any) -> Iterator[str]:
     """The lines of the text about a file."""
     yield f"file of {len(data)} bytes: container {nozhuiteca.container(data):d}, verdict {nozhuiteca.verdict(data):d}"
     yield from nozhuiteca.receipt(data, 7, 12).decode("ascii").splitlines()
+    yield "bill" + answered(lambda bill: hexadecimal(bill.text.encode("ascii")), nozhuiteca.bill, data)
     yield "fields" + answered(fields, nozhuiteca.fields, data)
     yield from of_matrices(data)
     yield from of_column(data)

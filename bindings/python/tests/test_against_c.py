@@ -75,6 +75,13 @@ class AgainstC(Case):
             self.assertGreater(said.count(f"refused {number}\n"), 10, number)
         self.assertIn("float32 refused 27\n", said)
 
+    def test_generated_runs(self) -> None:
+        chance = random.Random(9)
+        said = self.compare(made.generated_run(chance) for _ in range(300))
+        self.assertGreater(len(re.findall(r"^bill [0-9a-f]+\n", said, re.MULTILINE)), 100)
+        for number in (29, 30):
+            self.assertGreater(said.count(f"bill refused {number}\n"), 20, number)
+
     def test_columns_by_name(self) -> None:
         """`column`, which copies nothing, gives what `view` and `decode` give."""
         for path in sorted(DATA.glob("derived/*.mmtf")):
