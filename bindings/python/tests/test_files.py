@@ -32,7 +32,7 @@ class Verdicts(Case):
         self.assertEqual((Refusal.CUT_SHORT, Refusal(2).name), (2, "CUT_SHORT"))
         self.assertIs(pickle.loads(pickle.dumps(Refusal.CUT_SHORT)), Refusal.CUT_SHORT)
         with self.assertRaises(ValueError):
-            Refusal(30)
+            Refusal(31)
 
     def test_file_at_the_limit(self) -> None:
         """67,108,864 bytes are not over the limit; one more is."""
