@@ -1,6 +1,6 @@
 //! An independent implementation of the MMTF container, of columns, of the
-//! whole check and of receipts, the library's C calls, and what is needed to
-//! compare the two.
+//! whole check, of receipts and of bills, the library's C calls, and what is
+//! needed to compare the two.
 
 pub mod check;
 pub mod corpus;

@@ -4,6 +4,7 @@
 use super::calls::*;
 use super::watch::{Element, Output};
 use crate::independent::columns::HEADER;
+use crate::independent::NUMBERS;
 use crate::library::columns::Outcome;
 
 /// Which call on a column is asked.
@@ -22,7 +23,7 @@ pub enum Asked {
 
 /// How often each call gave each number.
 #[derive(Clone, Debug, Default)]
-pub struct Tally([[u64; 30]; 9]);
+pub struct Tally([[u64; NUMBERS]; 9]);
 
 impl Tally {
     pub fn times(&self, asked: Asked, number: u8) -> u64 {

@@ -30,10 +30,18 @@ pub fn write_receipt(
     Ok(text.len())
 }
 
-/// The numbers of a receipt, if the bytes are one.
+/// The numbers of a receipt, if the bytes are one and no more.
 pub fn read_receipt(bytes: &[u8]) -> Result<Numbers, Refusal> {
+    match first_receipt(bytes)? {
+        (numbers, []) => Ok(numbers),
+        _ => Err(ReceiptMalformed),
+    }
+}
+
+/// The numbers of the receipt that the bytes begin with, and the bytes after it.
+pub fn first_receipt(bytes: &[u8]) -> Result<(Numbers, &[u8]), Refusal> {
     match lines(bytes) {
-        Some(numbers) if agreeing(&numbers) => Ok(numbers),
+        Some((numbers, rest)) if agreeing(&numbers) => Ok((numbers, rest)),
         _ => Err(ReceiptMalformed),
     }
 }
@@ -72,8 +80,8 @@ fn of_file(station: u32, job: u32, file: &[u8]) -> Numbers {
     }
 }
 
-/// The numbers of the ten lines, and nothing after them.
-fn lines(bytes: &[u8]) -> Option<Numbers> {
+/// The numbers of the ten lines, and the bytes after them.
+fn lines(bytes: &[u8]) -> Option<(Numbers, &[u8])> {
     let mut numbers = [0; LINES.len()];
     let mut rest = bytes;
     for (name, number) in LINES.iter().zip(&mut numbers) {
@@ -82,7 +90,7 @@ fn lines(bytes: &[u8]) -> Option<Numbers> {
         *number = decimal(&value[..end])?;
         rest = &value[end + 1..];
     }
-    rest.is_empty().then_some(numbers)
+    Some((numbers, rest))
 }
 
 /// A number in digits, without leading zeros. None that is allowed in a receipt

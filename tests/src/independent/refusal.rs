@@ -1,6 +1,7 @@
 //! The refusal numbers.
 
-/// Why a file, a view, a column, a matrix or a receipt is refused.
+/// Why a file, a view, a column, a matrix, a receipt or a run of receipts is
+/// refused.
 #[derive(Clone, Copy, Debug, PartialEq, Eq)]
 #[repr(u8)]
 pub enum Refusal {
@@ -33,7 +34,11 @@ pub enum Refusal {
     NotExact = 27,
     NoSuchEntry = 28,
     ReceiptMalformed = 29,
+    JobNotRising = 30,
 }
+
+/// How many numbers there are, 0 for none among them.
+pub const NUMBERS: usize = Refusal::JobNotRising as usize + 1;
 
 impl Refusal {
     /// The number in the table of refusals.

@@ -2,11 +2,9 @@
 //! answered.
 
 use mmtf_tests::check::columns::{Asked, Tally as OfColumns};
+use mmtf_tests::independent::NUMBERS;
 
 use crate::sorts::{Sort, SORTS};
-
-/// The refusal numbers, 0 for none.
-const NUMBERS: usize = 30;
 
 const ASKED: [Asked; 9] = [
     Asked::Int32,
