@@ -86,9 +86,10 @@ fn lines(bytes: &[u8]) -> Option<(Numbers, &[u8])> {
     let mut rest = bytes;
     for (name, number) in LINES.iter().zip(&mut numbers) {
         let value = rest.strip_prefix(name.as_bytes())?.strip_prefix(b"=")?;
-        let end = value.iter().position(|&byte| byte == b'\n')?;
-        *number = decimal(&value[..end])?;
-        rest = &value[end + 1..];
+        let digits = value.iter().take_while(|byte| byte.is_ascii_digit());
+        let (digits, after) = value.split_at(digits.count());
+        *number = decimal(digits)?;
+        rest = after.strip_prefix(b"\n")?;
     }
     Some((numbers, rest))
 }
@@ -97,11 +98,11 @@ fn lines(bytes: &[u8]) -> Option<(Numbers, &[u8])> {
 /// needs more than 32 bits.
 fn decimal(digits: &[u8]) -> Option<u32> {
     match digits {
-        b"0" => Some(0),
-        [b'1'..=b'9', rest @ ..] if rest.iter().all(u8::is_ascii_digit) => {
-            std::str::from_utf8(digits).ok()?.parse().ok()
-        }
-        _ => None,
+        [] | [b'0', _, ..] => None,
+        _ => digits.iter().try_fold(0_u32, |number, digit| {
+            let digit = u32::from(digit - b'0');
+            number.checked_mul(10)?.checked_add(digit)
+        }),
     }
 }
 
