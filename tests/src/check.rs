@@ -1,9 +1,10 @@
 //! Runs one file through the library and through the independent
 //! implementation, the container and views by name; columns stand in `columns`,
 //! values and their encoders in `values`, the whole check and matrices in
-//! `files`, files opened in `opening`, receipts in `receipts`, the words of
-//! numbers and the version in `words`.
+//! `files`, files opened in `opening`, receipts in `receipts`, bills in `bills`,
+//! the words of numbers and the version in `words`.
 
+pub mod bills;
 pub mod calls;
 pub mod columns;
 pub mod files;

@@ -1,5 +1,6 @@
 //! Generated inputs: the same seed gives the same cases.
 
+pub mod bills;
 pub mod columns;
 mod damage;
 mod document;

@@ -1,5 +1,6 @@
 //! The C calls of libmmtf.a, with safe wrappers.
 
+pub mod bill;
 pub mod columns;
 pub mod header;
 pub mod matrix;
