@@ -10,7 +10,7 @@ use mmtf_tests::independent::{ENTRY_LIMIT, FILE_LIMIT, LEVEL_LIMIT};
 use mmtf_tests::library::columns::Outcome;
 
 /// The numbers of the rules.
-const NUMBERS: u8 = 30;
+const NUMBERS: u8 = 31;
 
 /// The header's room.
 fn room() -> usize {
@@ -27,6 +27,7 @@ fn by_hand() {
         (24, "the major version is not 1"),
         (25, "the buffer is too small"),
         (29, "the receipt is malformed"),
+        (30, "the job number does not rise within its station"),
     ];
     for (number, words) in written {
         match agree_on_meaning(number, 64) {
@@ -76,7 +77,7 @@ fn version() {
     let parts = ["MAJOR", "MINOR", "PATCH"].map(|part| format!("MMTF_VERSION_{part}"));
     let parts = parts.map(|name| defined(&name).expect("a part").to_string());
     assert_eq!(defined_text("MMTF_VERSION"), Some(&parts.join(".")[..]));
-    assert_eq!(header_version(), Some(901));
+    assert_eq!(header_version(), Some(1_000));
 }
 
 #[test]
