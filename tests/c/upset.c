@@ -216,3 +216,17 @@ uint8_t mmtf_read_receipt(const uint8_t *bytes, size_t n, uint32_t numbers[MMTF_
     numbers[MMTF_RECEIPT_BONDS] ^= 1;
     return 0;
 }
+
+/* The last digit of the total is another one. */
+uint8_t kept_mmtf_bill(const uint8_t *receipts, size_t n, uint8_t *buffer, size_t room, uint64_t *written);
+uint8_t mmtf_bill(const uint8_t *receipts, size_t n, uint8_t *buffer, size_t room, uint64_t *written) {
+    uint8_t number = kept_mmtf_bill(receipts, n, buffer, room, written);
+    if (!is_upset("mmtf_bill", receipts, n)) {
+        return number;
+    }
+    if (number != 0) {
+        return number ^ 1;
+    }
+    buffer[*written - 2] ^= 1;
+    return 0;
+}

@@ -1,15 +1,17 @@
-//! The large cases: files over the limit, structure files of up to 2.7 million
-//! bytes, made ones, containers of many values, and columns of up to 200,000
-//! cells.
+//! The large cases: files and runs over the limit, structure files of up to 2.7
+//! million bytes, made ones, containers of many values, columns of up to 200,000
+//! cells, and runs of thousands of receipts.
 
 use std::sync::OnceLock;
 
+use mmtf_tests::check::bills::{agree_on_bill, LONGEST};
 use mmtf_tests::check::calls::*;
 use mmtf_tests::check::files::{agree_on_matrix, expected_matrix};
 use mmtf_tests::check::receipts::agree_on_writing;
 use mmtf_tests::check::watch::{Element, Output};
 use mmtf_tests::check::{agree, agree_on_view};
 use mmtf_tests::corpus;
+use mmtf_tests::generate::bills::{every_station, rising, with_faults, BillCase, Fault};
 use mmtf_tests::generate::columns::{chars, integers, names};
 use mmtf_tests::generate::files::{matrix_numbers, Size, Structure};
 use mmtf_tests::generate::{damaged, document, Rng, Shape};
@@ -18,11 +20,11 @@ use mmtf_tests::library;
 use mmtf_tests::library::columns::Outcome;
 use mmtf_tests::library::matrix::Matrix;
 
-use crate::sorts::{verdict_and_receipt, Sort};
+use crate::sorts::{note_bill, verdict_and_receipt, Sort};
 use crate::tally::Tally;
 
 pub fn run(rng: &mut Rng, tally: &mut Tally) -> Result<(), String> {
-    match rng.below(12) {
+    match rng.below(13) {
         0 => over_limit(rng, tally),
         1..=2 => from_corpus(rng, tally),
         3..=4 => structure(rng, tally),
@@ -37,7 +39,8 @@ pub fn run(rng: &mut Rng, tally: &mut Tally) -> Result<(), String> {
             tally,
         ),
         9..=10 => int32(rng, tally),
-        _ => fixed_point(rng, tally),
+        11 => fixed_point(rng, tally),
+        _ => receipts(rng, tally),
     }
 }
 
@@ -61,6 +64,10 @@ fn over_limit(rng: &mut Rng, tally: &mut Tally) -> Result<(), String> {
     }
     agree_on_view(file, b"title")?;
     agree_on_writing([7, 12], file, 128)?;
+    let bill = agree_on_bill(file, LONGEST)?;
+    if bill != Outcome::Refused(if more == 0 { 29 } else { 1 }) {
+        return Err(format!("{} bytes: bill {bill:?}", file.len()));
+    }
     let matrix = library::matrix::matrix(file, 0, 0);
     if matrix != expected_matrix(file, 0, 0) {
         return Err(format!("{} bytes: matrix {matrix:?}", file.len()));
@@ -154,6 +161,24 @@ fn most_of(codec: i32) -> i32 {
         10 | 12 | 14 => 70_000,
         _ => i32::MAX,
     }
+}
+
+/// A run of thousands of receipts over all stations, whole or with one fault.
+fn receipts(rng: &mut Rng, tally: &mut Tally) -> Result<(), String> {
+    let count = rng.within(1_000, 8_000);
+    let receipts = rising(rng, &every_station(), count);
+    let which = rng.below(3);
+    let mut with = |number, fault| {
+        let place = rng.within(1, count - 1);
+        let run = with_faults(rng, receipts.clone(), &[(place, fault)]);
+        BillCase::refused(number, run)
+    };
+    let case = match which {
+        0 => with(30, Fault::Job),
+        1 => with(29, Fault::Text),
+        _ => BillCase::whole(receipts),
+    };
+    note_bill(rng, &case, Sort::Large, tally)
 }
 
 /// Values of many parts, encoded by both, decoded again by both, and a cell near

@@ -1,6 +1,7 @@
 //! The sorts of cases: what each is, how many there are of it, and how one is
 //! run.
 
+use mmtf_tests::check::bills::agree_on_bills;
 use mmtf_tests::check::columns;
 use mmtf_tests::check::files::{agree_on_matrix, agree_on_verdict};
 use mmtf_tests::check::opening::agree_on_opening;
@@ -8,6 +9,7 @@ use mmtf_tests::check::receipts::{agree_on_reading, agree_on_receipt, agree_on_r
 use mmtf_tests::check::values::{agree_on_values, VALUE_KINDS};
 use mmtf_tests::check::words::{agree_on_meaning, agree_on_version};
 use mmtf_tests::check::{agree, hex};
+use mmtf_tests::generate::bills::{bill_case, BillCase, BILL_KINDS};
 use mmtf_tests::generate::columns::{column_case, COLUMN_KINDS};
 use mmtf_tests::generate::files::{file_case, matrix_numbers, FILE_KINDS};
 use mmtf_tests::generate::receipts::{receipt_text, TEXT_KINDS};
@@ -27,19 +29,20 @@ pub enum Sort {
     Matrices,
     Written,
     Read,
+    Bills,
     Large,
 }
 
 /// Every sort, with how many of a thousand cases are of it, and what a case is.
-pub const SORTS: [(Sort, u64, &str); 8] = [
+pub const SORTS: [(Sort, u64, &str); 9] = [
     (
         Sort::Containers,
-        256,
+        236,
         "a container and its views by each outer key",
     ),
     (
         Sort::Columns,
-        250,
+        230,
         "a column by every decoder, cells, encoded back",
     ),
     (Sort::Values, 140, "values by an encoder, and decoded again"),
@@ -59,7 +62,8 @@ pub const SORTS: [(Sort, u64, &str); 8] = [
         79,
         "a text read as a receipt; the meaning of a number",
     ),
-    (Sort::Large, 5, "large files and columns"),
+    (Sort::Bills, 40, "the bill of a run of receipts: rooms"),
+    (Sort::Large, 5, "large files, columns and runs"),
 ];
 
 impl Sort {
@@ -85,6 +89,7 @@ impl Sort {
             Sort::Matrices => "matrices",
             Sort::Written => "written",
             Sort::Read => "read",
+            Sort::Bills => "bills",
             Sort::Large => "large",
         }
     }
@@ -104,6 +109,7 @@ pub fn run(seed: u64, number: u64, tally: &mut Tally) -> Result<(), String> {
         Sort::Matrices => matrices(&mut rng, tally),
         Sort::Written => written(&mut rng, tally),
         Sort::Read => read(&mut rng, tally),
+        Sort::Bills => bill(&mut rng, tally),
         Sort::Large => large::run(&mut rng, tally),
     }
 }
@@ -217,6 +223,34 @@ fn read(rng: &mut Rng, tally: &mut Tally) -> Result<(), String> {
     };
     tally.note(Sort::Read, number);
     meaning(rng)
+}
+
+fn bill(rng: &mut Rng, tally: &mut Tally) -> Result<(), String> {
+    let case = bill_case(pick(rng, &BILL_KINDS), rng);
+    with_bytes(note_bill(rng, &case, Sort::Bills, tally), &case.run)
+}
+
+/// Both give the bill or the number that the case expects, if it tells.
+pub fn note_bill(
+    rng: &mut Rng,
+    case: &BillCase,
+    sort: Sort,
+    tally: &mut Tally,
+) -> Result<(), String> {
+    let agreed = agree_on_bills(rng, &case.run)?;
+    let expected = case.expected.as_ref().unwrap_or(&agreed);
+    if agreed != *expected {
+        return Err(format!("both give {agreed:?}, expected {expected:?}"));
+    }
+    // Of the rooms of a bill three are too small.
+    let numbers = match agreed {
+        Ok(_) => &[0, 25, 25, 25][..],
+        Err(number) => &[number],
+    };
+    for &number in numbers {
+        tally.note(sort, number);
+    }
+    Ok(())
 }
 
 /// The meaning of a number, most often one of the table, and the version.
