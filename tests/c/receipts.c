@@ -1,8 +1,9 @@
 /*
- * Receipts as C sees them: written for files of a few bytes, read, and refused; refused calls change nothing. Ends with
- * status 1 and a sentence for each answer that differs.
+ * Receipts and bills as C sees them: receipts written for files of a few bytes, read, and refused; the bills of some receipts,
+ * and runs that are refused; refused calls change nothing. Ends with status 1 and a sentence for each answer that differs.
  */
 #include <stdio.h>
+#include <stdlib.h>
 #include <string.h>
 
 #include "mmtf.h"
@@ -111,10 +112,85 @@ static void refuses_to_read(void) {
     expect(memcmp(numbers, before, sizeof numbers) == 0, "A refused receipt has changed a number.");
 }
 
+/* A receipt of an accepted file by station 7, and the same by its next job. */
+#define COUNTS "verdict=0\nmodels=1\nchains=4\ngroups=302\natoms=1023\nbonds=1142\nfields=16\nunits=1\n"
+#define FIRST "station=7\njob=12\n" COUNTS
+#define SECOND "station=7\njob=13\n" COUNTS
+#define MALFORMED "station=7\njob=013\n" COUNTS
+
+/* The bill of a run, with just room for it and with the header's, and nothing beyond it. */
+static void has_bill(const char *run, const char *bill) {
+    const size_t size = strlen(bill);
+    const size_t rooms[] = {size, size + 1, MMTF_BILL_ROOM};
+    for (size_t i = 0; i < sizeof rooms / sizeof rooms[0]; i++) {
+        uint8_t buffer[MMTF_BILL_ROOM];
+        uint64_t written = 77;
+        memset(buffer, 7, sizeof buffer);
+        expect(mmtf_bill((const uint8_t *)run, strlen(run), buffer, rooms[i], &written) == MMTF_ACCEPTED && written == size
+                   && memcmp(buffer, bill, size) == 0,
+               "The bill of a run differs.");
+        for (size_t j = size; j < sizeof buffer; j++) {
+            expect(buffer[j] == 7, "A byte beyond the bill has changed.");
+        }
+    }
+}
+
+/* A run is refused with this number, and nothing changes. */
+static void has_no_bill(const char *run, size_t room, uint8_t number, const char *sentence) {
+    uint8_t buffer[MMTF_BILL_ROOM];
+    uint8_t before[MMTF_BILL_ROOM];
+    uint64_t written = 77;
+    memset(buffer, 7, sizeof buffer);
+    memset(before, 7, sizeof before);
+    expect(mmtf_bill((const uint8_t *)run, strlen(run), buffer, room, &written) == number, sentence);
+    expect(memcmp(buffer, before, sizeof buffer) == 0 && written == 77, "A refused bill has changed its buffer or its count.");
+}
+
+/* Bills: of one receipt, of several in another order, and of none, where no pointer is needed. */
+static void bills(void) {
+    uint8_t buffer[8];
+    uint64_t written = 77;
+    has_bill(FIRST, "station=7\naccepted=1\nrefused=0\ntotal=1\n");
+    has_bill(longest, "station=99\naccepted=1\nrefused=0\ntotal=1\n");
+    has_bill(refused, "station=7\naccepted=0\nrefused=1\ntotal=0\n");
+    char run[4 * MMTF_RECEIPT_ROOM];
+    snprintf(run, sizeof run, "%s%s%s", longest, refused, SECOND);
+    has_bill(run, "station=7\naccepted=1\nrefused=1\nstation=99\naccepted=1\nrefused=0\ntotal=2\n");
+    has_bill("", "total=0\n");
+    expect(mmtf_bill(NULL, 0, buffer, sizeof buffer, &written) == MMTF_ACCEPTED && written == 8
+               && memcmp(buffer, "total=0\n", 8) == 0,
+           "No receipts have not the bill \"total=0\".");
+}
+
+/* Refused: a receipt that is none, a job that does not rise, the first of the two, even without room; then no room; a run that
+ * is too long, of which nothing is looked at. */
+static void refuses_bills(void) {
+    has_no_bill(FIRST MALFORMED, MMTF_BILL_ROOM, MMTF_RECEIPT_MALFORMED, "A leading zero is not refused with 29.");
+    has_no_bill(FIRST SECOND "\n", MMTF_BILL_ROOM, MMTF_RECEIPT_MALFORMED, "A line feed more is not refused with 29.");
+    has_no_bill(FIRST FIRST, MMTF_BILL_ROOM, MMTF_JOB_NOT_RISING, "A job twice is not refused with 30.");
+    has_no_bill(SECOND FIRST, MMTF_BILL_ROOM, MMTF_JOB_NOT_RISING, "A job that falls is not refused with 30.");
+    has_no_bill(SECOND FIRST MALFORMED, 0, MMTF_JOB_NOT_RISING, "30 before 29, without room, is not refused with 30.");
+    has_no_bill(MALFORMED SECOND FIRST, 0, MMTF_RECEIPT_MALFORMED, "29 before 30, without room, is not refused with 29.");
+    has_no_bill(FIRST SECOND, 38, MMTF_BUFFER_TOO_SMALL, "A buffer one byte too small is not refused with 25.");
+    uint64_t written = 77;
+    expect(mmtf_bill(NULL, 0, NULL, 0, &written) == MMTF_BUFFER_TOO_SMALL && written == 77, "No room is not refused with 25.");
+    uint8_t *long_run = calloc(1, MMTF_FILE_LIMIT + 1);
+    expect(long_run != NULL, "There is no memory for a long run.");
+    if (long_run != NULL) {
+        expect(mmtf_bill(long_run, MMTF_FILE_LIMIT + 1, NULL, 0, &written) == MMTF_FILE_OVER_LIMIT && written == 77,
+               "A run over the limit is not refused with 1.");
+        expect(mmtf_bill(long_run, MMTF_FILE_LIMIT, NULL, 0, &written) == MMTF_RECEIPT_MALFORMED && written == 77,
+               "Zeros up to the limit are not refused with 29.");
+    }
+    free(long_run);
+}
+
 int main(void) {
     writes();
     refuses_to_write();
     reads();
     refuses_to_read();
+    bills();
+    refuses_bills();
     return wrong;
 }
