@@ -57,7 +57,8 @@ fn declared(code: &'static str) -> impl Iterator<Item = &'static str> {
 }
 
 /// Whether a call is on the cells of a column, which the part `codecs` measures.
-/// Those on files, receipts and headers are measured by `workloads`.
+/// Those on files, receipts, runs of these and headers are measured by
+/// `workloads`.
 pub fn is_on_column(call: &str) -> bool {
     call.starts_with("decode_") || call.starts_with("encode_") || call == "cell"
 }

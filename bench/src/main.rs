@@ -4,6 +4,7 @@
 //! a part it measures that part alone. Its status is 1 if a codec or a call of the
 //! header is not measured.
 
+mod bills;
 mod check;
 mod check_data;
 mod codecs;
@@ -35,6 +36,7 @@ fn main() -> ExitCode {
         Some("columns") => columns::rows(&Workloads::new()),
         Some("check") => check::rows(&Workloads::new()),
         Some("receipts") => receipts::rows(&Workloads::new()),
+        Some("bills") => bills::rows(&Workloads::new()),
         Some("codecs") => return word(1).map_or_else(codecs::tables, codecs::of_one),
         Some("opening") => opening::table(),
         Some("sizes") => sizes::table(),
@@ -50,7 +52,8 @@ fn main() -> ExitCode {
 }
 
 const PARTS: &str =
-    "workloads, container, columns, check, receipts, codecs, opening, sizes, stack, peers, once";
+    "workloads, container, columns, check, receipts, bills, codecs, opening, sizes, \
+                     stack, peers, once";
 
 /// Every table, also if something is not measured.
 fn every_part() -> ExitCode {
@@ -75,5 +78,6 @@ fn workloads() -> ExitCode {
     columns::rows(&table);
     check::rows(&table);
     receipts::rows(&table);
+    bills::rows(&table);
     coverage::judged("workloads", &coverage::unmeasured(coverage::is_on_file))
 }

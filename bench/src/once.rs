@@ -4,17 +4,20 @@
 use std::hint::black_box;
 use std::process::ExitCode;
 
+use mmtf_tests::check::bills::LONGEST;
 use mmtf_tests::corpus;
+use mmtf_tests::generate::bills::{every_station, longest, Run};
 use mmtf_tests::independent::receipt::{read_receipt, text, write_receipt};
 use mmtf_tests::{independent, library};
 
+use crate::bills::usual;
 use crate::check_data::{entities, runs_with_delta, structure};
 use crate::column_data::shape;
 use crate::columns::{one_cell, Column};
 use crate::opening::{by_library, by_rust};
 use crate::workloads::{many_outer_keys, HOSTILE};
 
-/// Work as both do it, and how many bytes or cells it is.
+/// Work as both do it, and how many bytes, cells or receipts it is.
 struct Work {
     units: usize,
     unit: &'static str,
@@ -63,6 +66,11 @@ const WORKS: &[(&str, Build)] = &[
         written(corpus::derived("4QXX").to_vec())
     }),
     ("receipt read", read),
+    ("bill: all stations", || {
+        billed(usual(100_000, &every_station()))
+    }),
+    ("bill: one station", || billed(usual(100_000, &[42]))),
+    ("bill: the longest receipts", || billed(longest(1_000))),
 ];
 
 /// The works on columns that the table has. Every other work on the column of a
@@ -204,6 +212,20 @@ fn read() -> Work {
         move |bytes| library::receipt::read_receipt_into(bytes, &mut numbers),
         read_receipt,
     )
+}
+
+fn billed(run: Run) -> Work {
+    let mut buffer = [0; LONGEST];
+    let mut other = [0; LONGEST];
+    Work {
+        units: run.receipts.len(),
+        unit: "receipt",
+        ..on_bytes(
+            run.bytes,
+            move |run| library::bill::bill(run, &mut buffer),
+            move |run| independent::bill::bill(run, &mut other),
+        )
+    }
 }
 
 /// A work on the column of a shape, by its name and the shape's.

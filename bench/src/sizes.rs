@@ -1,6 +1,9 @@
 //! Cost against size: the same work at 1, 4, 16 and 64 times the size, and the
-//! time for each byte or cell of it.
+//! time for each byte, cell or receipt of it.
 
+use mmtf_tests::generate::bills::every_station;
+
+use crate::bills::{billing, usual};
 use crate::check::verdict;
 use crate::check_data::{entities, large_type, runs_with_delta, structure, transforms};
 use crate::column_data::{shape, CELLS};
@@ -15,14 +18,14 @@ use crate::workloads::{HOSTILE, LARGEST};
 /// smallest.
 const PARTS: [usize; 4] = [64, 16, 4, 1];
 
-/// How much work there was, in bytes or cells, and its times.
+/// How much work there was, in bytes, cells or receipts, and its times.
 type Measured = (usize, Times);
 
 pub fn table() {
     let table = Table::new(&[
         Column::Names("work", 14),
         Column::Names("on", 38),
-        Column::Names("unit", 4),
+        Column::Names("unit", 7),
         Column::Numbers("1", 8),
         Column::Numbers("4", 8),
         Column::Numbers("16", 8),
@@ -44,6 +47,7 @@ pub fn table() {
         "byte",
         sizes,
     );
+    bills(&table);
 }
 
 fn of_file(file: Vec<u8>, work: impl Fn(&[u8]) -> Times) -> Measured {
@@ -71,6 +75,17 @@ fn verdicts(table: &Table) {
         "cell",
         sizes,
     );
+}
+
+fn bills(table: &Table) {
+    let stations = every_station();
+    for (on, stations) in [("all stations", &stations[..]), ("one station", &[42])] {
+        let sizes = PARTS.map(|part| {
+            let run = usual(LARGEST / part, stations);
+            (run.receipts.len(), billing(&run.bytes))
+        });
+        row(table, "bill", on, "receipt", sizes);
+    }
 }
 
 /// The columns of which the cost is asked.

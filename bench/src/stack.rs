@@ -6,12 +6,15 @@ use std::collections::BTreeSet;
 use std::hint::black_box;
 use std::process::ExitCode;
 
+use mmtf_tests::check::bills::LONGEST;
 use mmtf_tests::check::calls::*;
 use mmtf_tests::check::sample::Sample;
 use mmtf_tests::check::watch::Element;
 use mmtf_tests::corpus;
+use mmtf_tests::generate::bills::every_station;
 use mmtf_tests::generate::files::Value::Written;
 use mmtf_tests::independent::{outer_binaries, outer_keys};
+use mmtf_tests::library::bill::bill;
 use mmtf_tests::library::columns::cell;
 use mmtf_tests::library::header::header;
 use mmtf_tests::library::matrix::matrix;
@@ -19,6 +22,7 @@ use mmtf_tests::library::receipt::{read_receipt, write_receipt};
 use mmtf_tests::library::words::{meaning, version};
 use mmtf_tests::library::{container, verdict, view};
 
+use crate::bills::usual;
 use crate::check_data::{sawtooth, structure};
 use crate::column_data::SHAPES;
 use crate::coverage;
@@ -170,6 +174,12 @@ fn of_files(stack: &mut Stack) {
         black_box(read_receipt(&buffer));
     });
     stack.row("read_receipt", read);
+    let run = usual(100_000, &every_station()).bytes;
+    let mut room = [0; LONGEST];
+    let bills = used(&mut || {
+        black_box(bill(&run, &mut room));
+    });
+    stack.row("bill", bills);
     let meanings = (0..=u8::MAX).map(|number| {
         used(&mut || {
             black_box(meaning(number, &mut buffer));
