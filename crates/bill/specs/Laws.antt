@@ -10,3 +10,4 @@ pub mod Rising
 pub mod Columns
 pub mod Entries
 pub mod Answer
+pub mod Statement

@@ -2,6 +2,8 @@
 pub mod Run
 pub mod Bill
 pub mod Answer
+pub mod Sums
+pub mod Statement
 pub mod Ledger
 pub mod Steps
 pub mod Laws

@@ -36,6 +36,7 @@ use Rattle.encoding.specs.Demand.{Element, encoderSays, encoderLeaves}
 use Rattle.receipt.specs.Receipt.{numbersOf}
 use Rattle.receipt.specs.File.{receiptAnswer}
 use Rattle.receipt.specs.declared.Reading.{Reading}
+use Rattle.bill.specs.Answer.{billAnswer}
 use Rattle.receipt.specs.declared.Reading.the-variants as reading
 
 -- a view: the start and the length of the part afterwards
@@ -146,6 +147,13 @@ receiptNumber station job file buffer = answerNumber (receiptAnswer station job 
 
 abbrev pub receiptCount : ℕ → ℕ → List ℕ → List ℕ → ℕ → ℕ
 receiptCount station job file buffer old = answerCount (receiptAnswer station job file (length buffer)) old
+
+-- a bill written: its number, and the bytes written afterwards
+abbrev pub billedNumber : List ℕ → List ℕ → ℕ
+billedNumber receipts buffer = answerNumber (billAnswer receipts (length buffer))
+
+abbrev pub billedCount : List ℕ → List ℕ → ℕ → ℕ
+billedCount receipts buffer old = answerCount (billAnswer receipts (length buffer)) old
 
 -- the meaning of a number written: its number, and the bytes written afterwards
 abbrev pub meaningNumber : ℕ → List ℕ → ℕ

@@ -25,12 +25,13 @@ ghost use Rattle.meanings.specs.Meanings.{meaningBuffer};
 ghost use Rattle.receipt.specs.Receipt.{numbersOf};
 ghost use Rattle.receipt.specs.Reading.{readingOf};
 ghost use Rattle.receipt.specs.File.{Receipted, receiptBuffer};
+ghost use Rattle.bill.specs.Answer.{billBuffer, Billed};
 ghost use Rattle.mmtf.specs.Calls.{viewStart, viewLength, openedNumber, openedPresence, matrixRows, decodedNumber, decodedCount};
 ghost use Rattle.mmtf.specs.Calls.{floatsNumber, floatsCount, fixedOf, fixedNumber, fixedCount, fixedDivisor};
 ghost use Rattle.mmtf.specs.Version.{versionNumber};
 ghost use Rattle.mmtf.specs.Calls.{headerNumber, headerNow, headerParameter, meaningNumber, meaningCount};
 ghost use Rattle.mmtf.specs.Calls.{cellNumber, cellKind, cellInteger, cellReal, encodedNumber, encodedCount, encodedLeaves};
-ghost use Rattle.mmtf.specs.Calls.{receiptNumber, receiptCount, readNumber, readNumbers};
+ghost use Rattle.mmtf.specs.Calls.{receiptNumber, receiptCount, readNumber, readNumbers, billedNumber, billedCount};
 use cells::Cell;
 use columns::Header;
 use columns::Kind;
@@ -438,6 +439,23 @@ fn in_order(receipt: Receipt) -> [u32; 10]
         receipt.fields,
         receipt.units,
     ]
+}
+
+// The bill of a run of receipts; or the refusal, 1 for a run over the limit, then 29 or 30 of the first receipt at fault, then 25.
+#[no_mangle]
+pub extern "C" fn mmtf_bill(receipts: &[u8], buffer: &mut [u8], written: &mut u64) -> u8
+    ensures answer { λ r. ⌜ r ≡ billedNumber (now (receipts .entry)) (now (buffer .entry)) ⌝ }
+    ensures written { λ r. ⌜ now (written .exit) ≡ billedCount (now (receipts .entry)) (now (buffer .entry)) (now (written .entry)) ⌝ }
+    ensures buffer { λ r. ⌜ now (buffer .exit) ≡ billBuffer (now (receipts .entry)) (now (buffer .entry)) ⌝ }
+    ensures bill { λ r. ⌜ (r ≡ 0 → Billed (now (receipts .entry)) (take (now (written .exit)) (now (buffer .exit)))) ⌝ }
+{
+    match bill::bill(receipts, buffer) {
+        Answer::Refused(number) => number,
+        Answer::Count(size) => {
+            *written = size as u64;
+            refusal::ACCEPTED
+        }
+    }
 }
 
 // The words of a refusal number; or the refusal, 28 for a number that the table does not have, then 25.

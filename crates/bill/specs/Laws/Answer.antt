@@ -213,16 +213,60 @@ number-room bytes q = go (leb (length bytes) fileLimit) (rising (frontReceipts b
 refusals : (a b : ℕ) → Refused a ≡ Refused b → a ≡ b
 refusals a b p = cc
 
+-- the text is not longer than the longest
+pub text-most : (bytes : List ℕ) → Billable bytes → length (textOf bytes) ≤ billLimit
+unfolding textOf
+text-most bytes b = omega (arith, bill-most (b .run) (b .small), ap (λ (rs : List Receipt). length (billText (billOf rs))) (front-run (b .run)))
+
 -- a buffer with the stated room is never too small
 pub answered-room : (bytes : List ℕ) (n : ℕ) → billLimit ≤ n → billAnswer bytes n ≡ Refused bufferTooSmall → ⊥
-unfolding billAnswer textOf
+unfolding billAnswer
 answered-room bytes n l q = go (eqb (billNumber bytes) accepted) refl q
   where
     go : (t : Bool) → eqb (billNumber bytes) accepted ≡ t → cond t (answered (length (textOf bytes)) n) (Refused (billNumber bytes)) ≡ Refused bufferTooSmall → ⊥
     go true e p =
-        let b = billable-exactly bytes .0 (eqb-true (billNumber bytes) accepted e) in
-        let most = bill-most (b .run) (b .small) in
-        let here : length (textOf bytes) ≤ n = omega (arith, ap (λ (rs : List Receipt). length (billText (billOf rs))) (front-run (b .run))) in
+        let most = text-most bytes (billable-exactly bytes .0 (eqb-true (billNumber bytes) accepted e)) in
+        let here : length (textOf bytes) ≤ n = omega arith in
         let z : cond (leb (length (textOf bytes)) n) (Count (length (textOf bytes))) (Refused bufferTooSmall) ≡ Count (length (textOf bytes)) = rw (le-leb (length (textOf bytes)) n here) in
         never bufferTooSmall (length (textOf bytes)) (sym p ∙ z)
     go false e p = number-room bytes (refusals (billNumber bytes) bufferTooSmall p)
+
+-- a refusal has a number
+pub answered-number : (bytes : List ℕ) (n r : ℕ) → Refused r ≡ billAnswer bytes n → r ≡ accepted → ⊥
+unfolding billAnswer
+answered-number bytes n r q z = go (eqb (billNumber bytes) accepted) refl (leb (length (textOf bytes)) n) q
+  where
+    go : (t : Bool) → eqb (billNumber bytes) accepted ≡ t → (u : Bool)
+        → Refused r ≡ cond t (cond u (Count (length (textOf bytes))) (Refused bufferTooSmall)) (Refused (billNumber bytes)) → ⊥
+    go true e true p = never r (length (textOf bytes)) p
+    go true e false p = omega (arith, refusals r bufferTooSmall p)
+    go false e u p = eqb-false (billNumber bytes) accepted e (sym (refusals r (billNumber bytes) p) ∙ z)
+
+-- bytes are billed, with enough room, exactly when they are a run whose jobs rise
+pub billed-exactly : (bytes : List ℕ) (n : ℕ) → billLimit ≤ n → (billAnswer bytes n ≡ Count (length (textOf bytes))) ↔ Billable bytes
+unfolding billAnswer
+billed-exactly bytes n l = (there, back)
+  where
+    there : cond (eqb (billNumber bytes) accepted) (answered (length (textOf bytes)) n) (Refused (billNumber bytes)) ≡ Count (length (textOf bytes)) → Billable bytes
+    there q = go (eqb (billNumber bytes) accepted) refl q
+      where
+        go : (t : Bool) → eqb (billNumber bytes) accepted ≡ t → cond t (answered (length (textOf bytes)) n) (Refused (billNumber bytes)) ≡ Count (length (textOf bytes)) → Billable bytes
+        go true e p = billable-exactly bytes .0 (eqb-true (billNumber bytes) accepted e)
+        go false e p = never (billNumber bytes) (length (textOf bytes)) p
+
+    back : Billable bytes → cond (eqb (billNumber bytes) accepted) (answered (length (textOf bytes)) n) (Refused (billNumber bytes)) ≡ Count (length (textOf bytes))
+    back b =
+        let most = text-most bytes b in
+        rw (eq-eqb (billNumber bytes) accepted (billable-exactly bytes .1 b), le-leb (length (textOf bytes)) n (omega arith))
+
+-- what is written is the bill
+pub bill-written : (bytes buffer : List ℕ) (n : ℕ) → billAnswer bytes (length buffer) ≡ Count n → Billed bytes (take n (billBuffer bytes buffer))
+bill-written bytes buffer n q = go (eqb (billNumber bytes) accepted) refl
+  where
+    go : (t : Bool) → eqb (billNumber bytes) accepted ≡ t → Billed bytes (take n (billBuffer bytes buffer))
+    go true e =
+        let says = says-written bytes buffer (leaves (textOf bytes) buffer) (answered (length (textOf bytes)) (length buffer)) (eqb-true (billNumber bytes) accepted e) refl refl in
+        subst (λ (x : List ℕ). Billed bytes (take n x)) (says .1 .0) (says .1 .1 n (says .0 ∙ q))
+    go false e =
+        let says = says-refused bytes buffer (billNumber bytes) refl (eqb-false (billNumber bytes) accepted e) in
+        never (billNumber bytes) n (says .0 ∙ q)

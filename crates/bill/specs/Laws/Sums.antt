@@ -14,6 +14,7 @@ use Rattle.receipt.specs.declared.Receipt.{Receipt}
 use Rattle.receipt.specs.Receipt.{stationLimit, jobLimit, verdictLimit, numbered, acceptedRight, refusedRight, rulesKept}
 use Rattle.bill.specs.Run.{allKept, stationsFrom, stations, above, increasing}
 use Rattle.bill.specs.Bill.{Entry, counted, isOf, isAccepted, receiptsOf, acceptedOf, refusedOf, allAccepted, entriesIn, billOf}
+use Rattle.bill.specs.Sums.{entriesAccepted, entriesRefused, stationsIn}
 use Rattle.bill.specs.Laws.Run.{kept-first, kept-rest}
 
 -- What the rules say of a receipt
@@ -173,19 +174,6 @@ total-receipts rs h =
     and-true false = refl
 
 -- The entries of a bill
-
--- the accepted and the refused jobs of entries, and their stations
-unfoldable pub entriesAccepted : List Entry → ℕ
-entriesAccepted [] = 0
-entriesAccepted (e ∷ es) = e .accepted + entriesAccepted es
-
-unfoldable pub entriesRefused : List Entry → ℕ
-entriesRefused [] = 0
-entriesRefused (e ∷ es) = e .refused + entriesRefused es
-
-unfoldable pub stationsIn : List Entry → List ℕ
-stationsIn [] = []
-stationsIn (e ∷ es) = e .station ∷ stationsIn es
 
 -- a station that does not occur has no jobs
 no-jobs : (s : ℕ) (rs : List Receipt) → ltb 0 (receiptsOf s rs) ≡ false → (acceptedOf s rs ≡ 0) × (refusedOf s rs ≡ 0)

@@ -8,13 +8,9 @@ use native.Mathlib.Omega.{arith}
 use Rattle.receipt.specs.declared.Receipt.{Receipt}
 use Rattle.bill.specs.Run.{allKept}
 use Rattle.bill.specs.Bill.{counted, isOf, isAccepted, acceptedOf, allAccepted}
+use Rattle.bill.specs.Sums.{unitsSum}
 use Rattle.bill.specs.Laws.Run.{kept-first, kept-rest}
 use Rattle.bill.specs.Laws.Sums.{kept-units}
-
--- the sum of the units of the receipts that pass a test
-unfoldable pub unitsSum : (Receipt → Bool) → List Receipt → ℕ
-unitsSum test [] = 0
-unitsSum test (r ∷ rs) = cond (test r) (r .units + unitsSum test rs) (unitsSum test rs)
 
 -- the accepted receipts among those that pass a test are as many as the units of these
 units-counted : (test : Receipt → Bool) (rs : List Receipt) → allKept rs ≡ true → counted (λ (r : Receipt). test r && isAccepted r) rs ≡ unitsSum test rs
