@@ -451,8 +451,8 @@ pub extern "C" fn mmtf_bill(receipts: &[u8], buffer: &mut [u8], written: &mut u6
 {
     match bill::bill(receipts, buffer) {
         Answer::Refused(number) => number,
-        Answer::Count(size) => {
-            *written = size as u64;
+        Answer::Count(bytes) => {
+            *written = bytes as u64;
             refusal::ACCEPTED
         }
     }

@@ -16,8 +16,8 @@ returns c =
 returns-2 : tie.Need-returns-2
 returns-2 c =
     let a = c .before .before .before .before .before .before .before .before .before .args in
-    let e = sym (c .before .size .given .1) ∙ c .before .before .before .before .before .bill .ensures .0 in
-    (ap answerNumber e, (ap (λ (o : Answer). answerCount o (a .written .now)) e, (c .before .before .before .before .before .bill .ensures .1 .0, λ z. c .before .before .before .before .before .bill .ensures .1 .1 _ (c .before .size .given .1))))
+    let e = sym (c .before .bytes .given .1) ∙ c .before .before .before .before .before .bill .ensures .0 in
+    (ap answerNumber e, (ap (λ (o : Answer). answerCount o (a .written .now)) e, (c .before .before .before .before .before .bill .ensures .1 .0, λ z. c .before .before .before .before .before .bill .ensures .1 .1 _ (c .before .bytes .given .1))))
 
 pub mmtf-bill-spec : {M : Type 1} → statement M
 mmtf-bill-spec =
