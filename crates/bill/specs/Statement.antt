@@ -2,8 +2,8 @@
 -- `billBuffer` are what `bill::bill` answers and leaves, by its contract. No lemma stands here: that it holds is `exact-bill` of Laws/Statement.antt.
 -- Assumes nothing.
 use mathlib.Core.Path.{_≡_}
-use mathlib.Core.Bool.{Bool, true}
-use mathlib.Core.List.{List, []}
+use mathlib.Core.Bool.{true}
+use mathlib.Core.List.{List}
 use mathlib.Core.Logic.{_↔_}
 use Prim.Native.Nat.{ℕ, _+_, _≤_}
 use lib.ListN.{length, take}

@@ -4,10 +4,10 @@
 ghost use mathlib.Core.Path.{_≡_};
 ghost use mathlib.Core.Bool.{cond, _&&_};
 ghost use lib.Dec.{eqb};
-ghost use Prim.Native.Nat.{ℕ, _+_, _%_};
+ghost use Prim.Native.Nat.{ℕ, suc, _%_};
 ghost use lib.ListN.{length, getD, set, take, replicate};
 ghost use Rattle.refusal.specs.Answer.{answered, leaves};
-ghost use Rattle.receipt.specs.Receipt.{namedLine};
+ghost use Rattle.receipt.specs.Receipt.{stationLimit};
 ghost use Rattle.text.specs.Put.{Put};
 ghost use Rattle.bill.specs.Run.{stations};
 ghost use Rattle.bill.specs.Bill.{entryText, entriesText, billText};
@@ -208,7 +208,7 @@ fn has_none(accepted: u32, refused: u32) -> bool
 
 // A column with 0 for every station.
 fn column() -> [u32; STATIONS]
-    ensures { λ r. ⌜ r ≡ replicate 100 0 ⌝ }
+    ensures { λ r. ⌜ r ≡ replicate (suc stationLimit) 0 ⌝ }
 {
     [0u32; STATIONS]
 }

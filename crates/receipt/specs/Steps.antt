@@ -7,7 +7,7 @@ use lib.ListN.{length, drop}
 use Rattle.numbers.specs.Ranges.{within}
 use Rattle.text.specs.Ascii.{ascii}
 use Rattle.text.specs.Equal.{begins}
-use Rattle.text.specs.Decimal.{isDigit, decimal}
+use Rattle.text.specs.Decimal.{isDigit}
 use Rattle.receipt.specs.declared.Line.{Line}
 use Rattle.receipt.specs.declared.Receipt.{Receipt}
 use Rattle.receipt.specs.Receipt.{namedLine}

@@ -1,6 +1,6 @@
 -- The receipts before a place are entered; the next one is, or entering stops there. Assumes nothing.
 use mathlib.Core.Path.{_≡_, sym, ap, subst, _∙_}
-use mathlib.Core.Bool.{Bool, true, false}
+use mathlib.Core.Bool.{true, false}
 use Prim.Native.Nat.{ℕ, _+_, _-_, _<_, _≤_}
 use native.Mathlib.Omega.{arith}
 use lib.Dec.{ltb}
@@ -93,10 +93,12 @@ loop-again c =
     let g = c .before .before .before .before .before .before .before .before .before .before .before .before .before .before .before .before .before .found .given .0 in
     let room : least (a .ends) ≤ length (drop (p .at) (a .receipts .now)) = omega (arith, c .before .before .before .before .before .before .before .before .before .before .before .before .before .before .before .before .before .before .before .before .loop-test .taken, c .before .before .before .before .before .before .before .before .before .before .before .before .before .before .before .before .before .before .before .before .before .before .least-left .ensures, length-drop (p .at) (a .receipts .now)) in
     let last : getD (p .jobs) (g .0 .station) 0 ≡ c .before .before .before .before .before .before .before .before .before .before .before .before .before .at-station .result = sym (c .before .before .before .before .before .before .before .before .before .before .before .before .before .at-station .ensures ∙ ap (λ (n : ℕ). getD (p .jobs) n 0) (c .before .before .before .before .before .before .before .before .before .before .before .before .before .before .before .u32-to-usize .ensures)) in
-    let rise : rises (ledger (p .jobs) (p .accepted) (p .refused)) (g .0) ≡ true = ap (λ (n : ℕ). ltb n (g .0 .job)) last ∙ lt-ltb (c .before .before .before .before .before .before .before .before .before .before .before .before .before .at-station .result) (g .0 .job) (c .before .before .before .before .before .before .before .before .before .before .before .if1 .left) in
-    (p .inv .0, subst (λ (l : Ledger). Entering (a .receipts .now) (a .ends) (ledger (a .jobs .now) (a .accepted .now) (a .refused .now)) l (g .1 .0) (p .count + 1))
-    (sym (posted-as (p .jobs) (p .accepted) (p .refused) _ _ _ (g .0) (c .before .before .before .before .before .before .before .before .before .before .before .before .before .before .before .u32-to-usize .result) (c .before .before .before .before .before .before .before .before .before .before .before .before .before .before .before .u32-to-usize .ensures) (c .before .before .before .before .before .before .before .before .before .store .ensures) (c .before .before .before .before .tally .ensures .0) (c .before .before .before .before .tally .ensures .1)))
-    (entering-one (p .inv .1) (g .0) (g .1 .0) (found (c .before .before .before .before .before .before .before .before .before .before .before .before .before .before .before .before .before)) room rise))
+    let rise : rises (ledger (p .jobs) (p .accepted) (p .refused)) (g .0) ≡ true = ap (λ (n : ℕ). ltb n (g .0 .job)) last ∙ lt-ltb (c .before .before .before .before .before .before .before .before .before .before .before .before .before .at-station .result) (g .0 .job) (c .before .before .before .before .before .before .before .before .before .before .before .if1 .left) in (
+      p .inv .0,
+      subst (λ (l : Ledger). Entering (a .receipts .now) (a .ends) (ledger (a .jobs .now) (a .accepted .now) (a .refused .now)) l (g .1 .0) (p .count + 1))
+          (sym (posted-as (p .jobs) (p .accepted) (p .refused) _ _ _ (g .0) (c .before .before .before .before .before .before .before .before .before .before .before .before .before .before .before .u32-to-usize .result) (c .before .before .before .before .before .before .before .before .before .before .before .before .before .before .before .u32-to-usize .ensures) (c .before .before .before .before .before .before .before .before .before .store .ensures) (c .before .before .before .before .tally .ensures .0) (c .before .before .before .before .tally .ensures .1)))
+          (entering-one (p .inv .1) (g .0) (g .1 .0) (found (c .before .before .before .before .before .before .before .before .before .before .before .before .before .before .before .before .before)) room rise),
+    )
 
 returns-3 : tie.Need-returns-3 Inv-loop μ-loop
 returns-3 c =

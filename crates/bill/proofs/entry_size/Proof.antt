@@ -1,12 +1,7 @@
 -- Without jobs there is no entry; else it has three lines. Assumes nothing.
-use mathlib.Core.Path.{_≡_, sym, ap, _∙_}
-use mathlib.Core.Bool.{cond}
-use mathlib.Core.List.{List, []}
-use Prim.Native.Nat.{ℕ, _+_}
+use mathlib.Core.Path.{sym, _∙_}
 use native.Mathlib.Omega.{arith}
-use lib.ListN.{length}
 use borrow.Author.Needs.{needs}
-use borrow.Author.Tests.{not-true, not-false}
 use Rattle.text.specs.Laws.Decimal.{decimal-few}
 use Rattle.bill.specs.Laws.Entries.{entry-length}
 use Rattle.bill.proofs.entry_size.Statement.{statement}

@@ -1,7 +1,7 @@
 -- Without jobs nothing is put; else three lines, one after another. Assumes nothing.
-use mathlib.Core.Path.{_≡_, sym, ap, _∙_}
+use mathlib.Core.Path.{sym, _∙_}
 use borrow.Author.Needs.{needs}
-use Rattle.text.specs.Laws.Put.{put-none, put-more, put-as, put-length}
+use Rattle.text.specs.Laws.Put.{put-none, put-more, put-as}
 use Rattle.bill.specs.Bill.{entryText}
 use Rattle.bill.proofs.put_entry.Statement.{statement}
 use Rattle.bill.proofs.put_entry.Tie as tie

@@ -1,5 +1,5 @@
 -- What is stored is one more than what is there. Assumes nothing.
-use mathlib.Core.Path.{_≡_, ap, _∙_}
+use mathlib.Core.Path.{ap, _∙_}
 use Prim.Native.Nat.{ℕ, _+_, _%_}
 use lib.ListN.{set}
 use borrow.Author.Needs.{needs}

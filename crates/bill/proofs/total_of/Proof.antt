@@ -1,21 +1,22 @@
 -- What is added and what is left give the total. Assumes nothing.
 use mathlib.Core.Path.{_≡_, sym, ap, subst, _∙_}
-use Prim.Native.Nat.{ℕ, _+_, _-_, _%_, _<_, _≤_}
+use Prim.Native.Nat.{ℕ, suc, _+_, _-_, _%_, _<_, _≤_}
 use native.Mathlib.Omega.{arith}
 use native.Mathlib.Nat.{mod-lt, mod-eq-of-lt}
 use borrow.Author.Needs.{needs}
 use Rattle.bill.specs.Run.{stations}
 use Rattle.bill.specs.Ledger.{ledgerTotal}
+use Rattle.receipt.specs.Receipt.{stationLimit}
 use Rattle.bill.specs.Laws.Entries.{stationsLeft, total-first, total-next, total-none}
 use Rattle.bill.proofs.total_of.Statement.{statement}
 use Rattle.bill.proofs.total_of.Tie as tie
 
 abbrev Inv-loop : tie.InvT-loop
 Inv-loop accepted total₀ station₀ total station =
-    (station ≤ 100) × (total < 4294967296) × ((total + ledgerTotal (stationsLeft station) accepted) % 4294967296 ≡ ledgerTotal stations accepted % 4294967296)
+    (station ≤ suc stationLimit) × (total < 4294967296) × ((total + ledgerTotal (stationsLeft station) accepted) % 4294967296 ≡ ledgerTotal stations accepted % 4294967296)
 
 abbrev μ-loop : tie.MeasureT-loop
-μ-loop accepted total₀ station₀ total station = 100 - station
+μ-loop accepted total₀ station₀ total station = suc stationLimit - station
 
 loop-holds : tie.Need-loop-holds Inv-loop μ-loop
 loop-holds c = (omega arith, omega arith, ap (λ (n : ℕ). n % 4294967296) (omega (arith, total-first (c .before .args .accepted .now))))

@@ -1,7 +1,7 @@
 -- The size is that of the text, and the text is put where there is room for it. Assumes nothing.
-use mathlib.Core.Path.{_≡_, sym, ap, _∙_}
-use mathlib.Core.List.{List, _++_}
-use Prim.Native.Nat.{ℕ, _+_, _%_}
+use mathlib.Core.Path.{_≡_, sym, ap}
+use mathlib.Core.List.{_++_}
+use Prim.Native.Nat.{ℕ, _+_}
 use native.Mathlib.Omega.{arith}
 use lib.ListN.{length}
 use borrow.Author.Needs.{needs}
@@ -11,7 +11,7 @@ use Rattle.text.specs.Laws.Put.{put-more, put-as, put-length}
 use Rattle.receipt.specs.Receipt.{namedLine}
 use Rattle.bill.specs.Run.{stations}
 use Rattle.bill.specs.Bill.{entriesText, billText}
-use Rattle.bill.specs.Ledger.{ledgerEntries, ledgerTotal, ledgerBill}
+use Rattle.bill.specs.Ledger.{ledgerEntries, ledgerBill}
 use Rattle.bill.specs.Laws.Entries.{entries-few, bill-length, write-short, write-all}
 use Rattle.bill.proofs.write.Statement.{statement}
 use Rattle.bill.proofs.write.Tie as tie
@@ -41,7 +41,7 @@ unfolding billText
 returns-2 c =
     let a = c .before .before .before .before .before .before .before .before .before .before .before .before .before .before .before .before .args in
     let text : billText (ledgerBill (a .accepted .now) (a .refused .now)) ≡ entriesText (ledgerEntries stations (a .accepted .now) (a .refused .now)) ++ namedLine "total" (c .before .before .before .before .before .before .before .before .before .before .before .before .total-of .result) =
-        ap (λ (n : ℕ). entriesText (ledgerEntries stations (a .accepted .now) (a .refused .now)) ++ namedLine "total" n) (sym (c .before .before .before .before .before .before .before .before .before .before .before .before .total-of .ensures)) in
+    ap (λ (n : ℕ). entriesText (ledgerEntries stations (a .accepted .now) (a .refused .now)) ++ namedLine "total" n) (sym (c .before .before .before .before .before .before .before .before .before .before .before .before .total-of .ensures)) in
     write-all (a .accepted .now) (a .refused .now) (a .buffer .now) _ (sized (c .before .before .before .before .before .before .before .before .before .before)) (c .before .before .before .before .before .before .before .before .before .if1 .left) (put-as (put-more (c .before .before .before .before .before .before .before .put-entries .ensures) (c .before .before .put-line .ensures)) text)
 
 pub write-spec : {M : Type 1} → statement M

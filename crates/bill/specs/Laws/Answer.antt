@@ -4,7 +4,7 @@ use mathlib.Core.Path.{_≡_, refl, sym, ap, subst, _∙_}
 use mathlib.Core.Bool.{Bool, true, false, cond, _&&_}
 use mathlib.Core.List.{List, [], _∷_, _++_, append-nil}
 use mathlib.Core.Logic.{_↔_}
-use Prim.Native.Nat.{ℕ, zero, suc, _+_, _-_, _*_, _≤_, _<_}
+use Prim.Native.Nat.{ℕ, suc, _+_, _-_, _≤_, _<_}
 use native.Mathlib.Omega.{arith}
 use lib.Dec.{eqb, leb}
 use lib.ListN.{length, take, drop, length-append, length-drop}
@@ -56,10 +56,10 @@ number-malformed : (rs : List Receipt) (rest : List ℕ) → allKept rs ≡ true
 unfolding runNumber
 number-malformed rs rest k h l f =
     let front : frontReceipts (texts rs ++ rest) ≡ rs =
-        front-texts rs rest k ∙ ap (λ (x : List Receipt). rs ++ x) (receipts-none (length (texts rs ++ rest) - length rs) rest f) ∙ append-nil rs in
+    front-texts rs rest k ∙ ap (λ (x : List Receipt). rs ++ x) (receipts-none (length (texts rs ++ rest) - length rs) rest f) ∙ append-nil rs in
     let rise : rising (frontReceipts (texts rs ++ rest)) ≡ true = ap rising front ∙ rising-rise rs k ∙ h in
     let other : equal (texts (frontReceipts (texts rs ++ rest))) (texts rs ++ rest) ≡ false =
-        ap (λ (x : List Receipt). equal (texts x) (texts rs ++ rest)) front ∙ equal-lengths (texts rs) (texts rs ++ rest) (λ e. omega (arith, length-append (texts rs) rest)) in
+    ap (λ (x : List Receipt). equal (texts x) (texts rs ++ rest)) front ∙ equal-lengths (texts rs) (texts rs ++ rest) (λ e. omega (arith, length-append (texts rs) rest)) in
     rw (rise, other)
 
 -- up to a receipt whose job does not rise
@@ -67,16 +67,16 @@ number-falling : (rs : List Receipt) (rest : List ℕ) → allKept rs ≡ true �
 unfolding runNumber allRise
 number-falling rs rest k f h =
     let some : 1 ≤ length (texts rs ++ rest) - length rs =
-        omega (arith, texts-least rs, length-append (texts rs) rest, written-least (readFrom rest), ap length (front-text rest f), length-append (written (readFrom rest)) (drop (length (written (readFrom rest))) rest)) in
+    omega (arith, texts-least rs, length-append (texts rs) rest, written-least (readFrom rest), ap length (front-text rest f), length-append (written (readFrom rest)) (drop (length (written (readFrom rest))) rest)) in
     let more : length (texts rs ++ rest) - length rs ≡ suc (length (texts rs ++ rest) - length rs - 1) = omega arith in
     let front : frontReceipts (texts rs ++ rest) ≡ rs ++ (readFrom rest ∷ receiptsIn (length (texts rs ++ rest) - length rs - 1) (drop (length (written (readFrom rest))) rest)) =
-        front-texts rs rest k ∙ ap (λ (n : ℕ). rs ++ receiptsIn n rest) more ∙ ap (λ (x : List Receipt). rs ++ x) (receipts-some (length (texts rs ++ rest) - length rs - 1) rest f) in
+    front-texts rs rest k ∙ ap (λ (n : ℕ). rs ++ receiptsIn n rest) more ∙ ap (λ (x : List Receipt). rs ++ x) (receipts-some (length (texts rs ++ rest) - length rs - 1) rest f) in
     let fall : rising (frontReceipts (texts rs ++ rest)) ≡ false =
-        rising-rise (frontReceipts (texts rs ++ rest)) (receipts-kept (length (texts rs ++ rest)) (texts rs ++ rest))
-        ∙ ap (allRise blank) front
-        ∙ rise-append rs (readFrom rest ∷ receiptsIn (length (texts rs ++ rest) - length rs - 1) (drop (length (written (readFrom rest))) rest)) blank
-        ∙ and-fails (allRise blank rs) (allRise (postedAll blank rs) (readFrom rest ∷ receiptsIn (length (texts rs ++ rest) - length rs - 1) (drop (length (written (readFrom rest))) rest)))
-        (ap (λ (b : Bool). b && allRise (posted (postedAll blank rs) (readFrom rest)) (receiptsIn (length (texts rs ++ rest) - length rs - 1) (drop (length (written (readFrom rest))) rest))) h) in
+    rising-rise (frontReceipts (texts rs ++ rest)) (receipts-kept (length (texts rs ++ rest)) (texts rs ++ rest))
+    ∙ ap (allRise blank) front
+    ∙ rise-append rs (readFrom rest ∷ receiptsIn (length (texts rs ++ rest) - length rs - 1) (drop (length (written (readFrom rest))) rest)) blank
+    ∙ and-fails (allRise blank rs) (allRise (postedAll blank rs) (readFrom rest ∷ receiptsIn (length (texts rs ++ rest) - length rs - 1) (drop (length (written (readFrom rest))) rest)))
+    (ap (λ (b : Bool). b && allRise (posted (postedAll blank rs) (readFrom rest)) (receiptsIn (length (texts rs ++ rest) - length rs - 1) (drop (length (written (readFrom rest))) rest))) h) in
     rw fall
 
 -- What entering all bytes gives

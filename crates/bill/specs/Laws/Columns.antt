@@ -6,13 +6,13 @@ use Prim.Native.Nat.{ℕ, zero, suc, _+_, _%_, _≤_, _<_}
 use native.Mathlib.Omega.{arith}
 use native.Mathlib.Nat.{mod-eq-of-lt}
 use lib.Dec.{eqb, ltb}
-use lib.ListN.{length, getD, set, replicate, length-set, length-replicate, getD-replicate}
+use lib.ListN.{length, getD, length-set, length-replicate, getD-replicate}
 use lib.Seq.{getD-set-same, getD-set-other}
-use borrow.Author.Tests.{eqb-true, eqb-false, eq-eqb, ne-eqb, lt-ltb, le-ltb}
+use borrow.Author.Tests.{eqb-true, eqb-false, ne-eqb, lt-ltb}
 use Rattle.receipt.specs.declared.Receipt.{Receipt}
 use Rattle.receipt.specs.Receipt.{stationLimit}
 use Rattle.bill.specs.Run.{allKept, stationsFrom, stations}
-use Rattle.bill.specs.Bill.{Entry, counted, isOf, isAccepted, receiptsOf, acceptedOf, refusedOf, allAccepted, entriesIn, billOf}
+use Rattle.bill.specs.Bill.{Entry, counted, isOf, isAccepted, acceptedOf, refusedOf, allAccepted, entriesIn, billOf}
 use Rattle.bill.specs.Ledger.{Ledger, raised, posted, postedAll, ledgerEntries, ledgerTotal, ledgerBill}
 use Rattle.bill.specs.Laws.Sums.{sumOf, counted-more, receipts-apart, total-accepted}
 use Rattle.bill.specs.Laws.Longest.{counted-most}

@@ -1,5 +1,5 @@
 -- Laws of a ledger's bill: station by station, as the code goes through them. Assumes nothing.
-use mathlib.Core.Path.{_≡_, refl, sym, ap, ap₂, _∙_}
+use mathlib.Core.Path.{_≡_, refl, sym, ap, _∙_}
 use mathlib.Core.Bool.{Bool, true, false, cond, _&&_}
 use mathlib.Core.List.{List, [], _∷_, _++_, append-assoc, append-nil}
 use Prim.Native.Nat.{ℕ, zero, suc, _+_, _-_, _*_, _%_, _<_, _≤_}
@@ -15,7 +15,7 @@ use Rattle.text.specs.Decimal.{decimal}
 use Rattle.text.specs.Put.{Put}
 use Rattle.text.specs.Laws.Decimal.{decimal-few}
 use Rattle.text.specs.Laws.Put.{put-none, put-more, put-as, put-all}
-use Rattle.receipt.specs.Receipt.{stationLimit, line, namedLine}
+use Rattle.receipt.specs.Receipt.{stationLimit}
 use Rattle.receipt.specs.Laws.Rules.{line-length}
 use Rattle.bill.specs.Run.{stationsFrom, stations}
 use Rattle.bill.specs.Bill.{Entry, entryText, entriesText, billText}

@@ -1,11 +1,11 @@
 -- Laws of the ledger: receipts posted one after another, and what is known while bytes are entered. Assumes nothing.
-use mathlib.Core.Path.{_≡_, refl, sym, ap, subst, _∙_}
+use mathlib.Core.Path.{_≡_, refl, sym, ap, _∙_}
 use mathlib.Core.Bool.{Bool, true, false, cond, _&&_}
-use mathlib.Core.List.{List, [], _∷_, _++_, append-assoc, append-nil}
+use mathlib.Core.List.{List, [], _∷_, _++_, append-assoc}
 use Prim.Native.Nat.{ℕ, zero, suc, _+_, _*_, _≤_, _<_}
 use native.Mathlib.Omega.{arith}
-use lib.Dec.{eqb, ltb}
-use lib.ListN.{length, getD, set, drop, length-append, length-set, length-drop}
+use lib.Dec.{eqb}
+use lib.ListN.{length, set, drop, length-append, length-set, length-drop}
 use Rattle.numbers.specs.Laws.Tests.{and-both}
 use Rattle.receipt.specs.declared.Receipt.{Receipt}
 use Rattle.receipt.specs.declared.Found.the-variants.{At}
@@ -14,10 +14,9 @@ use Rattle.receipt.specs.Reading.{readFrom, hasFront, foundAt}
 use Rattle.receipt.specs.Laws.Rules.{written-least}
 use Rattle.receipt.specs.Laws.Reading.{read-front, front-of}
 use Rattle.receipt.specs.Laws.Found.{found-stands}
-use Rattle.bill.specs.declared.Entered.{Entered}
 use Rattle.bill.specs.Run.{texts, allKept}
 use Rattle.bill.specs.Bill.{isAccepted}
-use Rattle.bill.specs.Ledger.{Ledger, raised, posted, postedAll, rises, allRise, least, Stops, few, malformed, falling, Enters}
+use Rattle.bill.specs.Ledger.{Ledger, raised, posted, postedAll, rises, allRise, least, Stops, falling, Enters}
 use Rattle.bill.specs.Steps.{ledger}
 use Rattle.bill.specs.Laws.Run.{texts-append, texts-one, texts-least, kept-append, kept-one}
 

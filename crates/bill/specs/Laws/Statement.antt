@@ -1,10 +1,4 @@
 -- The statement of the bill holds: each part is a law of its own. Assumes nothing.
-use mathlib.Core.Path.{_≡_, refl}
-use mathlib.Core.List.{List}
-use Prim.Native.Nat.{ℕ}
-use lib.ListN.{length}
-use Rattle.refusal.specs.declared.Answer.the-variants.{Count}
-use Rattle.bill.specs.Answer.{billAnswer, billBuffer, Billed}
 use Rattle.bill.specs.Statement.{ExactBill}
 use Rattle.bill.specs.Laws.Run as run
 use Rattle.bill.specs.Laws.Sums as sums

@@ -1,6 +1,6 @@
 -- What is left to read, after the digits that are read, gives the line. Assumes nothing.
 use mathlib.Core.Path.{_≡_, refl as same, sym, ap, _∙_}
-use Prim.Native.Nat.{ℕ, _+_, _*_, _-_, _<_, _≤_}
+use Prim.Native.Nat.{ℕ, _+_, _*_, _-_}
 use native.Mathlib.Omega.{arith}
 use lib.ListN.{length, getD, drop}
 use borrow.Author.Needs.{needs}

@@ -1,10 +1,7 @@
 -- The ten numbers are a receipt's, or they are not; none stands there if they are not. Assumes nothing.
-use mathlib.Core.Path.{_≡_, sym, ap, ap₂, _∙_}
-use mathlib.Core.Bool.{Bool, true, false}
-use Prim.Native.Nat.{ℕ}
+use mathlib.Core.Path.{sym, ap, ap₂, _∙_}
 use borrow.Author.Needs.{needs}
 use borrow.Author.Tests.{not-true, not-false}
-use Rattle.receipt.specs.declared.Receipt.{Receipt}
 use Rattle.receipt.specs.declared.Found.the-variants.{At}
 use Rattle.receipt.specs.Receipt.{rulesKept}
 use Rattle.receipt.specs.Laws.Found.{found-here, found-nothing, ten-lines}

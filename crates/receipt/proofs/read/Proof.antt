@@ -1,5 +1,5 @@
 -- What is found at the start is the receipt if it ends where the bytes end. Assumes nothing.
-use mathlib.Core.Path.{_≡_, sym, _∙_}
+use mathlib.Core.Path.{sym, _∙_}
 use borrow.Author.Needs.{needs}
 use Rattle.receipt.specs.Laws.Found.{reading-none, reading-all, reading-more}
 use Rattle.receipt.proofs.read.Statement.{statement}

@@ -1,19 +1,17 @@
 -- The receipt at a place, read line by line: it is the one that stands there, and none is found where none stands. Assumes nothing.
 use mathlib.Core.Path.{_≡_, refl, sym, ap, _∙_}
 use mathlib.Core.Bool.{Bool, true, false, cond}
-use mathlib.Core.List.{List, [], _∷_, _++_, append-assoc, append-nil}
+use mathlib.Core.List.{List, [], _∷_, _++_, append-nil}
 use Prim.Native.Nat.{ℕ, _+_}
 use native.Mathlib.Omega.{arith}
-use lib.ListN.{length, drop, length-append}
+use lib.ListN.{length, drop}
 use lib.Seq.{drop-drop, drop-length}
 use Rattle.refusal.specs.Table.{receiptMalformed}
 use Rattle.numbers.specs.Laws.Tests.{clash}
 use Rattle.text.specs.Ascii.{ascii}
 use Rattle.receipt.specs.declared.Line.{Line}
 use Rattle.receipt.specs.declared.Receipt.{Receipt}
-use Rattle.receipt.specs.declared.Reading.{Reading}
 use Rattle.receipt.specs.declared.Reading.the-variants.{Numbers, Refused}
-use Rattle.receipt.specs.declared.Found.{Found}
 use Rattle.receipt.specs.declared.Found.the-variants.{At, None}
 use Rattle.receipt.specs.Receipt.{numbersOf, line, written, rulesKept, IsReceipt, is, none}
 use Rattle.receipt.specs.Reading.{receiptFrom, readFrom, readingOf, hasFront, foundAt}
@@ -93,7 +91,7 @@ module _ (s : List ℕ) (at : ℕ) where
           let r : Receipt = readFrom (drop at s) in
           let k = front-rules (drop at s) e in
           let text : drop at s ≡ linesText words (numbersOf (readFrom (drop at s))) ++ drop (length (written (readFrom (drop at s)))) (drop at s) =
-              front-text (drop at s) e ∙ ap (λ (x : List ℕ). x ++ drop (length (written (readFrom (drop at s)))) (drop at s)) (written-lines (readFrom (drop at s))) in
+          front-text (drop at s) e ∙ ap (λ (x : List ℕ). x ++ drop (length (written (readFrom (drop at s)))) (drop at s)) (written-lines (readFrom (drop at s))) in
           let lines = lines-read words (numbersOf (readFrom (drop at s))) s at (drop (length (written (readFrom (drop at s)))) (drop at s)) refl (each-small (readFrom (drop at s)) (allowed-small (readFrom (drop at s)) k)) text in
           clash (sym h ∙ ap (λ (ns : List ℕ). rulesKept (receiptFrom ns)) (lines .0) ∙ k)
       go false e = refl
@@ -111,7 +109,7 @@ pub ten-lines : (s : List ℕ) (at : ℕ) {a b c d e f g h i j : Line}
     → i ≡ lineAt (ascii "fields=") s (h .end)
     → j ≡ lineAt (ascii "units=") s (i .end)
     → (receiptFrom (a .number ∷ b .number ∷ c .number ∷ d .number ∷ e .number ∷ f .number ∷ g .number ∷ h .number ∷ i .number ∷ j .number ∷ []) ≡ receiptFrom (numbersAt words s at))
-        × (j .end ≡ endAt words s at)
+    × (j .end ≡ endAt words s at)
 ten-lines s at pa pb pc pd pe pf pg ph pi pj = (rw (pj, pi, ph, pg, pf, pe, pd, pc, pb, pa), rw (pj, pi, ph, pg, pf, pe, pd, pc, pb, pa))
 
 -- What bytes are read as, by what is found at their start

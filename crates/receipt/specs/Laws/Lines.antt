@@ -1,6 +1,6 @@
 -- Lines read one after another: what is read stands there, and what stands there is read. Assumes nothing.
-use mathlib.Core.Path.{_≡_, refl, sym, ap, subst, _∙_}
-use mathlib.Core.Bool.{Bool, true, false, cond, _&&_}
+use mathlib.Core.Path.{_≡_, refl, sym, ap, _∙_}
+use mathlib.Core.Bool.{Bool, true, false, cond}
 use mathlib.Core.List.{List, [], _∷_, _++_, append-assoc}
 use Prim.Native.Nat.{ℕ, zero, suc, _+_, _*_, _-_, _/_, _%_, _<_, _≤_}
 use native.Mathlib.Omega.{arith}
@@ -9,7 +9,7 @@ use native.Mathlib.Numerals.{add-one}
 use lib.ListN.{length, getD, drop, length-append, drop-of-length-le}
 use lib.Seq.{drop-cons, drop-at, drop-drop}
 use borrow.Author.Tests.{eqb-true, eq-eqb, ne-eqb, leb-true, le-leb, ltb-true, ltb-false}
-use Rattle.numbers.specs.Laws.Tests.{clash, and-left, and-right}
+use Rattle.numbers.specs.Laws.Tests.{and-left, and-right}
 use Rattle.numbers.specs.Ranges.{within}
 use Rattle.text.specs.Equal.{begins}
 use Rattle.text.specs.Decimal.{glyph, isDigit, decimal}
@@ -206,10 +206,10 @@ module _ (word s : List ℕ) (at : ℕ) where
           let front : drop at s ≡ word ++ drop (at + length word) s = begins-true word (drop at s) e ∙ ap (λ (x : List ℕ). word ++ x) (drop-drop (length word) at s) in
           let text : drop at s ≡ lineText word (there .number) ++ (n .rest) = front ∙ ap (λ (x : List ℕ). word ++ x) (n .text) ∙ sym (line-apart word (there .number) (n .rest)) in
           let rest : drop (there .end) s ≡ n .rest =
-              ap (λ (x : ℕ). drop x s) place
-              ∙ sym (drop-drop (length (lineText word (there .number))) at s)
-              ∙ ap (drop (length (lineText word (there .number)))) text
-              ∙ drop-at (lineText word (there .number)) (n .rest) (length (lineText word (there .number))) refl in
+          ap (λ (x : ℕ). drop x s) place
+          ∙ sym (drop-drop (length (lineText word (there .number))) at s)
+          ∙ ap (drop (length (lineText word (there .number)))) text
+          ∙ drop-at (lineText word (there .number)) (n .rest) (length (lineText word (there .number))) refl in
           (text ∙ ap (λ (x : List ℕ). lineText word (there .number) ++ x) (sym rest), place)
       go false e m = absurd (omega arith)
 
@@ -244,8 +244,7 @@ lines-ended (w ∷ ws) s at h =
     let first = line-ended w s at (h .0) in
     let more = lines-ended ws s (lineAt w s at .end) (h .1) in
     let line : List ℕ = lineText w (lineAt w s at .number) in
-    let lines : List ℕ = linesText ws (numbersAt ws s (lineAt w s at .end)) in
-    (
+    let lines : List ℕ = linesText ws (numbersAt ws s (lineAt w s at .end)) in (
       first .0 ∙ ap (λ (x : List ℕ). lineText w (lineAt w s at .number) ++ x) (more .0) ∙ sym (append-assoc (lineText w (lineAt w s at .number)) (linesText ws (numbersAt ws s (lineAt w s at .end))) (drop (endAt (w ∷ ws) s at) s)),
       omega (arith, first .1, more .1, length-append (lineText w (lineAt w s at .number)) (linesText ws (numbersAt ws s (lineAt w s at .end)))),
     )
@@ -261,9 +260,8 @@ lines-read (w ∷ ws) (n ∷ ns) s at rest l f e =
     let first = line-read w s at n (linesText ws ns ++ rest) (f .0) line in
     let place : lineAt w s at .end ≡ at + length (lineText w n) = ap (λ (x : Line). x .end) first in
     let after : drop (lineAt w s at .end) s ≡ linesText ws ns ++ rest =
-        ap (λ (x : ℕ). drop x s) place ∙ sym (drop-drop (length (lineText w n)) at s) ∙ ap (drop (length (lineText w n))) line ∙ drop-at (lineText w n) (linesText ws ns ++ rest) (length (lineText w n)) refl in
-    let more = lines-read ws ns s (lineAt w s at .end) rest (omega arith) (f .1) after in
-    (
+    ap (λ (x : ℕ). drop x s) place ∙ sym (drop-drop (length (lineText w n)) at s) ∙ ap (drop (length (lineText w n))) line ∙ drop-at (lineText w n) (linesText ws ns ++ rest) (length (lineText w n)) refl in
+    let more = lines-read ws ns s (lineAt w s at .end) rest (omega arith) (f .1) after in (
       ap (λ (x : ℕ). x ∷ numbersAt ws s (lineAt w s at .end)) (ap (λ (x : Line). x .number) first) ∙ ap (λ (x : List ℕ). n ∷ x) (more .0),
       omega (arith, more .1, length-append (lineText w n) (linesText ws ns)),
     )

@@ -1,19 +1,16 @@
 -- The numbers at the ends of lines: one byte at a time, and a line. -- Assumes nothing.
-use mathlib.Core.Path.{_≡_, refl, sym, ap, _∙_}
+use mathlib.Core.Path.{_≡_, refl, ap, _∙_}
 use mathlib.Core.Bool.{Bool, true, false, _&&_}
 use mathlib.Core.List.{List, [], _∷_, _++_, append-assoc}
 use Prim.Native.Nat.{ℕ, zero, suc, _+_, _*_, _-_, _/_, _%_, _<_, _≤_}
 use native.Mathlib.Omega.{arith}
-use native.Mathlib.Numerals.{add-one}
-use lib.Dec.{ltb, lit<}
-use lib.ListN.{length, getD, set, drop, replicate, drop-of-length-le}
-use lib.Seq.{drop-cons, sets}
+use lib.Dec.{ltb}
 use Rattle.numbers.specs.Laws.Tests.{and-left, and-right}
-use borrow.Author.Tests.{eq-eqb, ne-eqb, le-leb, lt-leb, ltb-true, ltb-false}
+use borrow.Author.Tests.{ne-eqb, le-leb, lt-leb, ltb-true, ltb-false}
 use Rattle.text.specs.Decimal.{glyph, decimal}
 use Rattle.text.specs.Laws.Decimal.{glyph-digit, decimal-one, decimal-more}
 use Rattle.receipt.specs.Receipt.{line}
-use Rattle.receipt.specs.Reading.{withByte, receiptFrom, lineNumbers}
+use Rattle.receipt.specs.Reading.{withByte, lineNumbers}
 
 -- one byte more: a digit, where there is room for it, and a byte above the digits
 

@@ -257,7 +257,7 @@ written-least r =
       decimal-some (r .atoms),
       decimal-some (r .bonds),
       decimal-some (r .fields),
-      decimal-some (r .units)
+      decimal-some (r .units),
     )
 
 pub receipt-most : (r : Receipt) → rulesKept r ≡ true → length (written r) ≤ receiptLimit
