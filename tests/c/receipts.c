@@ -118,21 +118,25 @@ static void refuses_to_read(void) {
 #define SECOND "station=7\njob=13\n" COUNTS
 #define MALFORMED "station=7\njob=013\n" COUNTS
 
-/* The bill of a run, with just room for it and with the header's, and nothing beyond it. */
-static void has_bill(const char *run, const char *bill) {
+/* The bill of a run in a buffer of this room, and nothing beyond it. */
+static void has_bill_in(size_t room, const char *run, const char *bill) {
     const size_t size = strlen(bill);
-    const size_t rooms[] = {size, size + 1, MMTF_BILL_ROOM};
-    for (size_t i = 0; i < sizeof rooms / sizeof rooms[0]; i++) {
-        uint8_t buffer[MMTF_BILL_ROOM];
-        uint64_t written = 77;
-        memset(buffer, 7, sizeof buffer);
-        expect(mmtf_bill((const uint8_t *)run, strlen(run), buffer, rooms[i], &written) == MMTF_ACCEPTED && written == size
-                   && memcmp(buffer, bill, size) == 0,
-               "The bill of a run differs.");
-        for (size_t j = size; j < sizeof buffer; j++) {
-            expect(buffer[j] == 7, "A byte beyond the bill has changed.");
-        }
-    }
+    uint8_t buffer[MMTF_BILL_ROOM];
+    uint8_t before[MMTF_BILL_ROOM];
+    uint64_t written = 77;
+    memset(buffer, 7, sizeof buffer);
+    memset(before, 7, sizeof before);
+    expect(mmtf_bill((const uint8_t *)run, strlen(run), buffer, room, &written) == MMTF_ACCEPTED && written == size
+               && memcmp(buffer, bill, size) == 0,
+           "The bill of a run differs.");
+    expect(memcmp(buffer + size, before, sizeof buffer - size) == 0, "A byte beyond the bill has changed.");
+}
+
+/* The same with just room for it, with a byte more, and with the header's room. */
+static void has_bill(const char *run, const char *bill) {
+    has_bill_in(strlen(bill), run, bill);
+    has_bill_in(strlen(bill) + 1, run, bill);
+    has_bill_in(MMTF_BILL_ROOM, run, bill);
 }
 
 /* A run is refused with this number, and nothing changes. */
@@ -162,8 +166,10 @@ static void bills(void) {
            "No receipts have not the bill \"total=0\".");
 }
 
-/* Refused: a receipt that is none, a job that does not rise, the first of the two, even without room; then no room; a run that
- * is too long, of which nothing is looked at. */
+/*
+ * Refused: bytes that are no receipt, a job that does not rise, and the first of the two faults, even without room; then a
+ * buffer that is too small. A run that is too long is refused before all.
+ */
 static void refuses_bills(void) {
     has_no_bill(FIRST MALFORMED, MMTF_BILL_ROOM, MMTF_RECEIPT_MALFORMED, "A leading zero is not refused with 29.");
     has_no_bill(FIRST SECOND "\n", MMTF_BILL_ROOM, MMTF_RECEIPT_MALFORMED, "A line feed more is not refused with 29.");

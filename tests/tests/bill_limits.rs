@@ -74,18 +74,16 @@ fn longest_receipts() {
 /// where there is a byte less.
 #[test]
 fn one_byte_more() {
-    let run = filling(&mut Rng::new(65), LIMIT + 1, &every_station());
+    let mut run = filling(&mut Rng::new(65), LIMIT + 1, &every_station());
     expect_refused(&run.bytes, 1, "a run");
-    let first = text(&run.receipts[0]);
-    let rest = filling(&mut Rng::new(66), LIMIT + 1 - first.len(), &every_station());
-    let mut twice = first.into_bytes();
-    twice.extend(rest.bytes);
-    assert_eq!(twice.len(), LIMIT + 1);
-    expect_refused(&twice, 1, "the first two receipts are of one job");
-    expect_refused(&twice[..LIMIT], 30, "the same without the last byte");
-    twice[0] = b'S';
-    expect_refused(&twice, 1, "the first is no receipt");
-    expect_refused(&twice[..LIMIT], 29, "the same without the last byte");
+    let second = text(&run.receipts[0]).len() + "station=".len();
+    assert_eq!(run.bytes[second..second + 2], *b"2\n");
+    run.bytes[second] = b'1';
+    expect_refused(&run.bytes, 1, "the first two receipts are of one job");
+    expect_refused(&run.bytes[..LIMIT], 30, "the same without the last byte");
+    run.bytes[0] = b'S';
+    expect_refused(&run.bytes, 1, "the first is no receipt");
+    expect_refused(&run.bytes[..LIMIT], 29, "the same without the last byte");
 }
 
 /// Bytes that are no receipts: 29 at the limit, and 1 past it.
@@ -129,17 +127,16 @@ fn lines_of(counts: &[[u32; 2]]) -> String {
 fn digits_of_counts() {
     let counts = [
         [1, 0],
-        [9, 99_999],
-        [10, 10_000],
-        [99, 9_999],
-        [100, 1_000],
-        [999, 999],
-        [1_000, 100],
-        [9_999, 99],
-        [10_000, 10],
-        [99_999, 9],
-        [100_000, 1],
-        [0, 100_000],
+        [9, 10_000],
+        [10, 9_999],
+        [99, 1_000],
+        [100, 999],
+        [999, 100],
+        [1_000, 99],
+        [9_999, 10],
+        [10_000, 9],
+        [99_999, 1],
+        [100_000, 0],
     ];
     let bill = lines_of(&counts) + "total=222216\n";
     expect_large(&run_of(&counts), &bill, "one digit to six");
