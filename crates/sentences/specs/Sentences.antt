@@ -1,13 +1,13 @@
 -- The sentences of the program, one line each. A sentence is a form in which marks stand for what differs: @ for the file where the sentence
--- begins with it, & for the file elsewhere, $ for the name of a part of it, % for a word, # for the number of a refusal, * for its meaning, and
--- ! for the system's reason. No lemma stands here. Assumes nothing.
+-- begins with it, & for the file elsewhere, $ for the name of a part of it, % for a word, # for the number of a refusal, * for its meaning, ~ for
+-- the number of a receipt, and ! for the system's reason. No lemma stands here. Assumes nothing.
 use mathlib.Core.Bool.{Bool, cond}
 use mathlib.Core.List.{List, [], _∷_, _++_}
 use Prim.Native.Char.{code}
 use Prim.Native.Nat.{ℕ}
 use lib.Dec.{eqb}
 use lib.ListN.{take}
-use Rattle.refusal.specs.Table.{accepted, leadByteUnknown}
+use Rattle.refusal.specs.Table.{accepted, fileOverLimit, leadByteUnknown, jobNotRising}
 use Rattle.text.specs.Decimal.{decimal}
 use Rattle.text.specs.Equal.{equal}
 use Rattle.text.specs.Ascii.{ascii}
@@ -58,6 +58,19 @@ wordForm OfWord.NoCommand = ascii "\"%\" is not a command. The command \"station
 wordForm OfWord.NoStation = ascii "The station must be a number from 1 to 99, and \"%\" is not."
 wordForm OfWord.NoJob = ascii "The job must be a number from 1 to 999,999, and \"%\" is not."
 
+-- a run of receipts that is refused: all files together, a job that does not rise, or a malformed receipt
+abbrev pub overLimitForm : List ℕ
+overLimitForm = ascii "The files together are refused with #: *. Bill them in parts."
+
+abbrev pub notRisingForm : List ℕ
+notRisingForm = ascii "Receipt ~ of & is refused with #: *. Put the receipts of each station in the order of their jobs."
+
+abbrev pub malformedForm : List ℕ
+malformedForm = ascii "Receipt ~ of & is refused with #: *. Receipts stand one directly after another, each as \"station receipt\" writes it."
+
+abbrev pub billForm : ℕ → List ℕ
+billForm n = cond (eqb n fileOverLimit) overLimitForm (cond (eqb n jobNotRising) notRisingForm malformedForm)
+
 -- output that was not written
 abbrev pub unwrittenForm : List ℕ
 unwrittenForm = ascii "The output was not written whole: !."
@@ -68,6 +81,7 @@ formOf (Sentence.Verdict n advice) = cond (eqb n accepted) acceptedForm (refused
 formOf (Sentence.File said) = fileForm said
 formOf (Sentence.Part said) = partForm said
 formOf (Sentence.Word said) = wordForm said
+formOf (Sentence.Bill n receipt) = billForm n
 formOf (Sentence.Unwritten n) = unwrittenForm
 
 -- the number of the refusal that a sentence says
@@ -81,6 +95,7 @@ refusalOf (Sentence.Part OfPart.NotShown) = 0
 refusalOf (Sentence.Part OfPart.Nested) = 0
 refusalOf (Sentence.Part OfPart.IsBinary) = 0
 refusalOf (Sentence.Word said) = 0
+refusalOf (Sentence.Bill n receipt) = n
 refusalOf (Sentence.Unwritten n) = 0
 
 -- the number of the system's error that a sentence says
@@ -90,11 +105,21 @@ reasonOf (Sentence.File (OfFile.Unreadable n)) = n
 reasonOf (Sentence.File OfFile.TooLong) = 0
 reasonOf (Sentence.Part said) = 0
 reasonOf (Sentence.Word said) = 0
+reasonOf (Sentence.Bill n receipt) = 0
 reasonOf (Sentence.Unwritten n) = n
 
+-- the number of the receipt that a sentence says
+abbrev pub receiptOf : Sentence → ℕ
+receiptOf (Sentence.Verdict n advice) = 0
+receiptOf (Sentence.File said) = 0
+receiptOf (Sentence.Part said) = 0
+receiptOf (Sentence.Word said) = 0
+receiptOf (Sentence.Bill n receipt) = receipt
+receiptOf (Sentence.Unwritten n) = 0
+
 -- what stands for a byte of a form: a mark for its text, and any other byte for itself
-abbrev pub markText : List ℕ → List ℕ → ℕ → ℕ → ℕ → List ℕ
-markText subject name refusal reason mark =
+abbrev pub markText : List ℕ → List ℕ → ℕ → ℕ → ℕ → ℕ → List ℕ
+markText subject name refusal reason receipt mark =
     cond (eqb mark (code "@")) (fileName (ascii "Standard input") subject)
     (cond (eqb mark (code "&")) (fileName (ascii "standard input") subject)
     (cond (eqb mark (code "$")) (shown name)
@@ -102,8 +127,10 @@ markText subject name refusal reason mark =
     (cond (eqb mark (code "#")) (decimal refusal)
     (cond (eqb mark (code "*")) (meaningOf refusal)
     (cond (eqb mark (code "!")) (reasonText reason)
-    (mark ∷ [])))))))
+    (cond (eqb mark (code "~")) (decimal receipt)
+    (mark ∷ []))))))))
 
 -- the sentence about a subject, a file or a word, with the name of a part
 abbrev pub sentenceText : List ℕ → List ℕ → Sentence → List ℕ
-sentenceText subject name sentence = replaced (markText subject name (refusalOf sentence) (reasonOf sentence)) (formOf sentence) ++ ascii "\n"
+sentenceText subject name sentence =
+    replaced (markText subject name (refusalOf sentence) (reasonOf sentence) (receiptOf sentence)) (formOf sentence) ++ ascii "\n"

@@ -3,9 +3,9 @@ use mathlib.Core.Bool.{cond}
 use mathlib.Core.List.{List, [], _∷_}
 use Prim.Native.Nat.{ℕ}
 use lib.Dec.{eqb}
-use Rattle.refusal.specs.Table.{accepted}
+use Rattle.refusal.specs.Table.{accepted, fileOverLimit, jobNotRising}
 use Rattle.meanings.specs.Meanings.{Meaning}
-use Rattle.sentences.specs.Sentences.{acceptedForm, refusedForm, fileForm, partForm, wordForm, unwrittenForm}
+use Rattle.sentences.specs.Sentences.{acceptedForm, refusedForm, fileForm, partForm, wordForm, overLimitForm, notRisingForm, malformedForm, unwrittenForm}
 use Rattle.sentences.specs.declared.Advice.{Advice}
 use Rattle.sentences.specs.declared.OfFile.{OfFile}
 use Rattle.sentences.specs.declared.OfPart.{OfPart}
@@ -33,7 +33,10 @@ forms =
     ∷ row 13 (wordForm OfWord.NoCommand)
     ∷ row 14 (wordForm OfWord.NoStation)
     ∷ row 15 (wordForm OfWord.NoJob)
-    ∷ row 16 unwrittenForm
+    ∷ row 16 overLimitForm
+    ∷ row 17 notRisingForm
+    ∷ row 18 malformedForm
+    ∷ row 19 unwrittenForm
     ∷ []
 
 -- which row is the form of the verdict on a file
@@ -44,6 +47,10 @@ refusedRow Advice.Gzip = 4
 
 abbrev pub verdictRow : ℕ → Advice → ℕ
 verdictRow n advice = cond (eqb n accepted) 1 (refusedRow advice)
+
+-- which row is the form of a run of receipts that is refused
+abbrev pub billRow : ℕ → ℕ
+billRow n = cond (eqb n fileOverLimit) 16 (cond (eqb n jobNotRising) 17 18)
 
 -- which row is the form of a sentence
 abbrev pub rowOf : Sentence → ℕ
@@ -59,4 +66,5 @@ rowOf (Sentence.Part (OfPart.Refused n)) = 12
 rowOf (Sentence.Word OfWord.NoCommand) = 13
 rowOf (Sentence.Word OfWord.NoStation) = 14
 rowOf (Sentence.Word OfWord.NoJob) = 15
-rowOf (Sentence.Unwritten n) = 16
+rowOf (Sentence.Bill n receipt) = billRow n
+rowOf (Sentence.Unwritten n) = 19

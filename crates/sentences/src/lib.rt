@@ -1,4 +1,4 @@
-// The sentences that the program says, one line each: of a file, of a part of it, of a word, and of the output. Every call is total. A sentence is
+// The sentences that the program says, one line each: of a file, of a part of it, of a word, of receipts, and of the output. Every call is total. A sentence is
 // a form of a table in which marks stand for what differs.
 ghost use mathlib.Core.Path.{_≡_};
 ghost use Rattle.text.specs.Put.{Put};
@@ -6,8 +6,8 @@ ghost use Rattle.text.specs.Ascii.{ascii};
 ghost use Rattle.meanings.specs.Meanings.{textIn};
 ghost use Rattle.sentences.specs.Shown.{replaced, printing, shownByte, shown, fileName};
 ghost use Rattle.sentences.specs.Reasons.{errorText, reasonText};
-ghost use Rattle.sentences.specs.Sentences.{isGzip, adviceOf, refusalOf, reasonOf, markText, sentenceText};
-ghost use Rattle.sentences.specs.Steps.{forms, verdictRow, rowOf};
+ghost use Rattle.sentences.specs.Sentences.{isGzip, adviceOf, refusalOf, reasonOf, receiptOf, markText, sentenceText};
+ghost use Rattle.sentences.specs.Steps.{forms, verdictRow, billRow, rowOf};
 
 // What a person can do about a refused file.
 pub enum Advice {
@@ -39,12 +39,14 @@ pub enum OfWord {
     NoJob,
 }
 
-// A sentence: the verdict on a file, what else is said of a file, of a part of it or of a word, or why the output was not written.
+// A sentence: the verdict on a file; what else is said of a file, of a part of it or of a word; the refusal of receipts, with the number in its file
+// of the one at fault; or why the output was not written.
 pub enum Sentence {
     Verdict(u8, Advice),
     File(OfFile),
     Part(OfPart),
     Word(OfWord),
+    Bill(u8, u32),
     Unwritten(u32),
 }
 
@@ -78,7 +80,8 @@ pub fn put_sentence(buffer: &mut [u8], subject: &[u8], name: &[u8], sentence: Se
     let row = row_of(sentence);
     let refusal = refusal_of(sentence);
     let reason = reason_of(sentence);
-    let end = put_form(buffer, subject, name, row, refusal, reason);
+    let receipt = receipt_of(sentence);
+    let end = put_form(buffer, subject, name, row, refusal, reason, receipt);
     text::put_byte(buffer, end, b'\n')
 }
 
@@ -105,7 +108,8 @@ fn row_of(sentence: Sentence) -> u32
             OfWord::NoStation => 14,
             OfWord::NoJob => 15,
         },
-        Sentence::Unwritten(_) => 16,
+        Sentence::Bill(number, _) => bill_row(number),
+        Sentence::Unwritten(_) => 19,
     }
 }
 
@@ -121,6 +125,19 @@ fn verdict_row(number: u8, advice: Advice) -> u32
         Advice::Floats => 3,
         Advice::Gzip => 4,
     }
+}
+
+// The row of receipts that are refused.
+fn bill_row(number: u8) -> u32
+    ensures { λ r. ⌜ r ≡ billRow number ⌝ }
+{
+    if number == refusal::FILE_OVER_LIMIT {
+        return 16;
+    }
+    if number == refusal::JOB_NOT_RISING {
+        return 17;
+    }
+    18
 }
 
 // The number of the refusal that a sentence says, or 0.
@@ -139,6 +156,7 @@ fn refusal_of(sentence: Sentence) -> u8
             OfPart::Refused(number) => number,
         },
         Sentence::Word(_) => 0,
+        Sentence::Bill(number, _) => number,
         Sentence::Unwritten(_) => 0,
     }
 }
@@ -155,7 +173,22 @@ fn reason_of(sentence: Sentence) -> u32
         },
         Sentence::Part(_) => 0,
         Sentence::Word(_) => 0,
+        Sentence::Bill(_, _) => 0,
         Sentence::Unwritten(reason) => reason,
+    }
+}
+
+// The number of the receipt that a sentence says, or 0.
+fn receipt_of(sentence: Sentence) -> u32
+    ensures { λ r. ⌜ r ≡ receiptOf sentence ⌝ }
+{
+    match sentence {
+        Sentence::Verdict(_, _) => 0,
+        Sentence::File(_) => 0,
+        Sentence::Part(_) => 0,
+        Sentence::Word(_) => 0,
+        Sentence::Bill(_, receipt) => receipt,
+        Sentence::Unwritten(_) => 0,
     }
 }
 
@@ -168,8 +201,9 @@ fn put_form(
     row: u32,
     refusal: u8,
     reason: u32,
+    receipt: u32,
 ) -> usize
-    ensures { λ r. ⌜ Put (now (buffer .entry)) 0 (replaced (markText (now (subject .entry)) (now (name .entry)) refusal reason) (textIn forms row)) (now (buffer .exit)) r ⌝ }
+    ensures { λ r. ⌜ Put (now (buffer .entry)) 0 (replaced (markText (now (subject .entry)) (now (name .entry)) refusal reason receipt) (textIn forms row)) (now (buffer .exit)) r ⌝ }
 {
     let form = meanings::words_in(
         b"\x01@ is accepted.\n\
@@ -187,10 +221,13 @@ fn put_form(
         \x0d\"%\" is not a command. The command \"station help\" lists them.\n\
         \x0eThe station must be a number from 1 to 99, and \"%\" is not.\n\
         \x0fThe job must be a number from 1 to 999,999, and \"%\" is not.\n\
-        \x10The output was not written whole: !.\n",
+        \x10The files together are refused with #: *. Bill them in parts.\n\
+        \x11Receipt ~ of & is refused with #: *. Put the receipts of each station in the order of their jobs.\n\
+        \x12Receipt ~ of & is refused with #: *. Receipts stand one directly after another, each as \"station receipt\" writes it.\n\
+        \x13The output was not written whole: !.\n",
         row,
     );
-    put_replaced(buffer, form, subject, name, refusal, reason)
+    put_replaced(buffer, form, subject, name, refusal, reason, receipt)
 }
 
 // Puts a form at the start of a buffer, each mark replaced.
@@ -201,13 +238,23 @@ fn put_replaced(
     name: &[u8],
     refusal: u8,
     reason: u32,
+    receipt: u32,
 ) -> usize
-    ensures { λ r. ⌜ Put (now (buffer .entry)) 0 (replaced (markText (now (subject .entry)) (now (name .entry)) refusal reason) (now (form .entry))) (now (buffer .exit)) r ⌝ }
+    ensures { λ r. ⌜ Put (now (buffer .entry)) 0 (replaced (markText (now (subject .entry)) (now (name .entry)) refusal reason receipt) (now (form .entry))) (now (buffer .exit)) r ⌝ }
 {
     let mut next: usize = 0;
     let mut i: usize = 0;
     while i < form.len() {
-        next = put_mark(buffer, next, form[i], subject, name, refusal, reason);
+        next = put_mark(
+            buffer,
+            next,
+            form[i],
+            subject,
+            name,
+            refusal,
+            reason,
+            receipt,
+        );
         i += 1;
     }
     next
@@ -222,8 +269,9 @@ fn put_mark(
     name: &[u8],
     refusal: u8,
     reason: u32,
+    receipt: u32,
 ) -> usize
-    ensures { λ r. ⌜ Put (now (buffer .entry)) at (markText (now (subject .entry)) (now (name .entry)) refusal reason mark) (now (buffer .exit)) r ⌝ }
+    ensures { λ r. ⌜ Put (now (buffer .entry)) at (markText (now (subject .entry)) (now (name .entry)) refusal reason receipt mark) (now (buffer .exit)) r ⌝ }
 {
     match mark {
         b'@' => put_name(buffer, at, subject, b"Standard input"),
@@ -233,6 +281,7 @@ fn put_mark(
         b'#' => text::put_decimal(buffer, at, refusal as u32),
         b'*' => meanings::put_meaning(buffer, at, refusal),
         b'!' => put_reason(buffer, at, reason),
+        b'~' => text::put_decimal(buffer, at, receipt),
         _ => text::put_byte(buffer, at, mark),
     }
 }

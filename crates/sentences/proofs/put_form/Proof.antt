@@ -14,7 +14,7 @@ returns : tie.Need-returns
 unfolding forms rowsOf
 returns c =
     let a = c .before .before .before .before .before .before .before .before .before .args in
-    put-as (c .before .before .put-replaced .ensures) (ap (replaced (markText (a .subject .now) (a .name .now) (a .refusal) (a .reason))) (sym (c .before .before .before .before .words-in .ensures ∙ table-words forms (a .row) refl refl)))
+    put-as (c .before .before .put-replaced .ensures) (ap (replaced (markText (a .subject .now) (a .name .now) (a .refusal) (a .reason) (a .receipt))) (sym (c .before .before .before .before .words-in .ensures ∙ table-words forms (a .row) refl refl)))
 
 pub put-form-spec : {M : Type 1} → statement M
 put-form-spec =

@@ -15,11 +15,11 @@ use Rattle.sentences.proofs.put_replaced.Statement.{statement}
 use Rattle.sentences.proofs.put_replaced.Tie as tie
 
 abbrev Inv-loop : tie.InvT-loop
-Inv-loop buffer₀ form subject name refusal reason next₀ i₀ buffer next i =
-    (i ≤ length form) × Put buffer₀ 0 (replaced (markText subject name refusal reason) (take i form)) buffer next
+Inv-loop buffer₀ form subject name refusal reason receipt next₀ i₀ buffer next i =
+    (i ≤ length form) × Put buffer₀ 0 (replaced (markText subject name refusal reason receipt) (take i form)) buffer next
 
 abbrev μ-loop : tie.MeasureT-loop
-μ-loop buffer₀ form subject name refusal reason next₀ i₀ buffer next i = length form - i
+μ-loop buffer₀ form subject name refusal reason receipt next₀ i₀ buffer next i = length form - i
 
 loop-holds : tie.Need-loop-holds Inv-loop μ-loop
 loop-holds c = (omega arith, put-as (put-none _ _) (replaced-none _))
@@ -29,7 +29,7 @@ loop-again c =
     let a = c .before .before .before .before .before .before .before .before .before .before .before .args in
     let p = c .before .before .before .before .before .before .loop in
     let h : p .i < length (a .form .now) = omega arith in
-    (omega arith, put-as (put-more (p .inv .1) (c .before .before .put-mark .ensures)) (rw (add-one (p .i), take-suc (a .form .now) (p .i) 0) (replaced-last (markText (a .subject .now) (a .name .now) (a .refusal) (a .reason)) (take (p .i) (a .form .now)) (getD (a .form .now) (p .i) 0))))
+    (omega arith, put-as (put-more (p .inv .1) (c .before .before .put-mark .ensures)) (rw (add-one (p .i), take-suc (a .form .now) (p .i) 0) (replaced-last (markText (a .subject .now) (a .name .now) (a .refusal) (a .reason) (a .receipt)) (take (p .i) (a .form .now)) (getD (a .form .now) (p .i) 0))))
 
 same-length : tie.Need-same-length Inv-loop μ-loop
 same-length c = put-length (c .before .loop .inv .1)
@@ -38,7 +38,7 @@ returns : tie.Need-returns Inv-loop μ-loop
 returns c =
     let a = c .before .before .before .before .before .before .args in
     let p = c .before .loop in
-    put-as (p .inv .1) (ap (replaced (markText (a .subject .now) (a .name .now) (a .refusal) (a .reason))) (sym (take-all (p .i) (a .form .now) (omega arith))))
+    put-as (p .inv .1) (ap (replaced (markText (a .subject .now) (a .name .now) (a .refusal) (a .reason) (a .receipt))) (sym (take-all (p .i) (a .form .now) (omega arith))))
 
 pub put-replaced-spec : {M : Type 1} → statement M
 put-replaced-spec =

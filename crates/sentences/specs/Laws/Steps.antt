@@ -3,9 +3,9 @@ use mathlib.Core.Path.{_≡_, refl}
 use mathlib.Core.Bool.{Bool, true, false, cond}
 use Prim.Native.Nat.{ℕ}
 use lib.Dec.{eqb}
-use Rattle.refusal.specs.Table.{accepted}
+use Rattle.refusal.specs.Table.{accepted, fileOverLimit, jobNotRising}
 use Rattle.meanings.specs.Meanings.{textIn}
-use Rattle.sentences.specs.Sentences.{acceptedForm, refusedForm, formOf}
+use Rattle.sentences.specs.Sentences.{acceptedForm, refusedForm, overLimitForm, notRisingForm, malformedForm, formOf}
 use Rattle.sentences.specs.Steps.{forms, refusedRow, rowOf}
 use Rattle.sentences.specs.declared.Advice.{Advice}
 use Rattle.sentences.specs.declared.OfFile.{OfFile}
@@ -19,6 +19,12 @@ verdict-row true advice = refl
 verdict-row false Advice.None = refl
 verdict-row false Advice.Floats = refl
 verdict-row false Advice.Gzip = refl
+
+bill-row : (t u : Bool) → textIn forms (cond t 16 (cond u 17 18)) ≡ cond t overLimitForm (cond u notRisingForm malformedForm)
+unfolding textIn forms
+bill-row true u = refl
+bill-row false true = refl
+bill-row false false = refl
 
 pub row-form : (sentence : Sentence) → textIn forms (rowOf sentence) ≡ formOf sentence
 unfolding textIn forms
@@ -34,4 +40,5 @@ row-form (Sentence.Part (OfPart.Refused n)) = refl
 row-form (Sentence.Word OfWord.NoCommand) = refl
 row-form (Sentence.Word OfWord.NoStation) = refl
 row-form (Sentence.Word OfWord.NoJob) = refl
+row-form (Sentence.Bill n receipt) = bill-row (eqb n fileOverLimit) (eqb n jobNotRising)
 row-form (Sentence.Unwritten n) = refl
