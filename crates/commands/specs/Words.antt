@@ -11,7 +11,7 @@ use Rattle.text.specs.Decimal.{numberIn}
 use Rattle.text.specs.declared.Number.{Number}
 use Rattle.commands.specs.declared.words.Asked.{Asked}
 use Rattle.commands.specs.declared.words.Command.{Command}
-use Rattle.commands.specs.declared.words.Command.the-variants.{Check, Receipt, Fields, View, RawView, Column, RawColumn, Help, Version, Unknown}
+use Rattle.commands.specs.declared.words.Command.the-variants.{Check, Receipt, Bill, Fields, View, RawView, Column, RawColumn, Help, Version, Unknown}
 
 -- the command about the program itself that a word names
 abbrev pub aboutOf : List ℕ → Command
@@ -27,15 +27,17 @@ abbrev pub commandOf : List ℕ → Command
 commandOf word =
     cond (equal word (ascii "check")) Check
     (cond (equal word (ascii "receipt")) Receipt
+    (cond (equal word (ascii "bill")) Bill
     (cond (equal word (ascii "fields")) Fields
     (cond (equal word (ascii "view")) View
     (cond (equal word (ascii "column")) Column
-    (aboutOf word)))))
+    (aboutOf word))))))
 
 -- the command with --raw; one that does not take it stays
 abbrev pub rawOf : Command → Command
 rawOf Check = Check
 rawOf Receipt = Receipt
+rawOf Bill = Bill
 rawOf Fields = Fields
 rawOf View = RawView
 rawOf RawView = RawView
@@ -53,6 +55,7 @@ flagged command word = cond (equal word (ascii "--raw")) (rawOf command) command
 abbrev pub wordsFit : Command → ℕ → Bool
 wordsFit Check n = leb 4 n
 wordsFit Receipt n = eqb n 6
+wordsFit Bill n = leb 4 n
 wordsFit Fields n = eqb n 4
 wordsFit View n = eqb n 5
 wordsFit RawView n = eqb n 6
@@ -66,6 +69,7 @@ wordsFit Unknown n = true
 abbrev pub filePlace : Command → ℕ
 filePlace Check = 3
 filePlace Receipt = 5
+filePlace Bill = 3
 filePlace Fields = 3
 filePlace View = 3
 filePlace RawView = 4
@@ -79,6 +83,7 @@ filePlace Unknown = 3
 abbrev pub namePlace : Command → ℕ
 namePlace Check = 4
 namePlace Receipt = 6
+namePlace Bill = 4
 namePlace Fields = 4
 namePlace View = 4
 namePlace RawView = 5

@@ -7,6 +7,7 @@ use text::Number;
 pub enum Command {
     Check,
     Receipt,
+    Bill,
     Fields,
     View,
     RawView,
@@ -32,6 +33,9 @@ pub fn command_of(word: &[u8]) -> Command
     }
     if text::same_bytes(word, b"receipt") {
         return Command::Receipt;
+    }
+    if text::same_bytes(word, b"bill") {
+        return Command::Bill;
     }
     if text::same_bytes(word, b"fields") {
         return Command::Fields;
@@ -81,6 +85,7 @@ fn raw(command: Command) -> Command
     match command {
         Command::Check => Command::Check,
         Command::Receipt => Command::Receipt,
+        Command::Bill => Command::Bill,
         Command::Fields => Command::Fields,
         Command::View => Command::RawView,
         Command::RawView => Command::RawView,
@@ -99,6 +104,7 @@ pub fn fits(command: Command, count: usize) -> bool
     match command {
         Command::Check => 4 <= count,
         Command::Receipt => count == 6,
+        Command::Bill => 4 <= count,
         Command::Fields => count == 4,
         Command::View => count == 5,
         Command::RawView => count == 6,
@@ -117,6 +123,7 @@ pub fn file_place(command: Command) -> usize
     match command {
         Command::Check => 3,
         Command::Receipt => 5,
+        Command::Bill => 3,
         Command::Fields => 3,
         Command::View => 3,
         Command::RawView => 4,
@@ -135,6 +142,7 @@ pub fn name_place(command: Command) -> usize
     match command {
         Command::Check => 4,
         Command::Receipt => 6,
+        Command::Bill => 4,
         Command::Fields => 4,
         Command::View => 4,
         Command::RawView => 5,

@@ -33,10 +33,14 @@ returns-8 c = sym (ap (λ (x : Command). wordsFit x (c .before .before .args .co
 returns-9 : tie.Need-returns-9
 returns-9 c = sym (ap (λ (x : Command). wordsFit x (c .before .before .args .count)) (c .enum-told9 .given .1))
 
+returns-10 : tie.Need-returns-10
+returns-10 c = sym (ap (λ (x : Command). wordsFit x (c .before .before .args .count)) (c .enum-told10 .given .1))
+
 pub fits-spec : {M : Type 1} → statement M
 fits-spec =
     tie.close
     (tie.spec
+    (λ c. search needs)
     (λ c. search needs)
     (λ c. search needs)
     (λ c. search needs)
@@ -56,4 +60,5 @@ fits-spec =
     returns-7
     returns-8
     returns-9
+    returns-10
     (λ c. search needs))

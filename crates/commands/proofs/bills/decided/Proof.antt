@@ -1,0 +1,21 @@
+-- The tests are the definition's. Assumes nothing.
+use borrow.Author.Tests.{eq-eqb, ne-eqb, not-true, not-false}
+use Rattle.commands.proofs.bills.decided.Statement.{statement}
+use Rattle.commands.proofs.bills.decided.Tie as tie
+
+returns : tie.Need-returns
+returns c = rw (not-true (c .before .args .ends) (c .if1 .taken))
+
+returns-2 : tie.Need-returns-2
+returns-2 c = rw (not-false (c .before .before .args .ends) (c .before .if1 .left), eq-eqb _ _ (c .if2 .taken))
+
+returns-3 : tie.Need-returns-3
+returns-3 c = rw (not-false (c .before .before .args .ends) (c .before .if1 .left), ne-eqb _ _ (c .if2 .left))
+
+pub decided-spec : {M : Type 1} → statement M
+decided-spec =
+    tie.close
+    (tie.spec
+    returns
+    returns-2
+    returns-3)
