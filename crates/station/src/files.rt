@@ -1,4 +1,4 @@
-// Reading a file by its name, or standard input.
+// Reading a file by its name. The name - stands for standard input.
 ghost use mathlib.Core.Path.{_≡_};
 ghost use lib.ListN.{length};
 ghost use Rattle.station.specs.Reading.{Within, Ended, contentsOf};
@@ -12,6 +12,12 @@ pub enum Contents {
     None,
 }
 
+// A file that is open for reading, or nothing, and why was said.
+pub enum Opened {
+    At(i32),
+    None,
+}
+
 // How an input ended: after so many bytes, or too long, or with the number of an error.
 pub enum End {
     After(usize),
@@ -19,20 +25,41 @@ pub enum End {
     Failed(u32),
 }
 
-// Reads the whole of a file into a buffer, or says why that cannot be done. The name - stands for standard input.
+// Reads the whole of a file into a buffer, or says why that cannot be done.
 pub(crate) fn read(path: &[u8], buffer: &mut [u8]) -> Contents
     ensures { λ r. ⌜ Within r (length (now (buffer .exit))) ⌝ }
 {
+    let Opened::At(descriptor) = open(path) else {
+        return Contents::None;
+    };
+    let end = read_all(descriptor, buffer);
+    close(path, descriptor);
+    told(path, end)
+}
+
+// Opens a file for reading, or says why that cannot be done.
+pub(crate) fn open(path: &[u8]) -> Opened {
     if text::same_bytes(path, b"-") {
-        return told(path, read_all(libc::STDIN_FILENO, buffer));
+        return Opened::At(libc::STDIN_FILENO);
     }
     let descriptor = os::open_read(path);
     if descriptor < 0 {
-        return told(path, End::Failed(numbers::to_u32(os::errno())));
+        say_unreadable(path, numbers::to_u32(os::errno()));
+        return Opened::None;
     }
-    let end = read_all(descriptor, buffer);
-    libc::close(descriptor);
-    told(path, end)
+    Opened::At(descriptor)
+}
+
+// Closes a file; standard input stays open.
+pub(crate) fn close(path: &[u8], descriptor: i32) {
+    if !text::same_bytes(path, b"-") {
+        libc::close(descriptor);
+    }
+}
+
+// Says that a file cannot be read, and why.
+pub(crate) fn say_unreadable(path: &[u8], reason: u32) {
+    say::say(path, b"", Sentence::File(OfFile::Unreadable(reason)));
 }
 
 // Says why a file was not read, if it was not.
@@ -46,7 +73,7 @@ fn told(path: &[u8], end: End) -> Contents
             Contents::None
         }
         End::Failed(reason) => {
-            say::say(path, b"", Sentence::File(OfFile::Unreadable(reason)));
+            say_unreadable(path, reason);
             Contents::None
         }
     }

@@ -1,7 +1,8 @@
-// The service desk's command: whether structure files are accepted, a file's receipt, its fields, their values and its columns. Verdicts and data
-// go to standard output, other sentences to standard error. The first word is the number of a descriptor, and the last act is to write the status
-// there, one digit.
+// The service desk's command: whether structure files are accepted, a file's receipt, its fields, their values and its columns, and the bill of
+// receipts. Verdicts and data go to standard output, other sentences to standard error. The first word is the number of a descriptor, and the last
+// act is to write the status there, one digit.
 mod about;
+mod bills;
 mod files;
 mod listing;
 mod output;
@@ -77,6 +78,7 @@ fn obey(command: Command, word: &[u8]) -> Status {
     match command {
         Command::Check => check_all(os::arg_count()),
         Command::Receipt => receipt_of(),
+        Command::Bill => bills::bill(os::arg_count()),
         Command::Fields => with_file(Task::Fields, words::file_place(command)),
         Command::View => with_file(Task::View, words::file_place(command)),
         Command::RawView => with_file(Task::RawView, words::file_place(command)),
