@@ -3,6 +3,7 @@ ghost use mathlib.Core.Path.{_≡_};
 ghost use Prim.Native.Nat.{_+_, _<_, _≤_};
 ghost use lib.ListN.{length, take, drop};
 ghost use Rattle.receipt.specs.Receipt.{stationLimit};
+ghost use Rattle.bill.specs.Answer.{billLimit};
 ghost use Rattle.station.specs.Bills.{Holds, PieceHolds, ReachedHolds, FilesHold, filesOf};
 use crate::files;
 use crate::files::Opened;
@@ -233,7 +234,7 @@ fn no_jobs() -> [u32; bill::STATIONS]
 
 // Room for a bill.
 fn no_bill() -> [u8; bill::ROOM]
-    ensures { λ r. ⌜ length r ≡ 4567 ⌝ }
+    ensures { λ r. ⌜ length r ≡ billLimit ⌝ }
 {
     [0u8; bill::ROOM]
 }
