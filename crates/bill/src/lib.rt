@@ -113,7 +113,7 @@ fn least_left(ends: bool) -> usize
     receipt::RECEIPT_LIMIT
 }
 
-// Writes the bill of a ledger into the buffer: 25 where there is too little room.
+// Writes the bill of a ledger into the buffer: 25 where there is too little room. The line of the total has 7 bytes beside its digits.
 pub fn write(accepted: &[u32], refused: &[u32], buffer: &mut [u8]) -> Answer
     ensures answer { λ r. ⌜ r ≡ answered (length (billText (ledgerBill (now (accepted .entry)) (now (refused .entry))))) (length (now (buffer .entry))) ⌝ }
     ensures buffer { λ r. ⌜ now (buffer .exit) ≡ leaves (billText (ledgerBill (now (accepted .entry)) (now (refused .entry)))) (now (buffer .entry)) ⌝ }
@@ -158,7 +158,7 @@ fn entries_size(accepted: &[u32], refused: &[u32]) -> usize
     size
 }
 
-// How many bytes the entry of a station has; none where it has no jobs.
+// How many bytes the entry of a station has: 28 of names, signs and line feeds, and the digits; none where it has no jobs.
 fn entry_size(station: u32, accepted: u32, refused: u32) -> usize
     ensures { λ r. ⌜ r ≡ length (ledgerEntry station accepted refused) ⌝ }
 {
