@@ -3,7 +3,7 @@
 use Rattle.std.specs.Prelude.{ℕ, suc, Bool, cond, not, ◌&&◌, List, [], ◌∷◌, ◌++◌, ◌==◌, nat_lt}
 use Rattle.refusal.specs.Table.{accepted}
 use Rattle.receipt.specs.declared.Receipt.{Receipt}
-use Rattle.receipt.specs.Receipt.{namedLine}
+use Rattle.receipt.specs.Receipt.{named_line}
 use Rattle.bill.specs.Run.{stations}
 
 -- the jobs of one station
@@ -26,41 +26,41 @@ counted test (r ∷ rs) = cond (test r) (suc (counted test rs)) (counted test rs
 abbrev pub is_of : ℕ → Receipt → Bool
 is_of s r = r.station == s
 
-abbrev pub isAccepted : Receipt → Bool
-isAccepted r = r.verdict == accepted
+abbrev pub is_accepted : Receipt → Bool
+is_accepted r = r.verdict == accepted
 
 -- the receipts of a station: all, those with verdict 0, and the others
-abbrev pub receiptsOf : ℕ → List Receipt → ℕ
-receiptsOf s rs = counted (is_of s) rs
+abbrev pub receipts_of : ℕ → List Receipt → ℕ
+receipts_of s rs = counted (is_of s) rs
 
-abbrev pub acceptedOf : ℕ → List Receipt → ℕ
-acceptedOf s rs = counted (λ (r : Receipt). is_of s r && isAccepted r) rs
+abbrev pub accepted_of : ℕ → List Receipt → ℕ
+accepted_of s rs = counted (λ (r : Receipt). is_of s r && is_accepted r) rs
 
-abbrev pub refusedOf : ℕ → List Receipt → ℕ
-refusedOf s rs = counted (λ (r : Receipt). is_of s r && not (isAccepted r)) rs
+abbrev pub refused_of : ℕ → List Receipt → ℕ
+refused_of s rs = counted (λ (r : Receipt). is_of s r && not (is_accepted r)) rs
 
 -- all receipts with verdict 0
-abbrev pub allAccepted : List Receipt → ℕ
-allAccepted rs = counted isAccepted rs
+abbrev pub all_accepted : List Receipt → ℕ
+all_accepted rs = counted is_accepted rs
 
 -- the entries of those of some stations that occur, in the order of the stations
-unfoldable pub entriesIn : List ℕ → List Receipt → List Entry
-entriesIn [] rs = []
-entriesIn (s ∷ ss) rs =
-    cond (nat_lt 0 (receiptsOf s rs)) (record { station = s; accepted = acceptedOf s rs; refused = refusedOf s rs } ∷ entriesIn ss rs) (entriesIn ss rs)
+unfoldable pub entries_in : List ℕ → List Receipt → List Entry
+entries_in [] rs = []
+entries_in (s ∷ ss) rs =
+    cond (nat_lt 0 (receipts_of s rs)) (record { station = s; accepted = accepted_of s rs; refused = refused_of s rs } ∷ entries_in ss rs) (entries_in ss rs)
 
 -- the bill of receipts
-abbrev pub billOf : List Receipt → Bill
-billOf rs = record { entries = entriesIn stations rs; total = allAccepted rs }
+abbrev pub bill_of : List Receipt → Bill
+bill_of rs = record { entries = entries_in stations rs; total = all_accepted rs }
 
 -- the three lines of an entry
-unfoldable pub entryText : Entry → List ℕ
-entryText e = namedLine "station" e.station ++ namedLine "accepted" e.accepted ++ namedLine "refused" e.refused
+unfoldable pub entry_text : Entry → List ℕ
+entry_text e = named_line "station" e.station ++ named_line "accepted" e.accepted ++ named_line "refused" e.refused
 
-unfoldable pub entriesText : List Entry → List ℕ
-entriesText [] = []
-entriesText (e ∷ es) = entryText e ++ entriesText es
+unfoldable pub entries_text : List Entry → List ℕ
+entries_text [] = []
+entries_text (e ∷ es) = entry_text e ++ entries_text es
 
 -- the lines of a bill: those of its entries, and the total
-unfoldable pub billText : Bill → List ℕ
-billText b = entriesText b.entries ++ namedLine "total" b.total
+unfoldable pub bill_text : Bill → List ℕ
+bill_text b = entries_text b.entries ++ named_line "total" b.total

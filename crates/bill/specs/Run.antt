@@ -2,7 +2,7 @@
 -- stands here: the laws are in Laws/Run.antt. Assumes nothing.
 use Rattle.std.specs.Prelude.{◌≡◌, ℕ, zero, suc, Bool, true, cond, ◌&&◌, List, [], ◌∷◌, ◌++◌, ◌==◌, nat_lt}
 use Rattle.receipt.specs.declared.Receipt.{Receipt}
-use Rattle.receipt.specs.Receipt.{stationLimit, written, rulesKept}
+use Rattle.receipt.specs.Receipt.{station_limit, written, rules_kept}
 
 -- the texts of receipts, one after another
 unfoldable pub texts : List Receipt → List ℕ
@@ -10,28 +10,28 @@ texts [] = []
 texts (r ∷ rs) = written r ++ texts rs
 
 -- whether each receipt keeps the rules of receipts
-unfoldable pub allKept : List Receipt → Bool
-allKept [] = true
-allKept (r ∷ rs) = rulesKept r && allKept rs
+unfoldable pub all_kept : List Receipt → Bool
+all_kept [] = true
+all_kept (r ∷ rs) = rules_kept r && all_kept rs
 
 -- the bytes are the run of these receipts
 pub record IsRun (bytes : List ℕ) (rs : List Receipt) : Type 0 where
-  pub rules : allKept rs ≡ true
+  pub rules : all_kept rs ≡ true
   pub text : bytes ≡ texts rs
 
 -- as many stations as asked for, from one on
-unfoldable pub stationsFrom : ℕ → ℕ → List ℕ
-stationsFrom s zero = []
-stationsFrom s (suc k) = s ∷ stationsFrom (suc s) k
+unfoldable pub stations_from : ℕ → ℕ → List ℕ
+stations_from s zero = []
+stations_from s (suc k) = s ∷ stations_from (suc s) k
 
 -- all stations, rising
 unfoldable pub stations : List ℕ
-stations = stationsFrom 1 stationLimit
+stations = stations_from 1 station_limit
 
 -- the jobs of a station, in the order of its receipts, refused ones too
-unfoldable pub jobsOf : ℕ → List Receipt → List ℕ
-jobsOf s [] = []
-jobsOf s (r ∷ rs) = cond (r.station == s) (r.job ∷ jobsOf s rs) (jobsOf s rs)
+unfoldable pub jobs_of : ℕ → List Receipt → List ℕ
+jobs_of s [] = []
+jobs_of s (r ∷ rs) = cond (r.station == s) (r.job ∷ jobs_of s rs) (jobs_of s rs)
 
 -- whether each number is above the one before it, the first above n
 unfoldable pub above : ℕ → List ℕ → Bool
@@ -44,10 +44,10 @@ increasing [] = true
 increasing (n ∷ ns) = above n ns
 
 -- whether the jobs of each of some stations rise
-unfoldable pub risingIn : List ℕ → List Receipt → Bool
-risingIn [] rs = true
-risingIn (s ∷ ss) rs = increasing (jobsOf s rs) && risingIn ss rs
+unfoldable pub rising_in : List ℕ → List Receipt → Bool
+rising_in [] rs = true
+rising_in (s ∷ ss) rs = increasing (jobs_of s rs) && rising_in ss rs
 
 -- whether the jobs rise within each station
 abbrev pub rising : List Receipt → Bool
-rising rs = risingIn stations rs
+rising rs = rising_in stations rs

@@ -5,20 +5,20 @@ use Rattle.receipt.specs.declared.Receipt.{Receipt}
 use Rattle.bill.specs.Bill.{Entry}
 
 -- the accepted jobs of all entries, and the refused ones
-unfoldable pub entriesAccepted : List Entry → ℕ
-entriesAccepted [] = 0
-entriesAccepted (e ∷ es) = e.accepted + entriesAccepted es
+unfoldable pub entries_accepted : List Entry → ℕ
+entries_accepted [] = 0
+entries_accepted (e ∷ es) = e.accepted + entries_accepted es
 
-unfoldable pub entriesRefused : List Entry → ℕ
-entriesRefused [] = 0
-entriesRefused (e ∷ es) = e.refused + entriesRefused es
+unfoldable pub entries_refused : List Entry → ℕ
+entries_refused [] = 0
+entries_refused (e ∷ es) = e.refused + entries_refused es
 
 -- the stations of entries, in their order
-unfoldable pub stationsIn : List Entry → List ℕ
-stationsIn [] = []
-stationsIn (e ∷ es) = e.station ∷ stationsIn es
+unfoldable pub stations_in : List Entry → List ℕ
+stations_in [] = []
+stations_in (e ∷ es) = e.station ∷ stations_in es
 
 -- the units lines of the receipts that pass a test, added up
-unfoldable pub unitsSum : (Receipt → Bool) → List Receipt → ℕ
-unitsSum test [] = 0
-unitsSum test (r ∷ rs) = cond (test r) (r.units + unitsSum test rs) (unitsSum test rs)
+unfoldable pub units_sum : (Receipt → Bool) → List Receipt → ℕ
+units_sum test [] = 0
+units_sum test (r ∷ rs) = cond (test r) (r.units + units_sum test rs) (units_sum test rs)

@@ -3,13 +3,13 @@
 // columns, each indexed by the station; a program that holds a piece of the receipts at a time enters one piece after another by the same step.
 ghost use Rattle.std.specs.Prelude.{◌≡◌, ℕ, suc, ◌%◌, ◌&&◌, length, take, replicate, if◌then◌else◌, ◌==◌, nat_eq, slice_index, slice_set};
 ghost use Rattle.refusal.specs.Answer.{answered, leaves};
-ghost use Rattle.receipt.specs.Receipt.{stationLimit};
+ghost use Rattle.receipt.specs.Receipt.{station_limit};
 ghost use Rattle.text.specs.Put.{Put};
 ghost use Rattle.bill.specs.Run.{stations};
-ghost use Rattle.bill.specs.Bill.{entryText, entriesText, billText};
-ghost use Rattle.bill.specs.Answer.{billAnswer, billBuffer, Billed};
-ghost use Rattle.bill.specs.Ledger.{raised, least, Enters, ledgerEntries, ledgerTotal, ledgerBill};
-ghost use Rattle.bill.specs.Steps.{ledger, ledgerEntry};
+ghost use Rattle.bill.specs.Bill.{entry_text, entries_text, bill_text};
+ghost use Rattle.bill.specs.Answer.{bill_answer, bill_buffer, Billed};
+ghost use Rattle.bill.specs.Ledger.{raised, least, Enters, ledger_entries, ledger_total, ledger_bill};
+ghost use Rattle.bill.specs.Steps.{ledger, ledger_entry};
 
 use receipt::Found;
 use refusal::Answer;
@@ -30,8 +30,8 @@ pub struct Entered {
 
 // Writes the bill of a run of receipts into the buffer: 1 for a run over the limit, then 29 or 30 of the first receipt at fault, then 25.
 pub fn bill(receipts: &[u8], buffer: &mut [u8]) -> Answer
-    ensures answer { result ≡ billAnswer receipts.now (length buffer.old) }
-    ensures buffer { buffer.new ≡ billBuffer receipts.now buffer.old }
+    ensures answer { result ≡ bill_answer receipts.now (length buffer.old) }
+    ensures buffer { buffer.new ≡ bill_buffer receipts.now buffer.old }
     ensures bill { (n : ℕ) → result ≡ Answer.Count n → Billed receipts.now (take n buffer.new) }
 {
     if messagepack::FILE_LIMIT < receipts.len() {
@@ -113,8 +113,8 @@ fn least_left(ends: bool) -> usize
 
 // Writes the bill of a ledger into the buffer: 25 where there is too little room. The line of the total has 7 bytes beside its digits.
 pub fn write(accepted: &[u32], refused: &[u32], buffer: &mut [u8]) -> Answer
-    ensures answer { result ≡ answered (length (billText (ledgerBill accepted.now refused.now))) (length buffer.old) }
-    ensures buffer { buffer.new ≡ leaves (billText (ledgerBill accepted.now refused.now)) buffer.old }
+    ensures answer { result ≡ answered (length (bill_text (ledger_bill accepted.now refused.now))) (length buffer.old) }
+    ensures buffer { buffer.new ≡ leaves (bill_text (ledger_bill accepted.now refused.now)) buffer.old }
 {
     let total = total_of(accepted);
     let size = entries_size(accepted, refused) + 7 + text::digit_count(total);
@@ -128,7 +128,7 @@ pub fn write(accepted: &[u32], refused: &[u32], buffer: &mut [u8]) -> Answer
 
 // The accepted jobs of all stations, modulo 2 ^ 32.
 fn total_of(accepted: &[u32]) -> u32
-    ensures { result ≡ ledgerTotal stations accepted.now % 4294967296 }
+    ensures { result ≡ ledger_total stations accepted.now % 4294967296 }
 {
     let mut total: u32 = 0;
     let mut station: usize = 1;
@@ -141,7 +141,7 @@ fn total_of(accepted: &[u32]) -> u32
 
 // How many bytes the entries of a ledger's bill have.
 fn entries_size(accepted: &[u32], refused: &[u32]) -> usize
-    ensures { result ≡ length (entriesText (ledgerEntries stations accepted.now refused.now)) }
+    ensures { result ≡ length (entries_text (ledger_entries stations accepted.now refused.now)) }
 {
     let mut size: usize = 0;
     let mut station: usize = 1;
@@ -158,7 +158,7 @@ fn entries_size(accepted: &[u32], refused: &[u32]) -> usize
 
 // How many bytes the entry of a station has: 28 of names, signs and line feeds, and the digits; none where it has no jobs.
 fn entry_size(station: u32, accepted: u32, refused: u32) -> usize
-    ensures { result ≡ length (ledgerEntry station accepted refused) }
+    ensures { result ≡ length (ledger_entry station accepted refused) }
 {
     if has_none(accepted, refused) {
         return 0;
@@ -168,7 +168,7 @@ fn entry_size(station: u32, accepted: u32, refused: u32) -> usize
 
 // Puts the entries of a ledger's bill at the start of a buffer, and gives the place after them.
 fn put_entries(buffer: &mut [u8], accepted: &[u32], refused: &[u32]) -> usize
-    ensures { Put buffer.old 0 (entriesText (ledgerEntries stations accepted.now refused.now)) buffer.new result }
+    ensures { Put buffer.old 0 (entries_text (ledger_entries stations accepted.now refused.now)) buffer.new result }
 {
     let mut next: usize = 0;
     let mut station: usize = 1;
@@ -187,7 +187,7 @@ fn put_entries(buffer: &mut [u8], accepted: &[u32], refused: &[u32]) -> usize
 
 // Puts the entry of a station at a place, and gives the place after it; nothing where it has no jobs.
 fn put_entry(buffer: &mut [u8], at: usize, station: u32, accepted: u32, refused: u32) -> usize
-    ensures { Put buffer.old at (ledgerEntry station accepted refused) buffer.new result }
+    ensures { Put buffer.old at (ledger_entry station accepted refused) buffer.new result }
 {
     if has_none(accepted, refused) {
         return at;
@@ -206,7 +206,7 @@ fn has_none(accepted: u32, refused: u32) -> bool
 
 // A column with 0 for every station.
 fn column() -> [u32; STATIONS]
-    ensures { result ≡ replicate (suc stationLimit) 0 }
+    ensures { result ≡ replicate (suc station_limit) 0 }
 {
     [0u32; STATIONS]
 }

@@ -3,20 +3,20 @@ use Rattle.std.specs.Prelude.{◌≡◌, Bool, true, false, not, List, ℕ, ◌<
 use Rattle.std.proofs.Math.Option.{some}
 use Rattle.steps.specs.declared.Form.{Form}
 use Rattle.steps.specs.declared.Form.TheVariants.{Plain, Packed, Runs, Names}
-use Rattle.steps.specs.Delta.{sumsIf}
-use Rattle.steps.specs.Payload.{readIn}
+use Rattle.steps.specs.Delta.{sums_if}
+use Rattle.steps.specs.Payload.{read_in}
 
 -- whether a result's place is known or is walked to: plain numbers have no delta, and names are no numbers
-abbrev pub isDirect : Form → Bool → Bool
-isDirect (Plain z) d = not d
-isDirect (Packed z) d = true
-isDirect (Runs r) d = true
-isDirect Names d = false
+abbrev pub is_direct : Form → Bool → Bool
+is_direct (Plain z) d = not d
+is_direct (Packed z) d = true
+is_direct (Runs r) d = true
+is_direct Names d = false
 
 -- a payload has a result at i
 abbrev pub HasResultAt : Form → List ℕ → ℕ → Type 0
-HasResultAt f s i = (l : List ℤ) × (readIn f s ≡ some l) × (i < length l)
+HasResultAt f s i = (l : List ℤ) × (read_in f s ≡ some l) × (i < length l)
 
 -- x is the result at i of a payload that has one there
 abbrev pub ResultAt : Form → Bool → List ℕ → ℕ → ℤ → Type 0
-ResultAt f d s i x = (l : List ℤ) → readIn f s ≡ some l → i < length l → x ≡ get_or (sumsIf d l) i (pos 0)
+ResultAt f d s i x = (l : List ℤ) → read_in f s ≡ some l → i < length l → x ≡ get_or (sums_if d l) i (pos 0)

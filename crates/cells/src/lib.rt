@@ -1,9 +1,9 @@
 // One cell of a column of any kind. The payload is read at most twice, and nothing is copied.
 ghost use Rattle.std.specs.Prelude.{◌≡◌, true, false, ℕ};
-ghost use Rattle.columns.specs.Table.{isStrings};
-ghost use Rattle.columns.specs.Decode.{decode, judgedPayload};
-ghost use Rattle.cells.specs.Calls.{quotientCell, value_of, cell_of};
-ghost use Rattle.cells.specs.Steps.{isDirect, ResultAt, HasResultAt};
+ghost use Rattle.columns.specs.Table.{is_strings};
+ghost use Rattle.columns.specs.Decode.{decode, judged_payload};
+ghost use Rattle.cells.specs.Calls.{quotient_cell, value_of, cell_of};
+ghost use Rattle.cells.specs.Steps.{is_direct, ResultAt, HasResultAt};
 
 use columns::{HEADER_SIZE, Header, Kind, Wanted};
 use steps::{Form, Range, Size};
@@ -32,7 +32,7 @@ pub fn cell_at(column: &[u8], index: usize) -> Cell
 
 // The refusal of a payload of strings whose header passed: its own, else 15.
 fn strings_refusal(payload: &[u8], n: usize, size: u32) -> Cell
-    ensures { (i : ℕ) → result ≡ cell_of (judgedPayload (Header.Good n size Kind.Strings Form.Names false) payload.now) i }
+    ensures { (i : ℕ) → result ≡ cell_of (judged_payload (Header.Good n size Kind.Strings Form.Names false) payload.now) i }
 {
     let number = payloads::refusal_of(payload, Form::Names, size as usize, n);
     if number != refusal::ACCEPTED {
@@ -51,8 +51,8 @@ fn cell_in(
     delta: bool,
     index: usize,
 ) -> Cell
-    requires { (isStrings kind ≡ false) × (isDirect form delta ≡ true) }
-    ensures { result ≡ cell_of (judgedPayload (Header.Good n m kind form delta) payload.now) index }
+    requires { (is_strings kind ≡ false) × (is_direct form delta ≡ true) }
+    ensures { result ≡ cell_of (judged_payload (Header.Good n m kind form delta) payload.now) index }
 {
     let refused = payloads::refusal_of(payload, form, m as usize, n);
     if refused != refusal::ACCEPTED {
@@ -66,7 +66,7 @@ fn cell_in(
 
 // The result at an index of a payload that has one there.
 fn number_in(payload: &[u8], form: Form, delta: bool, index: usize) -> i32
-    requires { HasResultAt form payload.now index × (isDirect form delta ≡ true) }
+    requires { HasResultAt form payload.now index × (is_direct form delta ≡ true) }
     ensures { ResultAt form delta payload.now index result }
 {
     match form {
@@ -144,7 +144,7 @@ fn value_of(kind: Kind, m: u32, x: i32) -> Cell
 
 // A number by a divisor: one division in single precision, where both are exact.
 fn quotient_cell(x: i32, divisor: u32) -> Cell
-    ensures { result ≡ quotientCell divisor x }
+    ensures { result ≡ quotient_cell divisor x }
 {
     if floats::are_exact(payloads::is_exact(x), divisor) {
         return Cell::Float((x as f32) / (divisor as f32));

@@ -8,11 +8,11 @@ use Rattle.columns.specs.declared.Kind.{Kind}
 use Rattle.columns.specs.Decode.{Decoding, refused, column}
 
 -- the answer for a buffer with room for so many elements: how many were written, or the refusal; 25 where they do not fit
-abbrev pub decodedAnswer : Decoding → ℕ → Answer
-decodedAnswer (refused r) room = Refused r
-decodedAnswer (column k m cells) room = answered (length cells) room
+abbrev pub decoded_answer : Decoding → ℕ → Answer
+decoded_answer (refused r) room = Refused r
+decoded_answer (column k m cells) room = answered (length cells) room
 
 -- the buffer afterwards: the column's cells as elements at its start and everything beyond unchanged; on refusal, all unchanged
-abbrev pub decodedBuffer : {B : Type 0} → (Kind → ℕ → ℤ → B) → Decoding → List B → List B
-decodedBuffer element (refused r) old = old
-decodedBuffer element (column k m cells) old = leaves (map (element k m) cells) old
+abbrev pub decoded_buffer : {B : Type 0} → (Kind → ℕ → ℤ → B) → Decoding → List B → List B
+decoded_buffer element (refused r) old = old
+decoded_buffer element (column k m cells) old = leaves (map (element k m) cells) old

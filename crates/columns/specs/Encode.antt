@@ -2,13 +2,13 @@
 -- then 18. The letters are those of Table; m is the parameter that is asked for, and v what the header has for it. No lemma stands here: the
 -- laws are in Laws/Encode.antt. Assumes nothing.
 use Rattle.std.specs.Prelude.{Bool, true, cond, List, [], ◌∷◌, ◌++◌, ℕ, zero, suc, ◌/◌, ◌%◌, length, ℤ, eqb, leb}
-use Rattle.refusal.specs.Table.{codecUnknown, headerRange, numberNotAllowed}
+use Rattle.refusal.specs.Table.{codec_unknown, header_range, number_not_allowed}
 use Rattle.refusal.specs.First.{unless, first}
 use Rattle.steps.specs.declared.Form.{Form}
 use Rattle.steps.specs.declared.Form.TheVariants.{Plain, Packed, Runs, Names}
-use Rattle.steps.specs.Numbers.{bytesFor}
-use Rattle.steps.specs.Delta.{deltasIf}
-use Rattle.steps.specs.Payload.{numberSize, numbersFor, allowed}
+use Rattle.steps.specs.Numbers.{bytes_for}
+use Rattle.steps.specs.Delta.{deltas_if}
+use Rattle.steps.specs.Payload.{number_size, numbers_for, allowed}
 use Rattle.columns.specs.declared.Kind.{Kind}
 use Rattle.columns.specs.declared.Wanted.{Wanted}
 use Rattle.columns.specs.declared.Parameter.{Parameter}
@@ -16,8 +16,8 @@ use Rattle.columns.specs.declared.Codec.{Codec}
 use Rattle.columns.specs.declared.Codec.TheVariants.{Known, Unknown}
 use Rattle.columns.specs.declared.Plan.{Plan}
 use Rattle.columns.specs.declared.Plan.TheVariants.{Good, Refused}
-use Rattle.columns.specs.Table.{codecOf, suits, lengthLimit, parameterOk, used}
-use Rattle.columns.specs.Header.{headerBytes}
+use Rattle.columns.specs.Table.{codec_of, suits, length_limit, parameter_ok, used}
+use Rattle.columns.specs.Header.{header_bytes}
 
 -- what a column encodes to: a refusal, or its bytes
 pub data Encoding : Type 0 where
@@ -32,48 +32,48 @@ results (Runs r) m e = e
 results Names m e = e / m
 
 -- whether e elements are whole results
-abbrev pub wholeResults : Form → ℕ → ℕ → Bool
-wholeResults (Plain z) m e = true
-wholeResults (Packed z) m e = true
-wholeResults (Runs r) m e = true
-wholeResults Names m e = eqb (e % m) 0
+abbrev pub whole_results : Form → ℕ → ℕ → Bool
+whole_results (Plain z) m e = true
+whole_results (Packed z) m e = true
+whole_results (Runs r) m e = true
+whole_results Names m e = eqb (e % m) 0
 
 -- the payload of cells
-unfoldable pub payloadOf : Form → Bool → List ℤ → List ℕ
-payloadOf f d xs = bytesFor (numberSize f) (numbersFor f (deltasIf d xs))
+unfoldable pub payload_of : Form → Bool → List ℤ → List ℕ
+payload_of f d xs = bytes_for (number_size f) (numbers_for f (deltas_if d xs))
 
 -- The plan
 
 -- the numbers of the rules that an encoder judges before the cells, in their order: the codec is of the kind that is wanted, the parameter is
 -- one that it may have, and e elements are whole results and not too many
-abbrev pub planRules : Wanted → Kind → Form → Parameter → ℕ → ℕ → List ℕ
-planRules w k f p m e =
-    unless (suits w k) codecUnknown
-    ∷ unless (parameterOk p m) headerRange
-    ∷ unless (wholeResults f m e) headerRange
-    ∷ unless (leb (results f m e) lengthLimit) headerRange
+abbrev pub plan_rules : Wanted → Kind → Form → Parameter → ℕ → ℕ → List ℕ
+plan_rules w k f p m e =
+    unless (suits w k) codec_unknown
+    ∷ unless (parameter_ok p m) header_range
+    ∷ unless (whole_results f m e) header_range
+    ∷ unless (leb (results f m e) length_limit) header_range
     ∷ []
 
 -- a plan where no rule is broken, and else the refusal
-abbrev pub unlessRefused : ℕ → Plan → Plan
-unlessRefused zero plan = plan
-unlessRefused (suc r) plan = Refused (suc r)
+abbrev pub unless_refused : ℕ → Plan → Plan
+unless_refused zero plan = plan
+unless_refused (suc r) plan = Refused (suc r)
 
 -- what an encoder will do by its codec's row: the form, delta, and the length and the parameter as the header has them; or the refusal
-abbrev pub planBy : Wanted → ℕ → ℕ → Codec → Plan
-planBy w m e Unknown = Refused codecUnknown
-planBy w m e (Known k f d p) = unlessRefused (first (planRules w k f p m e)) (Good f d (results f m e) (used p m))
+abbrev pub plan_by : Wanted → ℕ → ℕ → Codec → Plan
+plan_by w m e Unknown = Refused codec_unknown
+plan_by w m e (Known k f d p) = unless_refused (first (plan_rules w k f p m e)) (Good f d (results f m e) (used p m))
 
 unfoldable pub plan_of : Wanted → ℕ → ℕ → ℕ → Plan
-plan_of w c m e = planBy w m e (codecOf c)
+plan_of w c m e = plan_by w m e (codec_of c)
 
 -- The encoding
 
 -- what the plan comes to for the cells xs: 18, or the bytes
-abbrev pub encodedBy : ℕ → ℕ → List ℤ → Plan → Encoding
-encodedBy c m xs (Refused r) = refused r
-encodedBy c m xs (Good f d n v) = cond (allowed f m xs) (bytes (headerBytes c n v ++ payloadOf f d xs)) (refused numberNotAllowed)
+abbrev pub encoded_by : ℕ → ℕ → List ℤ → Plan → Encoding
+encoded_by c m xs (Refused r) = refused r
+encoded_by c m xs (Good f d n v) = cond (allowed f m xs) (bytes (header_bytes c n v ++ payload_of f d xs)) (refused number_not_allowed)
 
 -- the column xs by the codec c with the parameter m
 unfoldable pub encode : Wanted → ℕ → ℕ → List ℤ → Encoding
-encode w c m xs = encodedBy c m xs (plan_of w c m (length xs))
+encode w c m xs = encoded_by c m xs (plan_of w c m (length xs))

@@ -7,11 +7,11 @@ use Rattle.std.specs.Prelude.{◌≡◌, false, List, ◌++◌, ℕ, ◌≤◌, 
 use Rattle.std.proofs.Math.Option.{some}
 use Rattle.numbers.specs.BigEndian.{Bytes}
 use Rattle.steps.specs.Fits.{Every, Between}
-use Rattle.steps.specs.Packing.{unpackFrom, packAll}
+use Rattle.steps.specs.Packing.{unpack_from, pack_all}
 use Rattle.columns.specs.declared.Kind.{Kind}
 use Rattle.columns.specs.declared.Kind.TheVariants as kind
 use Rattle.columns.specs.declared.Wanted.TheVariants.{Only}
-use Rattle.columns.specs.Header.{headerBytes}
+use Rattle.columns.specs.Header.{header_bytes}
 use Rattle.columns.specs.Decode.{column, decode}
 use Rattle.columns.specs.Encode.{bytes, encode}
 use Rattle.columns.specs.CanHold.{CanHold}
@@ -19,12 +19,12 @@ use Rattle.columns.specs.CanHold.{CanHold}
 -- the payload gives the cells xs by the codec c: it decodes to them behind some header, with the length n and the parameter m; v is the parameter
 -- as decoding gives it
 abbrev pub Gives : Kind → ℕ → List ℤ → List ℕ → Type 0
-Gives k c xs payload = (n : ℕ) × (m : ℕ) × (v : ℕ) × (decode (Only k) (headerBytes c n m ++ payload) ≡ column k v xs)
+Gives k c xs payload = (n : ℕ) × (m : ℕ) × (v : ℕ) × (decode (Only k) (header_bytes c n m ++ payload) ≡ column k v xs)
 
 -- the payload is the writer's for the cells xs by the codec c with the parameter m: the encoder puts it behind its header, with the length n and the
 -- parameter v
 abbrev pub Written : Kind → ℕ → ℕ → List ℤ → List ℕ → Type 0
-Written k c m xs payload = (n : ℕ) × (v : ℕ) × (encode (Only k) c m xs ≡ bytes (headerBytes c n v ++ payload))
+Written k c m xs payload = (n : ℕ) × (v : ℕ) × (encode (Only k) c m xs ≡ bytes (header_bytes c n v ++ payload))
 
 -- by the codec c of the kind k no payload is shorter than the writer's
 pub record Shortest (k : Kind) (c : ℕ) : Type 0 where
@@ -38,11 +38,11 @@ pub record Shortest (k : Kind) (c : ℕ) : Type 0 where
 -- what is claimed of packing by the limits p and -q of a width, for numbers ns that unpack to xs; the conditions stand at `every-width` below
 pub record ShortestPacked (p q : ℕ) (ns xs : List ℤ) : Type 0 where
   -- the writer's numbers unpack to xs too
-  pub held : unpackFrom p q (pos 0) false (packAll p q xs) ≡ some xs
+  pub held : unpack_from p q (pos 0) false (pack_all p q xs) ≡ some xs
   -- they are no more
-  pub fewest : length (packAll p q xs) ≤ length ns
+  pub fewest : length (pack_all p q xs) ≤ length ns
   -- and if they are as many, they are the same
-  pub only : length (packAll p q xs) ≡ length ns → packAll p q xs ≡ ns
+  pub only : length (pack_all p q xs) ≡ length ns → pack_all p q xs ≡ ns
 
 -- the answer to the request: codecs 7, 14 and 15 by name, then every codec, then every width
 pub record NoShorter : Type 0 where
@@ -55,4 +55,4 @@ pub record NoShorter : Type 0 where
   -- the kind k nothing is written, and nothing is claimed.
   pub every-codec : (k : Kind) (c : ℕ) → Shortest k c
   -- packing by any limits, one above and one below 0, for numbers within them
-  pub every-width : (p q : ℕ) (ns xs : List ℤ) → 0 < p → 0 < q → Every (Between p q) ns → unpackFrom p q (pos 0) false ns ≡ some xs → ShortestPacked p q ns xs
+  pub every-width : (p q : ℕ) (ns xs : List ℤ) → 0 < p → 0 < q → Every (Between p q) ns → unpack_from p q (pos 0) false ns ≡ some xs → ShortestPacked p q ns xs

@@ -5,7 +5,7 @@
 -- follows, p what the parameter is, n a column's length in results, m its parameter, e how many elements it has, b how many bytes its
 -- payload has, s the column's bytes.
 use Rattle.std.specs.Prelude.{Bool, true, false, ◌&&◌, List, [], ◌∷◌, ℕ, ◌*◌, ◌%◌, get_or, eqb, leb}
-use Rattle.numbers.specs.Ranges.{integerLimit}
+use Rattle.numbers.specs.Ranges.{integer_limit}
 use Rattle.steps.specs.declared.Size.TheVariants.{One, Two, Four}
 use Rattle.steps.specs.declared.Range.TheVariants as range
 use Rattle.steps.specs.declared.Form.{Form}
@@ -43,66 +43,66 @@ table =
     ∷ []
 
 -- the codec of a number
-unfoldable pub codecOf : ℕ → Codec
-codecOf c = get_or table c Unknown
+unfoldable pub codec_of : ℕ → Codec
+codec_of c = get_or table c Unknown
 
 -- a number for each kind, to tell kinds apart, and for the table of columns in code
-abbrev pub kindTag : Kind → ℕ
-kindTag kind.Float32 = 0
-kindTag kind.FixedPoint = 1
-kindTag kind.Int8 = 2
-kindTag kind.Int16 = 3
-kindTag kind.Int32 = 4
-kindTag kind.Strings = 5
-kindTag kind.Chars = 6
+abbrev pub kind_tag : Kind → ℕ
+kind_tag kind.Float32 = 0
+kind_tag kind.FixedPoint = 1
+kind_tag kind.Int8 = 2
+kind_tag kind.Int16 = 3
+kind_tag kind.Int32 = 4
+kind_tag kind.Strings = 5
+kind_tag kind.Chars = 6
 
 -- whether two kinds are one
-abbrev pub isKind : Kind → Kind → Bool
-isKind k j = eqb (kindTag k) (kindTag j)
+abbrev pub is_kind : Kind → Kind → Bool
+is_kind k j = eqb (kind_tag k) (kind_tag j)
 
 -- whether a kind is that of strings, whose cells are bytes; codec 5
-abbrev pub isStrings : Kind → Bool
-isStrings k = isKind k kind.Strings
+abbrev pub is_strings : Kind → Bool
+is_strings k = is_kind k kind.Strings
 
 -- whether a kind has a divisor; codecs 9 to 13
 abbrev pub divides : Kind → Bool
-divides k = isKind k kind.FixedPoint
+divides k = is_kind k kind.FixedPoint
 
 -- paper 01's real columns: float32 and fixed point
-abbrev pub isReal : Kind → Bool
-isReal kind.Float32 = true
-isReal kind.FixedPoint = true
-isReal kind.Int8 = false
-isReal kind.Int16 = false
-isReal kind.Int32 = false
-isReal kind.Strings = false
-isReal kind.Chars = false
+abbrev pub is_real : Kind → Bool
+is_real kind.Float32 = true
+is_real kind.FixedPoint = true
+is_real kind.Int8 = false
+is_real kind.Int16 = false
+is_real kind.Int32 = false
+is_real kind.Strings = false
+is_real kind.Chars = false
 
 -- whether a kind is the one asked for
 abbrev pub suits : Wanted → Kind → Bool
-suits (Only k) j = isKind k j
-suits Real j = isReal j
+suits (Only k) j = is_kind k j
+suits Real j = is_real j
 suits Any j = true
 
 -- the most results of a column
-abbrev pub lengthLimit : ℕ
-lengthLimit = 16777216
+abbrev pub length_limit : ℕ
+length_limit = 16777216
 
 -- the most bytes of a name
-abbrev pub nameLimit : ℕ
-nameLimit = 255
+abbrev pub name_limit : ℕ
+name_limit = 255
 
 -- whether a parameter is the size of names
-abbrev pub isNameSize : Parameter → Bool
-isNameSize Unused = false
-isNameSize Divisor = false
-isNameSize NameSize = true
+abbrev pub is_name_size : Parameter → Bool
+is_name_size Unused = false
+is_name_size Divisor = false
+is_name_size NameSize = true
 
 -- a divisor is at least 1 (and a signed 32-bit number), a name's size 1 to 255; an unused parameter is not read
-abbrev pub parameterOk : Parameter → ℕ → Bool
-parameterOk Unused m = true
-parameterOk Divisor m = leb 1 m && leb m integerLimit
-parameterOk NameSize m = leb 1 m && leb m nameLimit
+abbrev pub parameter_ok : Parameter → ℕ → Bool
+parameter_ok Unused m = true
+parameter_ok Divisor m = leb 1 m && leb m integer_limit
+parameter_ok NameSize m = leb 1 m && leb m name_limit
 
 -- the parameter as a codec uses it: 0 where the codec uses none, whatever stands there
 abbrev pub used : Parameter → ℕ → ℕ
@@ -111,11 +111,11 @@ used Divisor m = m
 used NameSize m = m
 
 -- whether a form is that of names
-abbrev pub isNames : Form → Bool
-isNames (Plain z) = false
-isNames (Packed z) = false
-isNames (Runs r) = false
-isNames Names = true
+abbrev pub is_names : Form → Bool
+is_names (Plain z) = false
+is_names (Packed z) = false
+is_names (Runs r) = false
+is_names Names = true
 
 -- the elements of a column of n results with the parameter m: a name has m
 abbrev pub elements : Form → ℕ → ℕ → ℕ
@@ -126,8 +126,8 @@ elements Names n m = n * m
 
 -- Whether a payload of b bytes has the right size: plain numbers and names fill the length exactly, packed numbers are whole, and runs
 -- are whole pairs of 32-bit numbers.
-abbrev pub sizeRight : Form → ℕ → ℕ → ℕ → Bool
-sizeRight (Plain z) n m b = eqb b (n * size_of z)
-sizeRight (Packed z) n m b = eqb (b % size_of z) 0
-sizeRight (Runs r) n m b = eqb (b % 8) 0
-sizeRight Names n m b = eqb b (n * m)
+abbrev pub size_right : Form → ℕ → ℕ → ℕ → Bool
+size_right (Plain z) n m b = eqb b (n * size_of z)
+size_right (Packed z) n m b = eqb (b % size_of z) 0
+size_right (Runs r) n m b = eqb (b % 8) 0
+size_right Names n m b = eqb b (n * m)

@@ -1,8 +1,8 @@
 // Columns: the table of the sixteen codecs, and a column's header with its refusals 14 to 17. specs/ has what a column decodes to
 // and what its cells encode to, once for all codecs.
 ghost use Rattle.std.specs.Prelude.{◌≡◌, ◌≤◌};
-ghost use Rattle.columns.specs.Table.{codecOf, kindTag, isReal, suits, lengthLimit, parameterOk, used, sizeRight};
-ghost use Rattle.columns.specs.Header.{judged, headerOf};
+ghost use Rattle.columns.specs.Table.{codec_of, kind_tag, is_real, suits, length_limit, parameter_ok, used, size_right};
+ghost use Rattle.columns.specs.Header.{judged, header_of};
 
 use steps::{Form, Range, Size};
 
@@ -69,7 +69,7 @@ pub enum Plan {
 
 // The header of a column of the kind that is wanted, with the refusals 14 to 17.
 pub fn read_header(column: &[u8], wanted: Wanted) -> Header
-    ensures { result ≡ headerOf wanted column.now }
+    ensures { result ≡ header_of wanted column.now }
 {
     if column.len() < HEADER_SIZE {
         return Header::Refused(refusal::COLUMN_SHORT);
@@ -93,7 +93,7 @@ const DIVISOR: Parameter = Parameter::Divisor;
 
 // The codec of a number.
 pub fn codec_of(number: u32) -> Codec
-    ensures { result ≡ codecOf number }
+    ensures { result ≡ codec_of number }
 {
     match number {
         1 => Codec::Known(Kind::Float32, Form::Plain(Size::Four), false, UNUSED),
@@ -129,7 +129,7 @@ pub fn is_wanted(wanted: Wanted, kind: Kind) -> bool
 
 // Whether a parameter is one that the codec may have.
 pub fn parameter_ok(parameter: Parameter, value: u32) -> bool
-    ensures { result ≡ parameterOk parameter value }
+    ensures { result ≡ parameter_ok parameter value }
 {
     match parameter {
         Parameter::Unused => true,
@@ -191,8 +191,8 @@ fn judge(codec: Codec, length: u32, parameter: u32, bytes: usize, wanted: Wanted
 
 // Whether a payload has the right size.
 fn size_ok(form: Form, length: usize, parameter: usize, bytes: usize) -> bool
-    requires { (length ≤ lengthLimit) × (parameter ≤ 4294967295) }
-    ensures { result ≡ sizeRight form length parameter bytes }
+    requires { (length ≤ length_limit) × (parameter ≤ 4294967295) }
+    ensures { result ≡ size_right form length parameter bytes }
 {
     match form {
         Form::Plain(size) => bytes == length * steps::bytes(size),
@@ -204,7 +204,7 @@ fn size_ok(form: Form, length: usize, parameter: usize, bytes: usize) -> bool
 
 // Whether a column of a kind may be asked for as floats.
 fn is_real(kind: Kind) -> bool
-    ensures { result ≡ isReal kind }
+    ensures { result ≡ is_real kind }
 {
     match kind {
         Kind::Float32 => true,
@@ -219,7 +219,7 @@ fn is_real(kind: Kind) -> bool
 
 // A number for each kind, for no other use than to tell kinds apart.
 fn kind_tag(kind: Kind) -> u8
-    ensures { result ≡ kindTag kind }
+    ensures { result ≡ kind_tag kind }
 {
     match kind {
         Kind::Float32 => 0,

@@ -10,41 +10,41 @@ use Rattle.commands.specs.declared.status.Status.TheVariants.{Done, Refused, Not
 use Rattle.commands.specs.declared.status.Descriptor.{Descriptor}
 
 -- a number as a descriptor
-abbrev pub descriptorBy : Number → Descriptor
-descriptorBy (Number.Is n) = cond (ltb n 2147483648) (Descriptor.At (pos n)) Descriptor.None
-descriptorBy Number.None = Descriptor.None
+abbrev pub descriptor_by : Number → Descriptor
+descriptor_by (Number.Is n) = cond (ltb n 2147483648) (Descriptor.At (pos n)) Descriptor.None
+descriptor_by Number.None = Descriptor.None
 
 -- the descriptor that a word names
-abbrev pub descriptorIn : List ℕ → Descriptor
-descriptorIn word = descriptorBy (number_in word)
+abbrev pub descriptor_in : List ℕ → Descriptor
+descriptor_in word = descriptor_by (number_in word)
 
 -- the status of a verdict
-abbrev pub verdictStatus : ℕ → Status
-verdictStatus verdict = cond (eqb verdict accepted) Done Refused
+abbrev pub verdict_status : ℕ → Status
+verdict_status verdict = cond (eqb verdict accepted) Done Refused
 
 -- the status of data that were written whole, or not
-abbrev pub writtenStatus : Bool → Status
-writtenStatus written = cond written Done Nothing
+abbrev pub written_status : Bool → Status
+written_status written = cond written Done Nothing
 
 -- the status of a part of a file that was not written
-abbrev pub partStatus : OfPart → Status
-partStatus (OfPart.Refused n) = Refused
-partStatus OfPart.NoField = Nothing
-partStatus OfPart.NoColumn = Nothing
-partStatus OfPart.NotShown = Nothing
-partStatus OfPart.Nested = Nothing
-partStatus OfPart.IsBinary = Nothing
+abbrev pub part_status : OfPart → Status
+part_status (OfPart.Refused n) = Refused
+part_status OfPart.NoField = Nothing
+part_status OfPart.NoColumn = Nothing
+part_status OfPart.NotShown = Nothing
+part_status OfPart.Nested = Nothing
+part_status OfPart.IsBinary = Nothing
 
 -- the worse of two statuses: 2 over 1 over 0
-abbrev pub worstOf : Status → Status → Status
-worstOf Done b = b
-worstOf Refused Done = Refused
-worstOf Refused Refused = Refused
-worstOf Refused Nothing = Nothing
-worstOf Nothing b = Nothing
+abbrev pub worst_of : Status → Status → Status
+worst_of Done b = b
+worst_of Refused Done = Refused
+worst_of Refused Refused = Refused
+worst_of Refused Nothing = Nothing
+worst_of Nothing b = Nothing
 
 -- the digit of a status, in ASCII
-abbrev pub digitOf : Status → ℕ
-digitOf Done = 48
-digitOf Refused = 49
-digitOf Nothing = 50
+abbrev pub digit_of : Status → ℕ
+digit_of Done = 48
+digit_of Refused = 49
+digit_of Nothing = 50

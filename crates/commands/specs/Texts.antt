@@ -1,13 +1,13 @@
 -- The value of a field as text: how each shape is shown, and the line of a plain value at a place. No lemma stands here. Assumes nothing.
 use Rattle.std.specs.Prelude.{cond, List, ℕ}
 use Rattle.heads.specs.Head.{kind_at}
-use Rattle.values.specs.Heads.{isString, is_float}
-use Rattle.views.specs.Plain.{head_end, textAt, textEnd, integerAt, bitsAt}
+use Rattle.values.specs.Heads.{is_string, is_float}
+use Rattle.views.specs.Plain.{head_end, text_at, text_end, integer_at, bits_at}
 use Rattle.views.specs.declared.shapes.Shape.{Shape}
-use Rattle.lines.specs.Texts.{numberText}
-use Rattle.lines.specs.Decimals.{floatText}
+use Rattle.lines.specs.Texts.{number_text}
+use Rattle.lines.specs.Decimals.{float_text}
 use Rattle.lines.specs.Lines.{line}
-use Rattle.lines.specs.Single.{stringText}
+use Rattle.lines.specs.Single.{string_text}
 use Rattle.sentences.specs.declared.OfPart.{OfPart}
 use Rattle.commands.specs.declared.texts.Way.{Way}
 
@@ -22,12 +22,12 @@ way_of Shape.Nested = Way.Not OfPart.Nested
 way_of Shape.Missing = Way.Not OfPart.NoField
 
 -- the line of the plain value at a place: a string, a float in decimal or an integer
-abbrev pub itemText : List ℕ → ℕ → List ℕ
-itemText s p =
-    cond (isString (kind_at s p)) (line stringText (textAt s p))
-    (cond (is_float (kind_at s p)) (line floatText (bitsAt s p))
-    (line (numberText 1) (integerAt s p)))
+abbrev pub item_text : List ℕ → ℕ → List ℕ
+item_text s p =
+    cond (is_string (kind_at s p)) (line string_text (text_at s p))
+    (cond (is_float (kind_at s p)) (line float_text (bits_at s p))
+    (line (number_text 1) (integer_at s p)))
 
 -- where the plain value at a place ends
-abbrev pub itemEnd : List ℕ → ℕ → ℕ
-itemEnd s p = cond (isString (kind_at s p)) (textEnd s p) (head_end s p)
+abbrev pub item_end : List ℕ → ℕ → ℕ
+item_end s p = cond (is_string (kind_at s p)) (text_end s p) (head_end s p)

@@ -1,7 +1,7 @@
 // How far the files of a bill are read, and which receipt of which file is at fault. The files are one run of receipts: a receipt may begin in one of
 // them and end in another.
 ghost use Rattle.std.specs.Prelude.{◌≡◌, ◌-◌};
-ghost use Rattle.commands.specs.Bills.{unread, openedRun, readRun, heldBy, decidedBy, enteredRun, number_in, raised, refusalOf};
+ghost use Rattle.commands.specs.Bills.{unread, opened_run, read_run, held_by, decided_by, entered_run, number_in, raised, refusal_of};
 
 // A run of receipts, as far as it is read: how many bytes it may still have until it is over the limit; how many bytes are held, of receipts that are
 // not entered yet; the file in which the first of these receipts begins, its number among those that begin there, and its refusal, or 0.
@@ -29,7 +29,7 @@ pub fn no_bytes() -> Run
 
 // A run when one of its files is opened: where nothing is held, the next receipt is the first of this file.
 pub fn opened(run: Run, file: usize) -> Run
-    ensures { result ≡ openedRun run file }
+    ensures { result ≡ opened_run run file }
 {
     if run.refusal != refusal::ACCEPTED {
         return run;
@@ -48,7 +48,7 @@ pub fn opened(run: Run, file: usize) -> Run
 
 // A run when more bytes of it are read, and how many of all are then held. Of a run that is refused none are.
 pub fn read(run: Run, bytes: usize, held: usize) -> Run
-    ensures { result ≡ readRun run bytes held }
+    ensures { result ≡ read_run run bytes held }
 {
     Run {
         left: less(run.left, bytes),
@@ -62,7 +62,7 @@ pub fn read(run: Run, bytes: usize, held: usize) -> Run
 // A run when receipts of it are entered while a file is read, with the refusal of the next one and how many bytes are then held. Of the receipts that
 // are entered only the first may begin in an earlier file.
 pub fn entered(run: Run, file: usize, refusal: u8, held: usize, receipts: usize) -> Run
-    ensures { result ≡ enteredRun run file refusal held receipts }
+    ensures { result ≡ entered_run run file refusal held receipts }
 {
     if receipts == 0 {
         return Run {
@@ -84,7 +84,7 @@ pub fn entered(run: Run, file: usize, refusal: u8, held: usize, receipts: usize)
 
 // What is decided of a receipt where a file ends: one that is malformed may go on in the next file.
 pub fn decided(refusal: u8, ends: bool) -> u8
-    ensures { result ≡ decidedBy refusal ends }
+    ensures { result ≡ decided_by refusal ends }
 {
     if !ends {
         return refusal;
@@ -97,7 +97,7 @@ pub fn decided(refusal: u8, ends: bool) -> u8
 
 // The refusal of a run when no more of it is read, or 0: a receipt that is held then does not go on.
 pub fn refusal_of(run: Run) -> u8
-    ensures { result ≡ refusalOf run }
+    ensures { result ≡ refusal_of run }
 {
     if run.left == 0 {
         return refusal::FILE_OVER_LIMIT;
@@ -110,7 +110,7 @@ pub fn refusal_of(run: Run) -> u8
 
 // How many bytes are held: none where the run is refused.
 fn held_by(refusal: u8, held: usize) -> usize
-    ensures { result ≡ heldBy refusal held }
+    ensures { result ≡ held_by refusal held }
 {
     if refusal == refusal::ACCEPTED {
         return held;

@@ -1,8 +1,8 @@
 // What a field is: its kind by the head of its value, the codec of a column, and its length.
 ghost use Rattle.std.specs.Prelude.{◌≡◌};
 ghost use Rattle.columns.specs.declared.Wanted.{Wanted};
-ghost use Rattle.columns.specs.Header.{headerOf};
-ghost use Rattle.commands.specs.Listing.{countOf, whatOf, binaryWhat, whatAt};
+ghost use Rattle.columns.specs.Header.{header_of};
+ghost use Rattle.commands.specs.Listing.{count_of, what_of, binary_what, what_at};
 
 use columns::{Header, Wanted};
 use heads::Kind;
@@ -19,7 +19,7 @@ pub struct What {
 
 // What the value at a place is.
 pub fn what_at(file: &[u8], at: usize) -> What
-    ensures { result ≡ whatAt file.now at }
+    ensures { result ≡ what_at file.now at }
 {
     let length = count_of(views::plain::number_at(file, at));
     match views::plain::kind_at(file, at) {
@@ -37,7 +37,7 @@ pub fn what_at(file: &[u8], at: usize) -> What
 
 // What a value is that is no column.
 fn of_sort(sort: Sort, length: Number) -> What
-    ensures { result ≡ whatOf sort length }
+    ensures { result ≡ what_of sort length }
 {
     What {
         sort: sort,
@@ -48,7 +48,7 @@ fn of_sort(sort: Sort, length: Number) -> What
 
 // What a binary is: a column, if its header passes.
 fn binary(body: &[u8], length: Number) -> What
-    ensures { result ≡ binaryWhat (headerOf Wanted.Any body.now) body.now length }
+    ensures { result ≡ binary_what (header_of Wanted.Any body.now) body.now length }
 {
     match columns::read_header(body, Wanted::Any) {
         Header::Refused(_) => of_sort(Sort::Binary, length),
@@ -62,7 +62,7 @@ fn binary(body: &[u8], length: Number) -> What
 
 // A number, or none where 32 bits do not hold it.
 fn count_of(n: usize) -> Number
-    ensures { result ≡ countOf n }
+    ensures { result ≡ count_of n }
 {
     if n < 0x1_0000_0000 {
         return Number::Is(n as u32);

@@ -1,6 +1,6 @@
 // How a run of the program ends, as a digit: it is written to a descriptor of its own, since a program of Rattle has no exit status.
 ghost use Rattle.std.specs.Prelude.{◌≡◌};
-ghost use Rattle.commands.specs.Status.{descriptorIn, verdictStatus, writtenStatus, partStatus, worstOf, digitOf};
+ghost use Rattle.commands.specs.Status.{descriptor_in, verdict_status, written_status, part_status, worst_of, digit_of};
 
 use sentences::OfPart;
 use text::Number;
@@ -22,7 +22,7 @@ pub enum Descriptor {
 
 // The descriptor that a word names.
 pub fn descriptor_of(word: &[u8]) -> Descriptor
-    ensures { result ≡ descriptorIn word.now }
+    ensures { result ≡ descriptor_in word.now }
 {
     let Number::Is(number) = text::number_of(word) else {
         return Descriptor::None;
@@ -35,7 +35,7 @@ pub fn descriptor_of(word: &[u8]) -> Descriptor
 
 // The status of a verdict that was written or said.
 pub fn of_verdict(verdict: u8) -> Status
-    ensures { result ≡ verdictStatus verdict }
+    ensures { result ≡ verdict_status verdict }
 {
     if verdict == refusal::ACCEPTED {
         return Status::Done;
@@ -45,7 +45,7 @@ pub fn of_verdict(verdict: u8) -> Status
 
 // The status of data that were written whole, or not.
 pub fn of_written(written: bool) -> Status
-    ensures { result ≡ writtenStatus written }
+    ensures { result ≡ written_status written }
 {
     if written {
         return Status::Done;
@@ -55,7 +55,7 @@ pub fn of_written(written: bool) -> Status
 
 // The status of a part of a file that was not written.
 pub fn of_part(said: OfPart) -> Status
-    ensures { result ≡ partStatus said }
+    ensures { result ≡ part_status said }
 {
     match said {
         OfPart::NoField => Status::Nothing,
@@ -69,7 +69,7 @@ pub fn of_part(said: OfPart) -> Status
 
 // The worse of two statuses.
 pub fn worst_of(a: Status, b: Status) -> Status
-    ensures { result ≡ worstOf a b }
+    ensures { result ≡ worst_of a b }
 {
     match a {
         Status::Done => b,
@@ -84,7 +84,7 @@ pub fn worst_of(a: Status, b: Status) -> Status
 
 // The digit of a status.
 pub fn digit_of(status: Status) -> u8
-    ensures { result ≡ digitOf status }
+    ensures { result ≡ digit_of status }
 {
     match status {
         Status::Done => b'0',

@@ -1,7 +1,7 @@
 // The value of a field as text: how it is shown, and the line of a plain value.
 ghost use Rattle.std.specs.Prelude.{◌≡◌};
 ghost use Rattle.text.specs.Put.{Put};
-ghost use Rattle.commands.specs.Texts.{way_of, itemText, itemEnd};
+ghost use Rattle.commands.specs.Texts.{way_of, item_text, item_end};
 
 use heads::Kind;
 use sentences::OfPart;
@@ -33,7 +33,7 @@ pub fn way_of(shape: Shape) -> Way
 
 // Puts the line of the plain value at a place.
 pub fn put_item(buffer: &mut [u8], at: usize, value: &[u8], p: usize) -> usize
-    ensures { Put buffer.old at (itemText value.now p) buffer.new result }
+    ensures { Put buffer.old at (item_text value.now p) buffer.new result }
 {
     match views::plain::kind_at(value, p) {
         Kind::Str => lines::single::put_string(buffer, at, views::plain::text_at(value, p)),
@@ -44,7 +44,7 @@ pub fn put_item(buffer: &mut [u8], at: usize, value: &[u8], p: usize) -> usize
 
 // Where the plain value at a place ends.
 pub fn item_end(value: &[u8], p: usize) -> usize
-    ensures { result ≡ itemEnd value.now p }
+    ensures { result ≡ item_end value.now p }
 {
     match views::plain::kind_at(value, p) {
         Kind::Str => views::plain::text_end(value, p),

@@ -1,6 +1,6 @@
 // The words of a command.
 ghost use Rattle.std.specs.Prelude.{◌≡◌};
-ghost use Rattle.commands.specs.Words.{commandOf, aboutOf, rawOf, flagged, wordsFit, filePlace, namePlace, asked_of, part_of};
+ghost use Rattle.commands.specs.Words.{command_of, about_of, raw_of, flagged, words_fit, file_place, name_place, asked_of, part_of};
 
 use sentences::OfPart;
 use text::Number;
@@ -29,7 +29,7 @@ pub enum Asked {
 
 // The command that a word names.
 pub fn command_of(word: &[u8]) -> Command
-    ensures { result ≡ commandOf word.now }
+    ensures { result ≡ command_of word.now }
 {
     if text::same_bytes(word, b"check") {
         return Command::Check;
@@ -54,7 +54,7 @@ pub fn command_of(word: &[u8]) -> Command
 
 // The command about the program itself that a word names.
 fn about_of(word: &[u8]) -> Command
-    ensures { result ≡ aboutOf word.now }
+    ensures { result ≡ about_of word.now }
 {
     if text::same_bytes(word, b"help") {
         return Command::Help;
@@ -83,7 +83,7 @@ pub fn with_flag(command: Command, word: &[u8]) -> Command
 
 // The command with --raw; one that does not take it stays.
 fn raw(command: Command) -> Command
-    ensures { result ≡ rawOf command }
+    ensures { result ≡ raw_of command }
 {
     match command {
         Command::Check => Command::Check,
@@ -102,7 +102,7 @@ fn raw(command: Command) -> Command
 
 // Whether a command has as many words as it takes: count is that of all words, the program's name, the descriptor and the command among them.
 pub fn fits(command: Command, count: usize) -> bool
-    ensures { result ≡ wordsFit command count }
+    ensures { result ≡ words_fit command count }
 {
     match command {
         Command::Check => 4 <= count,
@@ -121,7 +121,7 @@ pub fn fits(command: Command, count: usize) -> bool
 
 // Which of the words is the file's name, or the first of them.
 pub fn file_place(command: Command) -> usize
-    ensures { result ≡ filePlace command }
+    ensures { result ≡ file_place command }
 {
     match command {
         Command::Check => 3,
@@ -140,7 +140,7 @@ pub fn file_place(command: Command) -> usize
 
 // Which of the words is the name of a field, if the command takes one.
 pub fn name_place(command: Command) -> usize
-    ensures { result ≡ namePlace command }
+    ensures { result ≡ name_place command }
 {
     match command {
         Command::Check => 4,

@@ -3,26 +3,26 @@
 use Rattle.std.specs.Prelude.{◌≡◌, Bool, true, ◌&&◌, List, [], ◌∷◌, ℕ, ◌+◌, eqb, leb, ℤ, pos, negsuc, nat_abs, length}
 use Rattle.std.proofs.Math.Option.{Option, some, none as nothing}
 use Prim.Native.String as Text
-use Rattle.refusal.specs.Table.{accepted, countsDisagree, indexOutside, valueOutside, tooManyGroupTypes}
+use Rattle.refusal.specs.Table.{accepted, counts_disagree, index_outside, value_outside, too_many_group_types}
 use Rattle.refusal.specs.First.{unless, first}
-use Rattle.numbers.specs.Ranges.{integerLimit, allBetween, all_below}
+use Rattle.numbers.specs.Ranges.{integer_limit, all_between, all_below}
 use Rattle.messagepack.specs.Document.{Document, Documents, Entries, count}
-use Rattle.values.specs.Parts.{integerOf, items_in}
+use Rattle.values.specs.Parts.{integer_of, items_in}
 use Rattle.fields.specs.Fields.{field}
 use Rattle.fields.specs.Types.{Each}
 use Rattle.fields.specs.Tests.{all}
 use Rattle.columns.specs.declared.Kind.TheVariants.{Int8, Int32}
 use Rattle.columns.specs.declared.Wanted.{Wanted}
 use Rattle.columns.specs.declared.Wanted.TheVariants.{Only}
-use Rattle.file_columns.specs.Cells.{total, typeLimit}
-use Rattle.file_columns.specs.Columns.{cells_in, Measured, lengthsOf, lengthsFit}
-use Rattle.values.specs.Integers.{noneNegative, sum, integersIn, listIn}
-use Rattle.counts.specs.Group.{bondsAgree, pairs, ordersRight, atomsOf, bondsOf, groupNumber, groupsNumber, each}
-use Rattle.counts.specs.Indices.{chainsInside, transformsInside}
+use Rattle.file_columns.specs.Cells.{total, type_limit}
+use Rattle.file_columns.specs.Columns.{cells_in, Measured, lengths_of, lengths_fit}
+use Rattle.values.specs.Integers.{none_negative, sum, integers_in, list_in}
+use Rattle.counts.specs.Group.{bonds_agree, pairs, orders_right, atoms_of, bonds_of, group_number, groups_number, each}
+use Rattle.counts.specs.Indices.{chains_inside, transforms_inside}
 
 -- the most models, chains, groups, atoms or bonds
-abbrev pub countLimit : ℕ
-countLimit = 16777216
+abbrev pub count_limit : ℕ
+count_limit = 16777216
 
 -- What the rules look at of a file: its five num fields, its two arrays of integers, its group types, the cells of five columns, the lengths
 -- of all columns, and the maps that list chains. Each is called as its field is.
@@ -45,15 +45,15 @@ pub record Counted : Type 0 where
   pub bioAssemblyList : Documents
 
 -- the integer, the integers and the maps of a field, none where it is not there
-abbrev pub integerIn : Option Document → ℤ
-integerIn (some x) = integerOf x
-integerIn nothing = pos 0
+abbrev pub integer_in : Option Document → ℤ
+integer_in (some x) = integer_of x
+integer_in nothing = pos 0
 
 abbrev pub integer : Text.String → Entries → ℤ
-integer name es = integerIn (field name es)
+integer name es = integer_in (field name es)
 
 abbrev integers : Text.String → Entries → List ℤ
-integers name es = listIn (integersIn (field name es))
+integers name es = list_in (integers_in (field name es))
 
 abbrev maps : Text.String → Entries → Documents
 maps name es = items_in (field name es)
@@ -63,8 +63,8 @@ abbrev cells : Text.String → Wanted → Entries → Option (List ℤ)
 cells name w es = cells_in w (field name es)
 
 -- what they look at of a file, by the entries of its map
-abbrev pub countedOf : Entries → Counted
-countedOf es =
+abbrev pub counted_of : Entries → Counted
+counted_of es =
     record {
       numBonds = integer "numBonds" es;
       numAtoms = integer "numAtoms" es;
@@ -74,99 +74,99 @@ countedOf es =
       groupsPerChain = integers "groupsPerChain" es;
       chainsPerModel = integers "chainsPerModel" es;
       groupList = maps "groupList" es;
-      groupTypeList = listIn (cells "groupTypeList" (Only Int32) es);
+      groupTypeList = list_in (cells "groupTypeList" (Only Int32) es);
       bondAtomList = cells "bondAtomList" (Only Int32) es;
       bondOrderList = cells "bondOrderList" (Only Int8) es;
-      secStructList = listIn (cells "secStructList" (Only Int8) es);
-      sequenceIdList = listIn (cells "sequenceIdList" (Only Int32) es);
-      lengths = lengthsOf es;
+      secStructList = list_in (cells "secStructList" (Only Int8) es);
+      sequenceIdList = list_in (cells "sequenceIdList" (Only Int32) es);
+      lengths = lengths_of es;
       entityList = maps "entityList" es;
       bioAssemblyList = maps "bioAssemblyList" es;
     }
 
--- Rule 1: group types are at most 4,096 (`typeLimit` of file_columns, whose tables have as many rows)
-abbrev pub fewTypes : Counted → Bool
-fewTypes c = leb (count c.groupList) typeLimit
+-- Rule 1: group types are at most 4,096 (`type_limit` of file_columns, whose tables have as many rows)
+abbrev pub few_types : Counted → Bool
+few_types c = leb (count c.groupList) type_limit
 
 -- Rule 2: each of the five num fields is 0 to the limit of counts; no entry of groupsPerChain or chainsPerModel is negative
-abbrev pub countsRight : Counted → Bool
-countsRight c =
-    allBetween (pos 0) (pos countLimit) (c.numBonds ∷ c.numAtoms ∷ c.numGroups ∷ c.numChains ∷ c.numModels ∷ [])
+abbrev pub counts_right : Counted → Bool
+counts_right c =
+    all_between (pos 0) (pos count_limit) (c.numBonds ∷ c.numAtoms ∷ c.numGroups ∷ c.numChains ∷ c.numModels ∷ [])
 
-abbrev pub numbersRight : Counted → Bool
-numbersRight c = countsRight c && (noneNegative c.groupsPerChain && noneNegative c.chainsPerModel)
+abbrev pub numbers_right : Counted → Bool
+numbers_right c = counts_right c && (none_negative c.groupsPerChain && none_negative c.chainsPerModel)
 
 -- Rule 3: chainsPerModel has numModels entries, and their sum is numChains; groupsPerChain has numChains entries, and their sum is numGroups
-abbrev pub chainsAgree : Counted → Bool
-chainsAgree c =
+abbrev pub chains_agree : Counted → Bool
+chains_agree c =
     (eqb (length c.chainsPerModel) (nat_abs c.numModels) && eqb (sum c.chainsPerModel) (nat_abs c.numChains))
     && (eqb (length c.groupsPerChain) (nat_abs c.numChains) && eqb (sum c.groupsPerChain) (nat_abs c.numGroups))
 
--- Rule 4: columns have one entry for each atom, group or chain (`lengthsFit` of file_columns, by what each column has an entry for)
-abbrev pub lengthsAgree : Counted → Bool
-lengthsAgree c = lengthsFit c.lengths (nat_abs c.numAtoms) (nat_abs c.numGroups) (nat_abs c.numChains)
+-- Rule 4: columns have one entry for each atom, group or chain (`lengths_fit` of file_columns, by what each column has an entry for)
+abbrev pub lengths_agree : Counted → Bool
+lengths_agree c = lengths_fit c.lengths (nat_abs c.numAtoms) (nat_abs c.numGroups) (nat_abs c.numChains)
 
--- Rule 5: `groupsNumber` of Group.antt, over groupList
+-- Rule 5: `groups_number` of Group.antt, over groupList
 
 -- Rule 6: groupTypeList points inside groupList
-abbrev pub groupsInside : Counted → Bool
-groupsInside c = all_below (count c.groupList) c.groupTypeList
+abbrev pub groups_inside : Counted → Bool
+groups_inside c = all_below (count c.groupList) c.groupTypeList
 
 -- Rule 7: each group has the atoms of its type, and together these are numAtoms
-abbrev pub atomsAgree : Counted → Bool
-atomsAgree c = eqb (total (each atomsOf c.groupList) c.groupTypeList) (nat_abs c.numAtoms)
+abbrev pub atoms_agree : Counted → Bool
+atoms_agree c = eqb (total (each atoms_of c.groupList) c.groupTypeList) (nat_abs c.numAtoms)
 
 -- Rule 8: the bonds of each group's type, added over all groups, plus the pairs outside give numBonds; the pairs outside are whole, and their
 -- orders agree
-abbrev pub bondsTotal : Counted → Bool
-bondsTotal c =
-    eqb (total (each bondsOf c.groupList) c.groupTypeList + pairs c.bondAtomList) (nat_abs c.numBonds)
-    && bondsAgree c.bondAtomList c.bondOrderList
+abbrev pub bonds_total : Counted → Bool
+bonds_total c =
+    eqb (total (each bonds_of c.groupList) c.groupTypeList + pairs c.bondAtomList) (nat_abs c.numBonds)
+    && bonds_agree c.bondAtomList c.bondOrderList
 
 -- Rule 9: outer bond indices are inside the atoms; then their orders are 1 to 4
-abbrev pub outerInside : Counted → Bool
-outerInside c = all_below (nat_abs c.numAtoms) (listIn c.bondAtomList)
+abbrev pub outer_inside : Counted → Bool
+outer_inside c = all_below (nat_abs c.numAtoms) (list_in c.bondAtomList)
 
-abbrev pub outerRight : Counted → Bool
-outerRight c = ordersRight c.bondOrderList
+abbrev pub outer_right : Counted → Bool
+outer_right c = orders_right c.bondOrderList
 
 -- Rule 10: secStructList is -1 to 7, sequenceIdList at least -1
-abbrev pub valuesRight : Counted → Bool
-valuesRight c = allBetween (negsuc 0) (pos 7) c.secStructList && allBetween (negsuc 0) (pos integerLimit) c.sequenceIdList
+abbrev pub values_right : Counted → Bool
+values_right c = all_between (negsuc 0) (pos 7) c.secStructList && all_between (negsuc 0) (pos integer_limit) c.sequenceIdList
 
 -- Rule 11: the chains that an entity or a transform lists are inside the chains
-abbrev pub indicesInside : Counted → Bool
-indicesInside c = all (chainsInside (nat_abs c.numChains)) c.entityList && all (transformsInside (nat_abs c.numChains)) c.bioAssemblyList
+abbrev pub indices_inside : Counted → Bool
+indices_inside c = all (chains_inside (nat_abs c.numChains)) c.entityList && all (transforms_inside (nat_abs c.numChains)) c.bioAssemblyList
 
 -- 20 to 23 over the rules in their order
-unfoldable pub countsNumber : Counted → ℕ
-countsNumber c =
+unfoldable pub counts_number : Counted → ℕ
+counts_number c =
     first
-    (unless (fewTypes c) tooManyGroupTypes
-    ∷ unless (numbersRight c) valueOutside
-    ∷ unless (chainsAgree c) countsDisagree
-    ∷ unless (lengthsAgree c) countsDisagree
-    ∷ groupsNumber c.groupList
-    ∷ unless (groupsInside c) indexOutside
-    ∷ unless (atomsAgree c) countsDisagree
-    ∷ unless (bondsTotal c) countsDisagree
-    ∷ unless (outerInside c) indexOutside
-    ∷ unless (outerRight c) valueOutside
-    ∷ unless (valuesRight c) valueOutside
-    ∷ unless (indicesInside c) indexOutside
+    (unless (few_types c) too_many_group_types
+    ∷ unless (numbers_right c) value_outside
+    ∷ unless (chains_agree c) counts_disagree
+    ∷ unless (lengths_agree c) counts_disagree
+    ∷ groups_number c.groupList
+    ∷ unless (groups_inside c) index_outside
+    ∷ unless (atoms_agree c) counts_disagree
+    ∷ unless (bonds_total c) counts_disagree
+    ∷ unless (outer_inside c) index_outside
+    ∷ unless (outer_right c) value_outside
+    ∷ unless (values_right c) value_outside
+    ∷ unless (indices_inside c) index_outside
     ∷ [])
 
 -- all rules hold
 pub record CountsAgree (c : Counted) : Type 0 where
-  pub types : fewTypes c ≡ true
-  pub numbers : numbersRight c ≡ true
-  pub chains : chainsAgree c ≡ true
-  pub lengths : lengthsAgree c ≡ true
-  pub groups : Each (λ x. groupNumber x ≡ accepted) c.groupList
-  pub group-types : groupsInside c ≡ true
-  pub atoms : atomsAgree c ≡ true
-  pub bonds : bondsTotal c ≡ true
-  pub bond-atoms : outerInside c ≡ true
-  pub bond-orders : outerRight c ≡ true
-  pub values : valuesRight c ≡ true
-  pub indices : indicesInside c ≡ true
+  pub types : few_types c ≡ true
+  pub numbers : numbers_right c ≡ true
+  pub chains : chains_agree c ≡ true
+  pub lengths : lengths_agree c ≡ true
+  pub groups : Each (λ x. group_number x ≡ accepted) c.groupList
+  pub group-types : groups_inside c ≡ true
+  pub atoms : atoms_agree c ≡ true
+  pub bonds : bonds_total c ≡ true
+  pub bond-atoms : outer_inside c ≡ true
+  pub bond-orders : outer_right c ≡ true
+  pub values : values_right c ≡ true
+  pub indices : indices_inside c ≡ true

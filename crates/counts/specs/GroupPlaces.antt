@@ -4,15 +4,15 @@ use Rattle.refusal.specs.Table.{accepted}
 use Rattle.messagepack.specs.Document.{Document, Entries, count}
 use Rattle.text.specs.Equal.{equal}
 use Rattle.text.specs.Ascii.{ascii}
-use Rattle.values.specs.Parts.{entriesOf, look, under, items_in}
+use Rattle.values.specs.Parts.{entries_of, look, under, items_in}
 use Rattle.values.specs.Places.{PlaceSays}
 use Rattle.values.specs.Walked.{WalkedBy}
-use Rattle.counts.specs.Group.{atomsOf, bondsOf, groupNumber}
+use Rattle.counts.specs.Group.{atoms_of, bonds_of, group_number}
 use Rattle.counts.specs.declared.groups.Places.{Places}
 use Rattle.counts.specs.declared.groups.Found.{Found}
 use Rattle.counts.specs.declared.groups.Group.{Group}
 use Rattle.values.specs.declared.lists.Length as l
-use Rattle.values.specs.Integers.{arrayLength}
+use Rattle.values.specs.Integers.{array_length}
 
 -- the places of a group type's lists among its entries
 pub record PlacesIn (s : List ℕ) (es : Entries) (r : Places) : Type 0 where
@@ -28,8 +28,8 @@ pub record FoundIn (s : List ℕ) (es : Entries) (e : ℕ) (r : Found) : Type 0 
   pub ends : r.end ≡ e
 
 -- no lists
-abbrev pub noLists : Places
-noLists = record { charges = 0; names = 0; elements = 0; bonds = 0; orders = 0 }
+abbrev pub no_lists : Places
+no_lists = record { charges = 0; names = 0; elements = 0; bonds = 0; orders = 0 }
 
 -- the places with a value under a key more
 abbrev pub noted : List ℕ → ℕ → Places → Places
@@ -42,26 +42,26 @@ noted key value r =
       orders = cond (equal key (ascii "bondOrderList")) value r.orders;
     }
 
--- `bondsAgree` by the lengths of the two lists, where they are there
+-- `bonds_agree` by the lengths of the two lists, where they are there
 abbrev pub agrees : Bool → ℕ → Bool → ℕ → Bool
-agrees hasBonds bonds hasOrders orders =
-    cond hasBonds (eqb (bonds % 2) 0 && cond hasOrders (eqb (orders * 2) bonds) true) (cond hasOrders false true)
+agrees has_bonds bonds has_orders orders =
+    cond has_bonds (eqb (bonds % 2) 0 && cond has_orders (eqb (orders * 2) bonds) true) (cond has_orders false true)
 
 -- a promise on a walked file by a group type whose lists stand at places
 abbrev pub WalkedLists : List ℕ → List ℕ → Places → (Document → Type 0) → Type 0
-WalkedLists leads file places P = WalkedBy leads (λ x. PlacesIn file (entriesOf x) places) P
+WalkedLists leads file places P = WalkedBy leads (λ x. PlacesIn file (entries_of x) places) P
 
 -- the lengths of a group type's lists
 pub record Lengths (x : Document) (atoms charges elements : ℕ) (bonds orders : l.Length) : Type 0 where
-  pub atoms_are : atoms ≡ atomsOf x
+  pub atoms_are : atoms ≡ atoms_of x
   pub charges-are : charges ≡ count (items_in (under "formalChargeList" x))
   pub elements-are : elements ≡ count (items_in (under "elementList" x))
-  pub bonds-are : bonds ≡ arrayLength (under "bondAtomList" x)
-  pub orders-are : orders ≡ arrayLength (under "bondOrderList" x)
+  pub bonds-are : bonds ≡ array_length (under "bondAtomList" x)
+  pub orders-are : orders ≡ array_length (under "bondOrderList" x)
 
 -- the answer for a group type
 pub record GroupSays (x : Document) (e : ℕ) (r : Group) : Type 0 where
-  pub number : r.refusal ≡ groupNumber x
-  pub atoms : r.refusal ≡ accepted → r.atoms ≡ atomsOf x
-  pub bonds : r.refusal ≡ accepted → r.bonds ≡ bondsOf x
+  pub number : r.refusal ≡ group_number x
+  pub atoms : r.refusal ≡ accepted → r.atoms ≡ atoms_of x
+  pub bonds : r.refusal ≡ accepted → r.bonds ≡ bonds_of x
   pub ends : r.end ≡ e

@@ -5,12 +5,12 @@ use Rattle.numbers.specs.Ranges.{all_below}
 use Rattle.messagepack.specs.Document.{Document}
 use Rattle.values.specs.Parts.{under, items_in}
 use Rattle.fields.specs.Tests.{all}
-use Rattle.values.specs.Integers.{integersIn, listIn}
+use Rattle.values.specs.Integers.{integers_in, list_in}
 
 -- the chains that a map lists are inside n chains: an entity, or a transform
-abbrev pub chainsInside : ℕ → Document → Bool
-chainsInside n x = all_below n (listIn (integersIn (under "chainIndexList" x)))
+abbrev pub chains_inside : ℕ → Document → Bool
+chains_inside n x = all_below n (list_in (integers_in (under "chainIndexList" x)))
 
 -- the chains that the transforms of an assembly list are inside n chains
-abbrev pub transformsInside : ℕ → Document → Bool
-transformsInside n x = all (chainsInside n) (items_in (under "transformList" x))
+abbrev pub transforms_inside : ℕ → Document → Bool
+transforms_inside n x = all (chains_inside n) (items_in (under "transformList" x))

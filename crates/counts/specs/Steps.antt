@@ -1,7 +1,7 @@
 -- The rules of counts in the parts that the functions inside this crate judge, and what is known of a file's places when they do. No lemma
 -- stands here. Assumes nothing.
 use Rattle.std.specs.Prelude.{◌≡◌, Bool, cond, ◌&&◌, List, [], ◌∷◌, ℕ, suc, ◌+◌, ◌/◌, ◌≤◌, eqb, leb, ℤ, pos, nat_abs}
-use Rattle.refusal.specs.Table.{accepted, countsDisagree, indexOutside, valueOutside}
+use Rattle.refusal.specs.Table.{accepted, counts_disagree, index_outside, value_outside}
 use Rattle.refusal.specs.First.{unless, first}
 use Rattle.numbers.specs.Ranges.{between}
 use Rattle.messagepack.specs.Document.{Document, Documents, Entries, none, item, count}
@@ -9,13 +9,13 @@ use Rattle.values.specs.Walked.{Short, WalkedAll, WalkedBy}
 use Rattle.fields.specs.Types.{Has}
 use Rattle.fields.specs.Table.{named}
 use Rattle.fields.specs.Noted.{PlacesOf}
-use Rattle.file_columns.specs.Cells.{typeLimit}
+use Rattle.file_columns.specs.Cells.{type_limit}
 use Rattle.file_columns.specs.declared.whole.Sums.{Sums}
 use Rattle.values.specs.declared.lists.Length as list
 use Rattle.file_columns.specs.Columns.{columns, AllRight}
-use Rattle.counts.specs.Group.{groupNumber, groupsNumber}
+use Rattle.counts.specs.Group.{group_number, groups_number}
 use Rattle.counts.specs.GroupPlaces.{agrees}
-use Rattle.counts.specs.Counts.{countLimit, Counted, countedOf, numbersRight, chainsAgree, groupsInside, atomsAgree, bondsTotal, outerInside, outerRight, valuesRight, indicesInside}
+use Rattle.counts.specs.Counts.{count_limit, Counted, counted_of, numbers_right, chains_agree, groups_inside, atoms_agree, bonds_total, outer_inside, outer_right, values_right, indices_inside}
 use Rattle.counts.specs.declared.Counts.{Counts}
 
 -- the places of the named fields of a file within the limit, where the required ones are there and the columns decode
@@ -37,19 +37,19 @@ WalkedTypes leads file n at P = Short file → WalkedAll leads file n at (λ typ
 unfoldable pub table_of : (Document → ℕ) → Documents → List ℕ → List ℕ
 table_of f none old = old
 table_of f (item x types) [] = []
-table_of f (item x types) (o ∷ old) = cond (eqb (groupNumber x) accepted) (f x ∷ table_of f types old) (o ∷ old)
+table_of f (item x types) (o ∷ old) = cond (eqb (group_number x) accepted) (f x ∷ table_of f types old) (o ∷ old)
 
 -- an integer as a count: one above the limit where it is out of range
-abbrev pub asCount : ℤ → ℕ
-asCount z = cond (between (pos 0) (pos countLimit) z) (nat_abs z) (suc countLimit)
+abbrev pub as_count : ℤ → ℕ
+as_count z = cond (between (pos 0) (pos count_limit) z) (nat_abs z) (suc count_limit)
 
 -- the five num fields as counts
 pub record CountsIn (f : Counted) (c : Counts) : Type 0 where
-  pub bonds : c.bonds ≡ asCount f.numBonds
-  pub atoms : c.atoms ≡ asCount f.numAtoms
-  pub groups : c.groups ≡ asCount f.numGroups
-  pub chains : c.chains ≡ asCount f.numChains
-  pub models : c.models ≡ asCount f.numModels
+  pub bonds : c.bonds ≡ as_count f.numBonds
+  pub atoms : c.atoms ≡ as_count f.numAtoms
+  pub groups : c.groups ≡ as_count f.numGroups
+  pub chains : c.chains ≡ as_count f.numChains
+  pub models : c.models ≡ as_count f.numModels
 
 -- the five num fields as counts, of which the atoms are within the limit
 pub record CountsAre (f : Counted) (c : Counts) : Type 0 where
@@ -58,63 +58,63 @@ pub record CountsAre (f : Counted) (c : Counts) : Type 0 where
   pub groups : c.groups ≡ nat_abs f.numGroups
   pub chains : c.chains ≡ nat_abs f.numChains
   pub models : c.models ≡ nat_abs f.numModels
-  pub few-atoms : c.atoms ≤ countLimit
+  pub few-atoms : c.atoms ≤ count_limit
 
 -- a promise on a walked file by what the rules look at, and one where the num fields are in range
 abbrev pub WalkedCounted : List ℕ → List ℕ → List ℕ → (Counted → Type 0) → Type 0
-WalkedCounted leads file places P = WalkedFacts leads file places (λ es. P (countedOf es))
+WalkedCounted leads file places P = WalkedFacts leads file places (λ es. P (counted_of es))
 
 abbrev pub WalkedCounts : List ℕ → List ℕ → List ℕ → Counts → (Counted → Type 0) → Type 0
 WalkedCounts leads file places counts P = WalkedCounted leads file places (λ f. CountsAre f counts → P f)
 
 -- group types within their limit
 abbrev pub FewTypes : Counted → Type 0
-FewTypes f = count f.groupList ≤ typeLimit
+FewTypes f = count f.groupList ≤ type_limit
 
 -- counts at most one above the limit, as all are that are read
 pub record Small (c : Counts) : Type 0 where
-  pub bonds : c.bonds ≤ suc countLimit
-  pub atoms : c.atoms ≤ suc countLimit
-  pub groups : c.groups ≤ suc countLimit
-  pub chains : c.chains ≤ suc countLimit
-  pub models : c.models ≤ suc countLimit
+  pub bonds : c.bonds ≤ suc count_limit
+  pub atoms : c.atoms ≤ suc count_limit
+  pub groups : c.groups ≤ suc count_limit
+  pub chains : c.chains ≤ suc count_limit
+  pub models : c.models ≤ suc count_limit
 
 -- are the counts all in range?
-abbrev pub countsFit : Counts → Bool
-countsFit c =
-    leb c.bonds countLimit && (leb c.atoms countLimit && (leb c.groups countLimit && (leb c.chains countLimit && leb c.models countLimit)))
+abbrev pub counts_fit : Counts → Bool
+counts_fit c =
+    leb c.bonds count_limit && (leb c.atoms count_limit && (leb c.groups count_limit && (leb c.chains count_limit && leb c.models count_limit)))
 
 -- rule 3 by the numbers of entries and the sums
-abbrev pub chainsFit : Counts → ℕ → ℕ → ℕ → ℕ → Bool
-chainsFit c models chains ends groups = (eqb models c.models && eqb chains c.chains) && (eqb ends c.chains && eqb groups c.groups)
+abbrev pub chains_fit : Counts → ℕ → ℕ → ℕ → ℕ → Bool
+chains_fit c models chains ends groups = (eqb models c.models && eqb chains c.chains) && (eqb ends c.chains && eqb groups c.groups)
 
 -- rules 2 and 3
-abbrev pub chainsPart : Counted → ℕ
-chainsPart f = first (unless (numbersRight f) valueOutside ∷ unless (chainsAgree f) countsDisagree ∷ [])
+abbrev pub chains_part : Counted → ℕ
+chains_part f = first (unless (numbers_right f) value_outside ∷ unless (chains_agree f) counts_disagree ∷ [])
 
 -- rules 6 to 8 by the sums over all groups and the lengths of the lists outside
-abbrev pub totalsNumber : Sums → list.Length → list.Length → Counts → ℕ
-totalsNumber sums outer orders c =
+abbrev pub totals_number : Sums → list.Length → list.Length → Counts → ℕ
+totals_number sums outer orders c =
     first
-    (unless sums.inside indexOutside
-    ∷ unless (eqb sums.atoms c.atoms) countsDisagree
-    ∷ unless (eqb (sums.bonds + outer.count / 2) c.bonds && agrees outer.there outer.count orders.there orders.count) countsDisagree
+    (unless sums.inside index_outside
+    ∷ unless (eqb sums.atoms c.atoms) counts_disagree
+    ∷ unless (eqb (sums.bonds + outer.count / 2) c.bonds && agrees outer.there outer.count orders.there orders.count) counts_disagree
     ∷ [])
 
 -- rules 6 to 8
-abbrev pub totalsPart : Counted → ℕ
-totalsPart f = first (unless (groupsInside f) indexOutside ∷ unless (atomsAgree f) countsDisagree ∷ unless (bondsTotal f) countsDisagree ∷ [])
+abbrev pub totals_part : Counted → ℕ
+totals_part f = first (unless (groups_inside f) index_outside ∷ unless (atoms_agree f) counts_disagree ∷ unless (bonds_total f) counts_disagree ∷ [])
 
 -- rules 5 to 8
-abbrev pub groupsPart : Counted → ℕ
-groupsPart f = first (groupsNumber f.groupList ∷ totalsPart f ∷ [])
+abbrev pub groups_part : Counted → ℕ
+groups_part f = first (groups_number f.groupList ∷ totals_part f ∷ [])
 
 -- rules 9 to 11
-abbrev pub valuesPart : Counted → ℕ
-valuesPart f =
+abbrev pub values_part : Counted → ℕ
+values_part f =
     first
-    (unless (outerInside f) indexOutside
-    ∷ unless (outerRight f) valueOutside
-    ∷ unless (valuesRight f) valueOutside
-    ∷ unless (indicesInside f) indexOutside
+    (unless (outer_inside f) index_outside
+    ∷ unless (outer_right f) value_outside
+    ∷ unless (values_right f) value_outside
+    ∷ unless (indices_inside f) index_outside
     ∷ [])

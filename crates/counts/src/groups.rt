@@ -1,11 +1,11 @@
 // A group type at a place of a file: its atoms and bonds, and rule 5 of paper 01, "Counts that must agree". One pass over its entries notes
 // where its lists stand. Each function takes any bytes and any place, and promises a meaning for a file that has been walked.
 ghost use Rattle.std.specs.Prelude.{◌≡◌, cond, ◌+◌, ◌-◌, ◌*◌, ◌/◌, ◌%◌, ◌<◌};
-ghost use Rattle.values.specs.Parts.{entriesOf};
+ghost use Rattle.values.specs.Parts.{entries_of};
 ghost use Rattle.values.specs.Walked.{Short, Walked, WalkedEntries, WalkedPlace, WalkedOver};
-ghost use Rattle.values.specs.Integers.{integersIn};
-ghost use Rattle.counts.specs.Group.{ordersRight, groupNumber};
-ghost use Rattle.counts.specs.GroupPlaces.{noted, agrees, WalkedLists, Lengths, GroupSays, FoundIn, noLists};
+ghost use Rattle.values.specs.Integers.{integers_in};
+ghost use Rattle.counts.specs.Group.{orders_right, group_number};
+ghost use Rattle.counts.specs.GroupPlaces.{noted, agrees, WalkedLists, Lengths, GroupSays, FoundIn, no_lists};
 
 use heads::{Head, Kind};
 use values::lists::Length;
@@ -67,7 +67,7 @@ fn judge(
     bonds: Length,
     orders: Length,
 ) -> u8
-    ensures { WalkedLists leads.now file.now places (λ x. Lengths x atoms charges elements bonds orders → result ≡ groupNumber x) }
+    ensures { WalkedLists leads.now file.now places (λ x. Lengths x atoms charges elements bonds orders → result ≡ group_number x) }
 {
     if charges != atoms {
         return refusal::COUNTS_DISAGREE;
@@ -111,7 +111,7 @@ pub fn bonds_agree(bonded: bool, bonds: usize, ordered: bool, orders: usize) -> 
 
 // Whether the integers of the array at a place are 1 to 4; a place 0 has none.
 fn orders_right(leads: &[u8; 256], file: &[u8], at: usize) -> bool
-    ensures { WalkedPlace leads.now file.now at (λ o. result ≡ ordersRight (integersIn o)) }
+    ensures { WalkedPlace leads.now file.now at (λ o. result ≡ orders_right (integers_in o)) }
 {
     if at == 0 {
         return true;
@@ -121,7 +121,7 @@ fn orders_right(leads: &[u8; 256], file: &[u8], at: usize) -> bool
 
 // Where the lists of the group type at a place stand, and where it ends; a value that is no map has none.
 fn places_at(leads: &[u8; 256], file: &[u8], at: usize) -> Found
-    ensures { Walked leads.now file.now at (λ x e. FoundIn file.now (entriesOf x) e result) }
+    ensures { Walked leads.now file.now at (λ x e. FoundIn file.now (entries_of x) e result) }
 {
     let Head::At(n, p) = heads::head_at(leads, file, at) else {
         return no_lists(leads, file, at);
@@ -134,7 +134,7 @@ fn places_at(leads: &[u8; 256], file: &[u8], at: usize) -> Found
 
 // No lists, and where the value at a place, which is no map, ends.
 fn no_lists(leads: &[u8; 256], file: &[u8], at: usize) -> Found
-    ensures { (result.places ≡ noLists) × WalkedOver leads.now file.now at (λ e. result.end ≡ e) }
+    ensures { (result.places ≡ no_lists) × WalkedOver leads.now file.now at (λ e. result.end ≡ e) }
 {
     let end = values::skip(leads, file, at);
     let places = Places {

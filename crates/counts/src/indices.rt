@@ -4,9 +4,9 @@ ghost use Rattle.std.specs.Prelude.{◌≡◌};
 ghost use Rattle.text.specs.Ascii.{ascii};
 ghost use Rattle.text.specs.Equal.{equal};
 ghost use Rattle.values.specs.Walked.{Walked, WalkedAll, WalkedEntries, WalkedOver, WalkedPlace};
-ghost use Rattle.values.specs.Parts.{entriesOf, items_in};
+ghost use Rattle.values.specs.Parts.{entries_of, items_in};
 ghost use Rattle.fields.specs.Tests.{all};
-ghost use Rattle.counts.specs.Indices.{chainsInside, transformsInside};
+ghost use Rattle.counts.specs.Indices.{chains_inside, transforms_inside};
 ghost use Rattle.counts.specs.IndexPlaces.{ListIn};
 
 use heads::{Head, Kind};
@@ -20,7 +20,7 @@ pub struct List {
 
 // Whether each map of the array at a place, an entity or a transform, lists indices of chains only.
 pub fn all_inside(leads: &[u8; 256], file: &[u8], at: usize, chains: usize) -> bool
-    ensures { WalkedPlace leads.now file.now at (λ o. result ≡ all (chainsInside chains) (items_in o)) }
+    ensures { WalkedPlace leads.now file.now at (λ o. result ≡ all (chains_inside chains) (items_in o)) }
 {
     if at == 0 {
         return true;
@@ -31,7 +31,7 @@ pub fn all_inside(leads: &[u8; 256], file: &[u8], at: usize, chains: usize) -> b
 
 // Whether each of n maps from a place on lists indices of chains only.
 fn inside_from(leads: &[u8; 256], file: &[u8], n: usize, at: usize, chains: usize) -> bool
-    ensures { WalkedAll leads.now file.now n at (λ ds e. result ≡ all (chainsInside chains) ds) }
+    ensures { WalkedAll leads.now file.now n at (λ ds e. result ≡ all (chains_inside chains) ds) }
 {
     let mut left = n;
     let mut p = at;
@@ -48,7 +48,7 @@ fn inside_from(leads: &[u8; 256], file: &[u8], n: usize, at: usize, chains: usiz
 
 // The list of chains of the map at a place, and where the map ends; a value that is no map has none.
 fn list_at(leads: &[u8; 256], file: &[u8], at: usize) -> List
-    ensures { Walked leads.now file.now at (λ x e. ListIn file.now (entriesOf x) e result) }
+    ensures { Walked leads.now file.now at (λ x e. ListIn file.now (entries_of x) e result) }
 {
     let Head::At(n, p) = heads::head_at(leads, file, at) else {
         return no_list(leads, file, at);
@@ -123,7 +123,7 @@ fn past_value(leads: &[u8; 256], file: &[u8], at: usize) -> usize
 
 // Whether the transforms of each assembly of the array at a place list indices of chains only.
 pub fn assemblies_inside(leads: &[u8; 256], file: &[u8], at: usize, chains: usize) -> bool
-    ensures { WalkedPlace leads.now file.now at (λ o. result ≡ all (transformsInside chains) (items_in o)) }
+    ensures { WalkedPlace leads.now file.now at (λ o. result ≡ all (transforms_inside chains) (items_in o)) }
 {
     if at == 0 {
         return true;
@@ -134,7 +134,7 @@ pub fn assemblies_inside(leads: &[u8; 256], file: &[u8], at: usize, chains: usiz
 
 // Whether the transforms of each of n assemblies from a place on list indices of chains only.
 fn assemblies_from(leads: &[u8; 256], file: &[u8], n: usize, at: usize, chains: usize) -> bool
-    ensures { WalkedAll leads.now file.now n at (λ ds e. result ≡ all (transformsInside chains) ds) }
+    ensures { WalkedAll leads.now file.now n at (λ ds e. result ≡ all (transforms_inside chains) ds) }
 {
     let mut left = n;
     let mut p = at;
@@ -150,7 +150,7 @@ fn assemblies_from(leads: &[u8; 256], file: &[u8], n: usize, at: usize, chains: 
 
 // Whether the transforms of the assembly at a place list indices of chains only.
 fn transforms_inside(leads: &[u8; 256], file: &[u8], at: usize, chains: usize) -> bool
-    ensures { Walked leads.now file.now at (λ x e. result ≡ transformsInside chains x) }
+    ensures { Walked leads.now file.now at (λ x e. result ≡ transforms_inside chains x) }
 {
     let transforms = values::keys::find(leads, file, at, b"transformList");
     all_inside(leads, file, transforms, chains)

@@ -5,15 +5,15 @@ mod groups;
 mod indices;
 
 ghost use Rattle.std.specs.Prelude.{◌≡◌, suc, ◌+◌, ◌≤◌, eqb, leb, length};
-ghost use Rattle.values.specs.Parts.{integerOf};
+ghost use Rattle.values.specs.Parts.{integer_of};
 ghost use Rattle.values.specs.Walked.{Walked};
-ghost use Rattle.file_columns.specs.Cells.{typeLimit};
+ghost use Rattle.file_columns.specs.Cells.{type_limit};
 ghost use Rattle.file_columns.specs.Passing.{Hold};
 ghost use Rattle.messagepack.specs.Document.{count};
-ghost use Rattle.counts.specs.Group.{atomsOf, bondsOf, groupsNumber};
-ghost use Rattle.counts.specs.Counts.{countLimit, countsNumber, outerInside, outerRight, valuesRight, indicesInside};
-ghost use Rattle.counts.specs.Steps.{WalkedCounted, WalkedCounts, WalkedTypes, asCount, CountsIn, Small, countsFit, chainsFit, chainsPart};
-ghost use Rattle.counts.specs.Steps.{FewTypes, table_of, totalsNumber, groupsPart, valuesPart};
+ghost use Rattle.counts.specs.Group.{atoms_of, bonds_of, groups_number};
+ghost use Rattle.counts.specs.Counts.{count_limit, counts_number, outer_inside, outer_right, values_right, indices_inside};
+ghost use Rattle.counts.specs.Steps.{WalkedCounted, WalkedCounts, WalkedTypes, as_count, CountsIn, Small, counts_fit, chains_fit, chains_part};
+ghost use Rattle.counts.specs.Steps.{FewTypes, table_of, totals_number, groups_part, values_part};
 
 use columns::{Kind, Wanted};
 use file_columns::whole::Sums;
@@ -37,7 +37,7 @@ pub struct Counts {
 
 // The refusal by the rules of counts in their order, 20 to 23, or 0. Rule 1 (at most 4,096 group types) and rule 4 (column lengths) are judged here.
 pub fn refusal_of(leads: &[u8; 256], file: &[u8], places: &[usize; fields::FIELD_COUNT]) -> u8
-    ensures { WalkedCounted leads.now file.now places.now (λ f. result ≡ countsNumber f) }
+    ensures { WalkedCounted leads.now file.now places.now (λ f. result ≡ counts_number f) }
 {
     let types = values::lists::length_at(leads, file, places[fields::GROUP_LIST]).count;
     if !types_fit(types) {
@@ -67,7 +67,7 @@ pub fn refusal_of(leads: &[u8; 256], file: &[u8], places: &[usize; fields::FIELD
 
 // Rule 1: whether there are no more group types than there may be.
 fn types_fit(types: usize) -> bool
-    ensures { result ≡ leb types typeLimit }
+    ensures { result ≡ leb types type_limit }
 {
     types <= file_columns::whole::TYPE_LIMIT
 }
@@ -79,7 +79,7 @@ fn chains_refusal(
     places: &[usize; fields::FIELD_COUNT],
     counts: Counts,
 ) -> u8
-    ensures { WalkedCounted leads.now file.now places.now (λ f. CountsIn f counts → result ≡ chainsPart f) }
+    ensures { WalkedCounted leads.now file.now places.now (λ f. CountsIn f counts → result ≡ chains_part f) }
 {
     if !counts_fit(counts) {
         return refusal::VALUE_OUTSIDE;
@@ -116,15 +116,15 @@ pub fn counts_at(leads: &[u8; 256], file: &[u8], places: &[usize; fields::FIELD_
 
 // Rule 2: the integer at a place as a count; one above the limit where it is out of range.
 fn count_at(leads: &[u8; 256], file: &[u8], at: usize) -> usize
-    ensures small { result ≤ suc countLimit }
-    ensures integer { Walked leads.now file.now at (λ x e. result ≡ asCount (integerOf x)) }
+    ensures small { result ≤ suc count_limit }
+    ensures integer { Walked leads.now file.now at (λ x e. result ≡ as_count (integer_of x)) }
 {
     as_count(values::integer_at(leads, file, at))
 }
 
 // Rule 2: an integer as a count; one above the limit where it is out of range.
 fn as_count(number: i32) -> usize
-    ensures { result ≡ asCount number }
+    ensures { result ≡ as_count number }
 {
     if number < 0 {
         return COUNT_LIMIT + 1;
@@ -138,7 +138,7 @@ fn as_count(number: i32) -> usize
 
 // Rule 2: whether the five num fields are in range.
 fn counts_fit(counts: Counts) -> bool
-    ensures { result ≡ countsFit counts }
+    ensures { result ≡ counts_fit counts }
 {
     if COUNT_LIMIT < counts.bonds {
         return false;
@@ -157,7 +157,7 @@ fn counts_fit(counts: Counts) -> bool
 
 // Rule 3: whether models, chains and groups are as many as chainsPerModel and groupsPerChain say: their entries, and the sums of these.
 fn chains_agree(counts: Counts, models: usize, chains: u64, ends: usize, groups: u64) -> bool
-    ensures { result ≡ chainsFit counts models chains ends groups }
+    ensures { result ≡ chains_fit counts models chains ends groups }
 {
     if models != counts.models {
         return false;
@@ -178,7 +178,7 @@ fn groups_refusal(
     places: &[usize; fields::FIELD_COUNT],
     counts: Counts,
 ) -> u8
-    ensures { WalkedCounts leads.now file.now places.now counts (λ f. FewTypes f → result ≡ groupsPart f) }
+    ensures { WalkedCounts leads.now file.now places.now counts (λ f. FewTypes f → result ≡ groups_part f) }
 {
     let types = values::lists::length_at(leads, file, places[fields::GROUP_LIST]).count;
     if types <= FEW_TYPES {
@@ -200,7 +200,7 @@ fn types_refusal(
     atoms: &mut [u32],
     bonds: &mut [u32],
 ) -> u8
-    ensures { WalkedCounts leads.now file.now places.now counts (λ f. Hold (count f.groupList) atoms.old bonds.old → result ≡ groupsPart f) }
+    ensures { WalkedCounts leads.now file.now places.now counts (λ f. Hold (count f.groupList) atoms.old bonds.old → result ≡ groups_part f) }
 {
     let list = values::items_at(leads, file, places[fields::GROUP_LIST]);
     let n = list.count;
@@ -243,9 +243,9 @@ fn fill_tables(
     bonds: &mut [u32],
 ) -> u8
     requires { Hold n atoms.old bonds.old }
-    ensures number { WalkedTypes leads.now file.now n at (λ ts. result ≡ groupsNumber ts) }
-    ensures atoms { WalkedTypes leads.now file.now n at (λ ts. atoms.new ≡ table_of atomsOf ts atoms.old) }
-    ensures bonds { WalkedTypes leads.now file.now n at (λ ts. bonds.new ≡ table_of bondsOf ts bonds.old) }
+    ensures number { WalkedTypes leads.now file.now n at (λ ts. result ≡ groups_number ts) }
+    ensures atoms { WalkedTypes leads.now file.now n at (λ ts. atoms.new ≡ table_of atoms_of ts atoms.old) }
+    ensures bonds { WalkedTypes leads.now file.now n at (λ ts. bonds.new ≡ table_of bonds_of ts bonds.old) }
 {
     let mut i: usize = 0;
     let mut p = at;
@@ -271,7 +271,7 @@ fn few_entries() -> [u32; FEW_TYPES]
 
 // Rules 7 and 8: a table of group types with nothing in it.
 fn no_entries() -> [u32; file_columns::whole::TYPE_LIMIT]
-    ensures { length result ≡ typeLimit }
+    ensures { length result ≡ type_limit }
 {
     [0u32; file_columns::whole::TYPE_LIMIT]
 }
@@ -279,7 +279,7 @@ fn no_entries() -> [u32; file_columns::whole::TYPE_LIMIT]
 // Rule 6 (groups are of types that there are), rule 7 (their atoms are numAtoms) and rule 8 (their bonds and the pairs outside are numBonds, and
 // the orders outside agree) by the sums over all groups.
 fn totals_refusal(sums: Sums, outer: Length, orders: Length, counts: Counts) -> u8
-    ensures { result ≡ totalsNumber sums outer orders counts }
+    ensures { result ≡ totals_number sums outer orders counts }
 {
     if !sums.inside {
         return refusal::INDEX_OUTSIDE;
@@ -317,7 +317,7 @@ fn values_refusal(
     places: &[usize; fields::FIELD_COUNT],
     counts: Counts,
 ) -> u8
-    ensures { WalkedCounts leads.now file.now places.now counts (λ f. result ≡ valuesPart f) }
+    ensures { WalkedCounts leads.now file.now places.now counts (λ f. result ≡ values_part f) }
 {
     if !outer_inside(leads, file, places, counts) {
         return refusal::INDEX_OUTSIDE;
@@ -341,7 +341,7 @@ fn outer_inside(
     places: &[usize; fields::FIELD_COUNT],
     counts: Counts,
 ) -> bool
-    ensures { WalkedCounts leads.now file.now places.now counts (λ f. result ≡ outerInside f) }
+    ensures { WalkedCounts leads.now file.now places.now counts (λ f. result ≡ outer_inside f) }
 {
     let int32 = Wanted::Only(Kind::Int32);
     let last = numbers::last_index(counts.atoms);
@@ -350,7 +350,7 @@ fn outer_inside(
 
 // Rule 9: whether the orders of the bonds outside are 1 to 4.
 fn outer_right(leads: &[u8; 256], file: &[u8], places: &[usize; fields::FIELD_COUNT]) -> bool
-    ensures { WalkedCounted leads.now file.now places.now (λ f. result ≡ outerRight f) }
+    ensures { WalkedCounted leads.now file.now places.now (λ f. result ≡ outer_right f) }
 {
     let int8 = Wanted::Only(Kind::Int8);
     file_columns::all_between(leads, file, places[fields::BOND_ORDER_LIST], int8, 1, 4)
@@ -358,7 +358,7 @@ fn outer_right(leads: &[u8; 256], file: &[u8], places: &[usize; fields::FIELD_CO
 
 // Rule 10: whether secStructList is -1 to 7, and sequenceIdList at least -1.
 fn values_right(leads: &[u8; 256], file: &[u8], places: &[usize; fields::FIELD_COUNT]) -> bool
-    ensures { WalkedCounted leads.now file.now places.now (λ f. result ≡ valuesRight f) }
+    ensures { WalkedCounted leads.now file.now places.now (λ f. result ≡ values_right f) }
 {
     let int8 = Wanted::Only(Kind::Int8);
     let int32 = Wanted::Only(Kind::Int32);
@@ -382,7 +382,7 @@ fn indices_inside(
     places: &[usize; fields::FIELD_COUNT],
     counts: Counts,
 ) -> bool
-    ensures { WalkedCounts leads.now file.now places.now counts (λ f. result ≡ indicesInside f) }
+    ensures { WalkedCounts leads.now file.now places.now counts (λ f. result ≡ indices_inside f) }
 {
     if !crate::indices::all_inside(leads, file, places[fields::ENTITY_LIST], counts.chains) {
         return false;

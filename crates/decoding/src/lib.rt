@@ -2,13 +2,13 @@
 // write. On success the buffer begins with the column and everything beyond is unchanged; on refusal nothing has changed.
 ghost use Rattle.std.specs.Prelude.{◌≡◌, true, false, ◌++◌, ◌+◌, ◌≤◌, length, drop, replicate};
 ghost use Rattle.columns.specs.Table.{suits};
-ghost use Rattle.columns.specs.Decode.{decode, judgedPayload};
-ghost use Rattle.payloads.specs.Limits.{packedSize};
+ghost use Rattle.columns.specs.Decode.{decode, judged_payload};
+ghost use Rattle.payloads.specs.Limits.{packed_size};
 ghost use Rattle.payloads.specs.Blocks.{NoLimit, HasPlaces, StoredTotals};
 ghost use Rattle.payloads.specs.Results.{paste, Filled, HasRoom, HasResults, Covered, Wrote};
-ghost use Rattle.columns.specs.Buffer.{decodedAnswer};
-ghost use Rattle.decoding.specs.Steps.{namesPayload, charsPayload, is_written, HasPlain, WrotePart};
-ghost use Rattle.decoding.specs.Calls.{fixedAnswer, as_number, asByte, numberBuffer, byteBuffer};
+ghost use Rattle.columns.specs.Buffer.{decoded_answer};
+ghost use Rattle.decoding.specs.Steps.{names_payload, chars_payload, is_written, HasPlain, WrotePart};
+ghost use Rattle.decoding.specs.Calls.{fixed_answer, as_number, as_byte, number_buffer, byte_buffer};
 
 use columns::{HEADER_SIZE, Header, Kind, Wanted};
 use refusal::Answer;
@@ -23,32 +23,32 @@ pub enum Fixed {
 
 // The integers of an int32 column (codecs 4, 7, 8, 14, 15).
 pub fn decode_int32(column: &[u8], buffer: &mut [i32]) -> Answer
-    ensures answer { result ≡ decodedAnswer (decode (Wanted.Only Kind.Int32) column.now) (length buffer.old) }
-    ensures buffer { buffer.new ≡ numberBuffer (decode (Wanted.Only Kind.Int32) column.now) buffer.old }
+    ensures answer { result ≡ decoded_answer (decode (Wanted.Only Kind.Int32) column.now) (length buffer.old) }
+    ensures buffer { buffer.new ≡ number_buffer (decode (Wanted.Only Kind.Int32) column.now) buffer.old }
 {
     decode_integers(column, Wanted::Only(Kind::Int32), buffer)
 }
 
 // The integers of an int8 column (codecs 2, 16).
 pub fn decode_int8(column: &[u8], buffer: &mut [i32]) -> Answer
-    ensures answer { result ≡ decodedAnswer (decode (Wanted.Only Kind.Int8) column.now) (length buffer.old) }
-    ensures buffer { buffer.new ≡ numberBuffer (decode (Wanted.Only Kind.Int8) column.now) buffer.old }
+    ensures answer { result ≡ decoded_answer (decode (Wanted.Only Kind.Int8) column.now) (length buffer.old) }
+    ensures buffer { buffer.new ≡ number_buffer (decode (Wanted.Only Kind.Int8) column.now) buffer.old }
 {
     decode_integers(column, Wanted::Only(Kind::Int8), buffer)
 }
 
 // The integers of an int16 column (codec 3).
 pub fn decode_int16(column: &[u8], buffer: &mut [i32]) -> Answer
-    ensures answer { result ≡ decodedAnswer (decode (Wanted.Only Kind.Int16) column.now) (length buffer.old) }
-    ensures buffer { buffer.new ≡ numberBuffer (decode (Wanted.Only Kind.Int16) column.now) buffer.old }
+    ensures answer { result ≡ decoded_answer (decode (Wanted.Only Kind.Int16) column.now) (length buffer.old) }
+    ensures buffer { buffer.new ≡ number_buffer (decode (Wanted.Only Kind.Int16) column.now) buffer.old }
 {
     decode_integers(column, Wanted::Only(Kind::Int16), buffer)
 }
 
 // The integers and the divisor of a fixed point column (codecs 9 to 13).
 pub fn decode_fixed_point(column: &[u8], buffer: &mut [i32]) -> Fixed
-    ensures answer { result ≡ fixedAnswer (decode (Wanted.Only Kind.FixedPoint) column.now) (length buffer.old) }
-    ensures buffer { buffer.new ≡ numberBuffer (decode (Wanted.Only Kind.FixedPoint) column.now) buffer.old }
+    ensures answer { result ≡ fixed_answer (decode (Wanted.Only Kind.FixedPoint) column.now) (length buffer.old) }
+    ensures buffer { buffer.new ≡ number_buffer (decode (Wanted.Only Kind.FixedPoint) column.now) buffer.old }
 {
     match decode_integers(column, Wanted::Only(Kind::FixedPoint), buffer) {
         Answer::Count(n) => Fixed::Column(n, numbers::read_i32(column, 8)),
@@ -58,8 +58,8 @@ pub fn decode_fixed_point(column: &[u8], buffer: &mut [i32]) -> Fixed
 
 // The characters of a column, a byte each (codec 6).
 pub fn decode_chars(column: &[u8], buffer: &mut [u8]) -> Answer
-    ensures answer { result ≡ decodedAnswer (decode (Wanted.Only Kind.Chars) column.now) (length buffer.old) }
-    ensures buffer { buffer.new ≡ byteBuffer (decode (Wanted.Only Kind.Chars) column.now) buffer.old }
+    ensures answer { result ≡ decoded_answer (decode (Wanted.Only Kind.Chars) column.now) (length buffer.old) }
+    ensures buffer { buffer.new ≡ byte_buffer (decode (Wanted.Only Kind.Chars) column.now) buffer.old }
 {
     match columns::read_header(column, Wanted::Only(Kind::Chars)) {
         Header::Refused(r) => Answer::Refused(r),
@@ -69,8 +69,8 @@ pub fn decode_chars(column: &[u8], buffer: &mut [u8]) -> Answer
 
 // The bytes of a column of strings, each of the header's size (codec 5).
 pub fn decode_strings(column: &[u8], buffer: &mut [u8]) -> Answer
-    ensures answer { result ≡ decodedAnswer (decode (Wanted.Only Kind.Strings) column.now) (length buffer.old) }
-    ensures buffer { buffer.new ≡ byteBuffer (decode (Wanted.Only Kind.Strings) column.now) buffer.old }
+    ensures answer { result ≡ decoded_answer (decode (Wanted.Only Kind.Strings) column.now) (length buffer.old) }
+    ensures buffer { buffer.new ≡ byte_buffer (decode (Wanted.Only Kind.Strings) column.now) buffer.old }
 {
     match columns::read_header(column, Wanted::Only(Kind::Strings)) {
         Header::Refused(r) => Answer::Refused(r),
@@ -84,8 +84,8 @@ pub fn decode_strings(column: &[u8], buffer: &mut [u8]) -> Answer
 // stands is copied through memory first.
 fn decode_integers(column: &[u8], wanted: Wanted, buffer: &mut [i32]) -> Answer
     requires { suits wanted Kind.Strings ≡ false }
-    ensures answer { result ≡ decodedAnswer (decode wanted column.now) (length buffer.old) }
-    ensures buffer { buffer.new ≡ numberBuffer (decode wanted column.now) buffer.old }
+    ensures answer { result ≡ decoded_answer (decode wanted column.now) (length buffer.old) }
+    ensures buffer { buffer.new ≡ number_buffer (decode wanted column.now) buffer.old }
 {
     match columns::read_header(&column[0..], wanted) {
         Header::Refused(r) => Answer::Refused(r),
@@ -112,8 +112,8 @@ fn integers_in(
     buffer: &mut [i32],
 ) -> Answer
     requires { is_written form delta ≡ true }
-    ensures answer { result ≡ decodedAnswer (judgedPayload (Header.Good n m kind form delta) payload.now) (length buffer.old) }
-    ensures buffer { buffer.new ≡ numberBuffer (judgedPayload (Header.Good n m kind form delta) payload.now) buffer.old }
+    ensures answer { result ≡ decoded_answer (judged_payload (Header.Good n m kind form delta) payload.now) (length buffer.old) }
+    ensures buffer { buffer.new ≡ number_buffer (judged_payload (Header.Good n m kind form delta) payload.now) buffer.old }
 {
     let refused = payloads::refusal_of(payload, form, m as usize, n);
     if refused != refusal::ACCEPTED {
@@ -198,8 +198,8 @@ const PACKED_BLOCK: usize = 16;
 // Writes the results of packed numbers of one or two bytes, in blocks and the rest, by one total: of the result that has
 // begun, and with delta of those before it too.
 fn write_packed(payload: &[u8], two: bool, delta: bool, buffer: &mut [i32])
-    requires { HasRoom (Form.Packed (packedSize two)) payload.now (length buffer.old) }
-    ensures { Wrote as_number (Form.Packed (packedSize two)) delta payload.now buffer.old buffer.new }
+    requires { HasRoom (Form.Packed (packed_size two)) payload.now (length buffer.old) }
+    ensures { Wrote as_number (Form.Packed (packed_size two)) delta payload.now buffer.old buffer.new }
 {
     let k = PACKED_BLOCK * steps::bytes(payloads::packed_size(two));
     let mut i: usize = 0;
@@ -226,8 +226,8 @@ fn put_block(
     from: usize,
     buffer: &mut [i32],
 ) -> i32
-    requires { NoLimit (packedSize two) block.now quick × HasPlaces (packedSize two) block.now from (length buffer.old) }
-    ensures { StoredTotals (packedSize two) delta block.now begun from buffer.old buffer.new result }
+    requires { NoLimit (packed_size two) block.now quick × HasPlaces (packed_size two) block.now from (length buffer.old) }
+    ensures { StoredTotals (packed_size two) delta block.now begun from buffer.old buffer.new result }
 {
     if !quick {
         return write_block(block, two, delta, false, begun, from, buffer);
@@ -249,8 +249,8 @@ fn write_block(
     from: usize,
     buffer: &mut [i32],
 ) -> i32
-    requires { NoLimit (packedSize two) block.now quick × HasPlaces (packedSize two) block.now from (length buffer.old) }
-    ensures { StoredTotals (packedSize two) delta block.now begun from buffer.old buffer.new result }
+    requires { NoLimit (packed_size two) block.now quick × HasPlaces (packed_size two) block.now from (length buffer.old) }
+    ensures { StoredTotals (packed_size two) delta block.now begun from buffer.old buffer.new result }
 {
     let size = payloads::packed_size(two);
     let k = steps::bytes(size);
@@ -350,8 +350,8 @@ fn fill_integers(
 
 // The characters of a payload whose header passed.
 fn chars_in(payload: &[u8], n: usize, m: u32, buffer: &mut [u8]) -> Answer
-    ensures answer { result ≡ decodedAnswer (charsPayload n m payload.now) (length buffer.old) }
-    ensures buffer { buffer.new ≡ byteBuffer (charsPayload n m payload.now) buffer.old }
+    ensures answer { result ≡ decoded_answer (chars_payload n m payload.now) (length buffer.old) }
+    ensures buffer { buffer.new ≡ byte_buffer (chars_payload n m payload.now) buffer.old }
 {
     let refused = payloads::refusal_of(payload, Form::Runs(Range::Ascii), m as usize, n);
     if refused != refusal::ACCEPTED {
@@ -367,7 +367,7 @@ fn chars_in(payload: &[u8], n: usize, m: u32, buffer: &mut [u8]) -> Answer
 // Writes the characters of n results in runs.
 fn write_chars(payload: &[u8], n: usize, buffer: &mut [u8])
     requires { HasResults (Form.Runs Range.Ascii) payload.now n × (n ≤ length buffer.old) }
-    ensures { Wrote asByte (Form.Runs Range.Ascii) false payload.now buffer.old buffer.new }
+    ensures { Wrote as_byte (Form.Runs Range.Ascii) false payload.now buffer.old buffer.new }
 {
     let mut at: usize = 0;
     let mut o: usize = 0;
@@ -411,8 +411,8 @@ fn fill_bytes(buffer: &mut [u8], from: usize, count: usize, byte: u8)
 
 // The bytes of a payload of strings whose header passed.
 fn strings_in(payload: &[u8], n: usize, size: u32, kind: Kind, buffer: &mut [u8]) -> Answer
-    ensures answer { result ≡ decodedAnswer (namesPayload n size kind payload.now) (length buffer.old) }
-    ensures buffer { buffer.new ≡ byteBuffer (namesPayload n size kind payload.now) buffer.old }
+    ensures answer { result ≡ decoded_answer (names_payload n size kind payload.now) (length buffer.old) }
+    ensures buffer { buffer.new ≡ byte_buffer (names_payload n size kind payload.now) buffer.old }
 {
     let refused = payloads::refusal_of(payload, Form::Names, size as usize, n);
     if refused != refusal::ACCEPTED {

@@ -7,11 +7,11 @@ use Rattle.refusal.specs.Answer.{answered, leaves}
 use Rattle.columns.specs.Encode.{Encoding, refused, bytes}
 
 -- the answer for a buffer with room for so many bytes: how many were written, or the refusal
-abbrev pub encodedAnswer : Encoding → ℕ → Answer
-encodedAnswer (refused r) room = Refused r
-encodedAnswer (bytes b) room = answered (length b) room
+abbrev pub encoded_answer : Encoding → ℕ → Answer
+encoded_answer (refused r) room = Refused r
+encoded_answer (bytes b) room = answered (length b) room
 
 -- the buffer afterwards
-abbrev pub encodedBuffer : Encoding → List ℕ → List ℕ
-encodedBuffer (refused r) old = old
-encodedBuffer (bytes b) old = leaves b old
+abbrev pub encoded_buffer : Encoding → List ℕ → List ℕ
+encoded_buffer (refused r) old = old
+encoded_buffer (bytes b) old = leaves b old

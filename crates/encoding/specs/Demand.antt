@@ -9,21 +9,21 @@ use Rattle.std.proofs.Common.{to_z}
 use Rattle.refusal.specs.declared.Answer.{Answer}
 use Rattle.refusal.specs.declared.Answer.TheVariants.{Count}
 use Rattle.refusal.specs.Answer.{answered}
-use Rattle.numbers.specs.BigEndian.{Bytes, unsignedAt}
+use Rattle.numbers.specs.BigEndian.{Bytes, unsigned_at}
 use Rattle.steps.specs.Fits.{AllFit}
 use Rattle.columns.specs.declared.Kind.{Kind}
 use Rattle.columns.specs.declared.Kind.TheVariants as kind
 use Rattle.columns.specs.declared.Wanted.TheVariants.{Only, Real}
 use Rattle.columns.specs.Decode.{column, decode}
-use Rattle.columns.specs.Buffer.{decodedAnswer, decodedBuffer}
+use Rattle.columns.specs.Buffer.{decoded_answer, decoded_buffer}
 use Rattle.columns.specs.Encode.{encode}
-use Rattle.columns.specs.CanHold.{isOneOf, codecsOf, CanHold}
+use Rattle.columns.specs.CanHold.{is_one_of, codecs_of, CanHold}
 use Rattle.columns.specs.WriterForm.{WriterForm}
 use Rattle.decoding.specs.declared.Fixed.{Fixed}
 use Rattle.decoding.specs.declared.Fixed.TheVariants.{Column}
 use Rattle.decoding.specs.Calls as decoding
 use Rattle.floats.specs.Calls as floats
-use Rattle.encoding.specs.Calls.{encodedAnswer, encodedBuffer}
+use Rattle.encoding.specs.Calls.{encoded_answer, encoded_buffer}
 
 -- The calls of a kind
 
@@ -48,24 +48,24 @@ Typed kind.Strings ys = Bytes ys
 Typed kind.Chars ys = Bytes ys
 
 -- the cells of a column that its elements are
-abbrev pub cellsFrom : (k : Kind) → List (Element k) → List ℤ
-cellsFrom kind.Float32 ys = map (to_z w32) ys
-cellsFrom kind.FixedPoint ys = ys
-cellsFrom kind.Int8 ys = ys
-cellsFrom kind.Int16 ys = ys
-cellsFrom kind.Int32 ys = ys
-cellsFrom kind.Strings ys = map pos ys
-cellsFrom kind.Chars ys = map pos ys
+abbrev pub cells_from : (k : Kind) → List (Element k) → List ℤ
+cells_from kind.Float32 ys = map (to_z w32) ys
+cells_from kind.FixedPoint ys = ys
+cells_from kind.Int8 ys = ys
+cells_from kind.Int16 ys = ys
+cells_from kind.Int32 ys = ys
+cells_from kind.Strings ys = map pos ys
+cells_from kind.Chars ys = map pos ys
 
 -- the element of a lent buffer that a cell becomes
-abbrev pub elementOf : (k : Kind) → ℤ → Element k
-elementOf kind.Float32 x = floats.kept x
-elementOf kind.FixedPoint x = x
-elementOf kind.Int8 x = x
-elementOf kind.Int16 x = x
-elementOf kind.Int32 x = x
-elementOf kind.Strings x = decoding.asByte x
-elementOf kind.Chars x = decoding.asByte x
+abbrev pub element_of : (k : Kind) → ℤ → Element k
+element_of kind.Float32 x = floats.kept x
+element_of kind.FixedPoint x = x
+element_of kind.Int8 x = x
+element_of kind.Int16 x = x
+element_of kind.Int32 x = x
+element_of kind.Strings x = decoding.as_byte x
+element_of kind.Chars x = decoding.as_byte x
 
 -- the parameter that an encoder takes, a divisor or the size of names; the others take none
 abbrev pub taken : Kind → ℕ → ℕ
@@ -79,11 +79,11 @@ taken kind.Chars m = 0
 
 -- what an encoder answers for the codec c, the parameter m and the elements ys, and what it leaves in the buffer; c and m are the 32 bits
 -- of the numbers that the call takes
-abbrev pub encoderSays : (k : Kind) → ℕ → ℕ → List (Element k) → ℕ → Answer
-encoderSays k c m ys room = encodedAnswer (encode (Only k) c (taken k m) (cellsFrom k ys)) room
+abbrev pub encoder_says : (k : Kind) → ℕ → ℕ → List (Element k) → ℕ → Answer
+encoder_says k c m ys room = encoded_answer (encode (Only k) c (taken k m) (cells_from k ys)) room
 
-abbrev pub encoderLeaves : (k : Kind) → ℕ → ℕ → List (Element k) → List ℕ → List ℕ
-encoderLeaves k c m ys buffer = encodedBuffer (encode (Only k) c (taken k m) (cellsFrom k ys)) buffer
+abbrev pub encoder_leaves : (k : Kind) → ℕ → ℕ → List (Element k) → List ℕ → List ℕ
+encoder_leaves k c m ys buffer = encoded_buffer (encode (Only k) c (taken k m) (cells_from k ys)) buffer
 
 -- what a decoder answers that wrote n elements, with the divisor d, which is 0 where there is none; d is told as the signed number of its 32
 -- bits, which is d itself up to 2,147,483,647
@@ -101,62 +101,62 @@ divisor_of kind.Strings m = 0
 divisor_of kind.Chars m = 0
 
 -- what a decoder answers for the bytes s and a buffer of so many elements, and what it leaves in the buffer
-abbrev pub decoderSays : Kind → List ℕ → ℕ → Fixed
-decoderSays kind.Float32 s room = decoding.withDivisor 0 (decodedAnswer (floats.exactly (decode Real s)) room)
-decoderSays kind.FixedPoint s room = decoding.fixedAnswer (decode (Only kind.FixedPoint) s) room
-decoderSays kind.Int8 s room = decoding.withDivisor 0 (decodedAnswer (decode (Only kind.Int8) s) room)
-decoderSays kind.Int16 s room = decoding.withDivisor 0 (decodedAnswer (decode (Only kind.Int16) s) room)
-decoderSays kind.Int32 s room = decoding.withDivisor 0 (decodedAnswer (decode (Only kind.Int32) s) room)
-decoderSays kind.Strings s room = decoding.withDivisor 0 (decodedAnswer (decode (Only kind.Strings) s) room)
-decoderSays kind.Chars s room = decoding.withDivisor 0 (decodedAnswer (decode (Only kind.Chars) s) room)
+abbrev pub decoder_says : Kind → List ℕ → ℕ → Fixed
+decoder_says kind.Float32 s room = decoding.with_divisor 0 (decoded_answer (floats.exactly (decode Real s)) room)
+decoder_says kind.FixedPoint s room = decoding.fixed_answer (decode (Only kind.FixedPoint) s) room
+decoder_says kind.Int8 s room = decoding.with_divisor 0 (decoded_answer (decode (Only kind.Int8) s) room)
+decoder_says kind.Int16 s room = decoding.with_divisor 0 (decoded_answer (decode (Only kind.Int16) s) room)
+decoder_says kind.Int32 s room = decoding.with_divisor 0 (decoded_answer (decode (Only kind.Int32) s) room)
+decoder_says kind.Strings s room = decoding.with_divisor 0 (decoded_answer (decode (Only kind.Strings) s) room)
+decoder_says kind.Chars s room = decoding.with_divisor 0 (decoded_answer (decode (Only kind.Chars) s) room)
 
-abbrev pub decoderLeaves : (k : Kind) → List ℕ → List (Element k) → List (Element k)
-decoderLeaves kind.Float32 s buffer = decodedBuffer floats.floatBits (floats.exactly (decode Real s)) buffer
-decoderLeaves kind.FixedPoint s buffer = decoding.numberBuffer (decode (Only kind.FixedPoint) s) buffer
-decoderLeaves kind.Int8 s buffer = decoding.numberBuffer (decode (Only kind.Int8) s) buffer
-decoderLeaves kind.Int16 s buffer = decoding.numberBuffer (decode (Only kind.Int16) s) buffer
-decoderLeaves kind.Int32 s buffer = decoding.numberBuffer (decode (Only kind.Int32) s) buffer
-decoderLeaves kind.Strings s buffer = decoding.byteBuffer (decode (Only kind.Strings) s) buffer
-decoderLeaves kind.Chars s buffer = decoding.byteBuffer (decode (Only kind.Chars) s) buffer
+abbrev pub decoder_leaves : (k : Kind) → List ℕ → List (Element k) → List (Element k)
+decoder_leaves kind.Float32 s buffer = decoded_buffer floats.float_bits (floats.exactly (decode Real s)) buffer
+decoder_leaves kind.FixedPoint s buffer = decoding.number_buffer (decode (Only kind.FixedPoint) s) buffer
+decoder_leaves kind.Int8 s buffer = decoding.number_buffer (decode (Only kind.Int8) s) buffer
+decoder_leaves kind.Int16 s buffer = decoding.number_buffer (decode (Only kind.Int16) s) buffer
+decoder_leaves kind.Int32 s buffer = decoding.number_buffer (decode (Only kind.Int32) s) buffer
+decoder_leaves kind.Strings s buffer = decoding.byte_buffer (decode (Only kind.Strings) s) buffer
+decoder_leaves kind.Chars s buffer = decoding.byte_buffer (decode (Only kind.Chars) s) buffer
 
 -- The demand
 
 -- the bytes of a column of the kind k, by its codec's number, and the codec and the parameter in their header
 abbrev pub OfKind : Kind → List ℕ → Type 0
-OfKind k s = isOneOf (unsignedAt 4 s 0) (codecsOf k) ≡ true
+OfKind k s = is_one_of (unsigned_at 4 s 0) (codecs_of k) ≡ true
 
-abbrev pub codecIn : List ℕ → ℕ
-codecIn s = unsignedAt 4 s 0
+abbrev pub codec_in : List ℕ → ℕ
+codec_in s = unsigned_at 4 s 0
 
-abbrev pub parameterIn : List ℕ → ℕ
-parameterIn s = unsignedAt 4 s 8
+abbrev pub parameter_in : List ℕ → ℕ
+parameter_in s = unsigned_at 4 s 8
 
 -- the bytes s are a column of the codec c with the parameter m, and decode into the buffer to the elements ys, with the rest of the buffer as
 -- it was
 pub record Back (k : Kind) (c m : ℕ) (ys : List (Element k)) (s : List ℕ) (buffer : List (Element k)) : Type 0 where
-  pub codec : codecIn s ≡ c
-  pub parameter : taken k (parameterIn s) ≡ taken k m
-  pub answer : decoderSays k s (length buffer) ≡ wrote (length ys) (divisor_of k m)
-  pub buffer-after : decoderLeaves k s buffer ≡ ys ++ drop (length ys) buffer
+  pub codec : codec_in s ≡ c
+  pub parameter : taken k (parameter_in s) ≡ taken k m
+  pub answer : decoder_says k s (length buffer) ≡ wrote (length ys) (divisor_of k m)
+  pub buffer-after : decoder_leaves k s buffer ≡ ys ++ drop (length ys) buffer
 
 pub record Demand2 : Type 0 where
   -- a column that its codec defines is handed over, in any buffer with room, and the rest of the buffer is left
   pub decodes : (k : Kind) (s : List ℕ) (m : ℕ) (xs : List ℤ) (buffer : List (Element k)) → decode (Only k) s ≡ column k m xs → length xs ≤ length buffer
-      → (decoderSays k s (length buffer) ≡ wrote (length xs) (divisor_of k m)) × (decoderLeaves k s buffer ≡ map (elementOf k) xs ++ drop (length xs) buffer)
+      → (decoder_says k s (length buffer) ≡ wrote (length xs) (divisor_of k m)) × (decoder_leaves k s buffer ≡ map (element_of k) xs ++ drop (length xs) buffer)
   -- a column that the codec can hold is written in every buffer with room for its bytes, and is refused for room alone in a smaller one
-  pub encodes : (k : Kind) (c m : ℕ) (ys : List (Element k)) → CanHold k c (taken k m) (cellsFrom k ys)
-      → (n : ℕ) × ((room : ℕ) → encoderSays k c m ys room ≡ answered n room)
+  pub encodes : (k : Kind) (c m : ℕ) (ys : List (Element k)) → CanHold k c (taken k m) (cells_from k ys)
+      → (n : ℕ) × ((room : ℕ) → encoder_says k c m ys room ≡ answered n room)
   -- whatever an encoder writes, the codec can hold
-  pub encodes-held : (k : Kind) (c m : ℕ) (ys : List (Element k)) (room n : ℕ) → encoderSays k c m ys room ≡ Count n → CanHold k c (taken k m) (cellsFrom k ys)
+  pub encodes-held : (k : Kind) (c m : ℕ) (ys : List (Element k)) (room n : ℕ) → encoder_says k c m ys room ≡ Count n → CanHold k c (taken k m) (cells_from k ys)
   -- an encoder that answers n wrote n bytes of the codec and the parameter that were asked for, and these decode, in any buffer with room,
   -- to the column that was lent
-  pub decodes-back : (k : Kind) (c m : ℕ) (ys : List (Element k)) (old : List ℕ) (n : ℕ) → Typed k ys → encoderSays k c m ys (length old) ≡ Count n
-      → (buffer : List (Element k)) → length ys ≤ length buffer → Back k c m ys (take n (encoderLeaves k c m ys old)) buffer
+  pub decodes-back : (k : Kind) (c m : ℕ) (ys : List (Element k)) (old : List ℕ) (n : ℕ) → Typed k ys → encoder_says k c m ys (length old) ≡ Count n
+      → (buffer : List (Element k)) → length ys ≤ length buffer → Back k c m ys (take n (encoder_leaves k c m ys old)) buffer
   -- whatever a decoder hands over, the codec of its bytes can hold
-  pub holds-decoded : (k : Kind) (s : List ℕ) (buffer : List (Element k)) (n d : ℕ) → OfKind k s → decoderSays k s (length buffer) ≡ wrote n d
-      → CanHold k (codecIn s) (taken k (parameterIn s)) (cellsFrom k (take n (decoderLeaves k s buffer)))
+  pub holds-decoded : (k : Kind) (s : List ℕ) (buffer : List (Element k)) (n d : ℕ) → OfKind k s → decoder_says k s (length buffer) ≡ wrote n d
+      → CanHold k (codec_in s) (taken k (parameter_in s)) (cells_from k (take n (decoder_leaves k s buffer)))
   -- bytes in the writer's form, decoded and encoded again with the codec and the parameter of their header, are those bytes
-  pub encodes-back : (k : Kind) (s : List ℕ) (buffer : List (Element k)) (n d : ℕ) → Bytes s → OfKind k s → WriterForm s → decoderSays k s (length buffer) ≡ wrote n d
+  pub encodes-back : (k : Kind) (s : List ℕ) (buffer : List (Element k)) (n d : ℕ) → Bytes s → OfKind k s → WriterForm s → decoder_says k s (length buffer) ≡ wrote n d
       → (old : List ℕ) → length s ≤ length old
-      → (encoderSays k (codecIn s) (parameterIn s) (take n (decoderLeaves k s buffer)) (length old) ≡ Count (length s))
-      × (encoderLeaves k (codecIn s) (parameterIn s) (take n (decoderLeaves k s buffer)) old ≡ s ++ drop (length s) old)
+      → (encoder_says k (codec_in s) (parameter_in s) (take n (decoder_leaves k s buffer)) (length old) ≡ Count (length s))
+      × (encoder_leaves k (codec_in s) (parameter_in s) (take n (decoder_leaves k s buffer)) old ≡ s ++ drop (length s) old)

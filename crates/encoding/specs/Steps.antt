@@ -3,12 +3,12 @@
 use Rattle.std.specs.Prelude.{◌≡◌, Bool, false, List, ℕ, ◌+◌, ◌≤◌, length}
 use Rattle.refusal.specs.declared.Answer.{Answer}
 use Rattle.refusal.specs.declared.Answer.TheVariants.{Count, Refused}
-use Rattle.refusal.specs.Table.{numberNotAllowed, bufferTooSmall}
+use Rattle.refusal.specs.Table.{number_not_allowed, buffer_too_small}
 use Rattle.steps.specs.declared.Form.{Form}
 use Rattle.steps.specs.declared.Form.TheVariants.{Plain, Packed, Runs, Names}
 use Rattle.columns.specs.declared.Kind.{Kind}
 use Rattle.columns.specs.declared.Kind.TheVariants as kind
-use Rattle.columns.specs.Header.{headerSize}
+use Rattle.columns.specs.Header.{header_size}
 use Rattle.writers.specs.declared.Placed.{Placed}
 use Rattle.writers.specs.declared.Placed.TheVariants.{Bytes, NotAllowed, NoRoom}
 use Rattle.writers.specs.Placed.{over}
@@ -31,9 +31,9 @@ NumberForm Names d = ⊥
 
 -- what is said once a payload is placed
 abbrev pub finished : Placed → Answer
-finished (Bytes n) = Count (headerSize + n)
-finished NotAllowed = Refused numberNotAllowed
-finished NoRoom = Refused bufferTooSmall
+finished (Bytes n) = Count (header_size + n)
+finished NotAllowed = Refused number_not_allowed
+finished NoRoom = Refused buffer_too_small
 
 -- the header h put before a payload that is placed in s
 abbrev pub headed : List ℕ → List ℕ → Placed → List ℕ
@@ -43,6 +43,6 @@ headed h s NoRoom = s
 
 -- a payload that is placed stands in s after the header's place
 abbrev pub HoldsPlaced : List ℕ → Placed → Type 0
-HoldsPlaced s (Bytes n) = headerSize + n ≤ length s
+HoldsPlaced s (Bytes n) = header_size + n ≤ length s
 HoldsPlaced s NotAllowed = Unit {0}
 HoldsPlaced s NoRoom = Unit {0}

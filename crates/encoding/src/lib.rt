@@ -4,11 +4,11 @@ ghost use Rattle.std.specs.Prelude.{◌≡◌, true, ◌≤◌, length};
 ghost use Rattle.std.specs.Int.{w32};
 ghost use Rattle.std.proofs.Common.{of_z};
 ghost use Rattle.columns.specs.declared.Wanted.TheVariants.{Only};
-ghost use Rattle.columns.specs.Header.{headerBytes, headerSize};
-ghost use Rattle.columns.specs.Encode.{results, wholeResults, plan_of, encode};
-ghost use Rattle.writers.specs.Placed.{over, placedCells, laidCells};
-ghost use Rattle.encoding.specs.Calls.{encodedAnswer, encodedBuffer};
-ghost use Rattle.encoding.specs.Demand.{encoderSays, encoderLeaves};
+ghost use Rattle.columns.specs.Header.{header_bytes, header_size};
+ghost use Rattle.columns.specs.Encode.{results, whole_results, plan_of, encode};
+ghost use Rattle.writers.specs.Placed.{over, placed_cells, laid_cells};
+ghost use Rattle.encoding.specs.Calls.{encoded_answer, encoded_buffer};
+ghost use Rattle.encoding.specs.Demand.{encoder_says, encoder_leaves};
 ghost use Rattle.encoding.specs.Steps.{NumberKind, NumberForm, finished, headed, HoldsPlaced};
 
 use columns::{Codec, Kind, Plan, Wanted};
@@ -21,32 +21,32 @@ const OUT_OF_RANGE: Plan = Plan::Refused(refusal::HEADER_RANGE);
 
 // A column of 32-bit numbers.
 pub fn encode_int32(codec: i32, values: &[i32], buffer: &mut [u8]) -> Answer
-    ensures answer { result ≡ encoderSays Kind.Int32 (of_z w32 codec) 0 values.now (length buffer.old) }
-    ensures buffer { buffer.new ≡ encoderLeaves Kind.Int32 (of_z w32 codec) 0 values.now buffer.old }
+    ensures answer { result ≡ encoder_says Kind.Int32 (of_z w32 codec) 0 values.now (length buffer.old) }
+    ensures buffer { buffer.new ≡ encoder_leaves Kind.Int32 (of_z w32 codec) 0 values.now buffer.old }
 {
     encode_numbers(Kind::Int32, codec, 0, values, buffer)
 }
 
 // A column of 16-bit numbers.
 pub fn encode_int16(codec: i32, values: &[i32], buffer: &mut [u8]) -> Answer
-    ensures answer { result ≡ encoderSays Kind.Int16 (of_z w32 codec) 0 values.now (length buffer.old) }
-    ensures buffer { buffer.new ≡ encoderLeaves Kind.Int16 (of_z w32 codec) 0 values.now buffer.old }
+    ensures answer { result ≡ encoder_says Kind.Int16 (of_z w32 codec) 0 values.now (length buffer.old) }
+    ensures buffer { buffer.new ≡ encoder_leaves Kind.Int16 (of_z w32 codec) 0 values.now buffer.old }
 {
     encode_numbers(Kind::Int16, codec, 0, values, buffer)
 }
 
 // A column of 8-bit numbers.
 pub fn encode_int8(codec: i32, values: &[i32], buffer: &mut [u8]) -> Answer
-    ensures answer { result ≡ encoderSays Kind.Int8 (of_z w32 codec) 0 values.now (length buffer.old) }
-    ensures buffer { buffer.new ≡ encoderLeaves Kind.Int8 (of_z w32 codec) 0 values.now buffer.old }
+    ensures answer { result ≡ encoder_says Kind.Int8 (of_z w32 codec) 0 values.now (length buffer.old) }
+    ensures buffer { buffer.new ≡ encoder_leaves Kind.Int8 (of_z w32 codec) 0 values.now buffer.old }
 {
     encode_numbers(Kind::Int8, codec, 0, values, buffer)
 }
 
 // A column of integers and their divisor.
 pub fn encode_fixed_point(codec: i32, divisor: i32, values: &[i32], buffer: &mut [u8]) -> Answer
-    ensures answer { result ≡ encoderSays Kind.FixedPoint (of_z w32 codec) (of_z w32 divisor) values.now (length buffer.old) }
-    ensures buffer { buffer.new ≡ encoderLeaves Kind.FixedPoint (of_z w32 codec) (of_z w32 divisor) values.now buffer.old }
+    ensures answer { result ≡ encoder_says Kind.FixedPoint (of_z w32 codec) (of_z w32 divisor) values.now (length buffer.old) }
+    ensures buffer { buffer.new ≡ encoder_leaves Kind.FixedPoint (of_z w32 codec) (of_z w32 divisor) values.now buffer.old }
 {
     encode_numbers(
         Kind::FixedPoint,
@@ -59,8 +59,8 @@ pub fn encode_fixed_point(codec: i32, divisor: i32, values: &[i32], buffer: &mut
 
 // A column of characters.
 pub fn encode_chars(codec: i32, values: &[u8], buffer: &mut [u8]) -> Answer
-    ensures answer { result ≡ encoderSays Kind.Chars (of_z w32 codec) 0 values.now (length buffer.old) }
-    ensures buffer { buffer.new ≡ encoderLeaves Kind.Chars (of_z w32 codec) 0 values.now buffer.old }
+    ensures answer { result ≡ encoder_says Kind.Chars (of_z w32 codec) 0 values.now (length buffer.old) }
+    ensures buffer { buffer.new ≡ encoder_leaves Kind.Chars (of_z w32 codec) 0 values.now buffer.old }
 {
     let number = numbers::to_u32(codec);
     match make_plan(number, 0, values.len(), Wanted::Only(Kind::Chars)) {
@@ -74,8 +74,8 @@ pub fn encode_chars(codec: i32, values: &[u8], buffer: &mut [u8]) -> Answer
 
 // A column of strings of `size` bytes each, one after the other.
 pub fn encode_strings(codec: i32, size: i32, names: &[u8], buffer: &mut [u8]) -> Answer
-    ensures answer { result ≡ encoderSays Kind.Strings (of_z w32 codec) (of_z w32 size) names.now (length buffer.old) }
-    ensures buffer { buffer.new ≡ encoderLeaves Kind.Strings (of_z w32 codec) (of_z w32 size) names.now buffer.old }
+    ensures answer { result ≡ encoder_says Kind.Strings (of_z w32 codec) (of_z w32 size) names.now (length buffer.old) }
+    ensures buffer { buffer.new ≡ encoder_leaves Kind.Strings (of_z w32 codec) (of_z w32 size) names.now buffer.old }
 {
     let number = numbers::to_u32(codec);
     let bytes = numbers::to_u32(size);
@@ -95,8 +95,8 @@ pub fn encode_strings(codec: i32, size: i32, names: &[u8], buffer: &mut [u8]) ->
 
 // A column of floats, by their bits.
 pub fn encode_float32(codec: i32, bits: &[u32], buffer: &mut [u8]) -> Answer
-    ensures answer { result ≡ encoderSays Kind.Float32 (of_z w32 codec) 0 bits.now (length buffer.old) }
-    ensures buffer { buffer.new ≡ encoderLeaves Kind.Float32 (of_z w32 codec) 0 bits.now buffer.old }
+    ensures answer { result ≡ encoder_says Kind.Float32 (of_z w32 codec) 0 bits.now (length buffer.old) }
+    ensures buffer { buffer.new ≡ encoder_leaves Kind.Float32 (of_z w32 codec) 0 bits.now buffer.old }
 {
     let number = numbers::to_u32(codec);
     match make_plan(number, 0, bits.len(), Wanted::Only(Kind::Float32)) {
@@ -117,8 +117,8 @@ fn encode_numbers(
     buffer: &mut [u8],
 ) -> Answer
     requires { NumberKind kind }
-    ensures answer { result ≡ encodedAnswer (encode (Only kind) (of_z w32 codec) parameter values.now) (length buffer.old) }
-    ensures buffer { buffer.new ≡ encodedBuffer (encode (Only kind) (of_z w32 codec) parameter values.now) buffer.old }
+    ensures answer { result ≡ encoded_answer (encode (Only kind) (of_z w32 codec) parameter values.now) (length buffer.old) }
+    ensures buffer { buffer.new ≡ encoded_buffer (encode (Only kind) (of_z w32 codec) parameter values.now) buffer.old }
 {
     let number = numbers::to_u32(codec);
     match make_plan(number, parameter, values.len(), Wanted::Only(kind)) {
@@ -133,8 +133,8 @@ fn encode_numbers(
 // The payload of numbers in a form, after the header's place.
 fn place(values: &[i32], form: Form, delta: bool, buffer: &mut [u8]) -> Placed
     requires { NumberForm form delta }
-    ensures answer { result ≡ placedCells form 0 delta values.now (length buffer.old) headerSize }
-    ensures buffer { buffer.new ≡ laidCells form 0 delta values.now buffer.old headerSize }
+    ensures answer { result ≡ placed_cells form 0 delta values.now (length buffer.old) header_size }
+    ensures buffer { buffer.new ≡ laid_cells form 0 delta values.now buffer.old header_size }
 {
     match form {
         Form::Plain(size) => writers::plain::place_numbers(
@@ -205,7 +205,7 @@ fn count_results(form: Form, parameter: usize, elements: usize) -> usize
 
 // Whether so many elements are whole results.
 fn whole_results(form: Form, parameter: usize, elements: usize) -> bool
-    ensures { result ≡ wholeResults form parameter elements }
+    ensures { result ≡ whole_results form parameter elements }
 {
     match form {
         Form::Plain(_) => true,
@@ -224,7 +224,7 @@ fn whole_results(form: Form, parameter: usize, elements: usize) -> bool
 fn finish(placed: Placed, codec: u32, count: u32, parameter: u32, buffer: &mut [u8]) -> Answer
     requires { HoldsPlaced buffer.old placed }
     ensures answer { result ≡ finished placed }
-    ensures buffer { buffer.new ≡ headed (headerBytes codec count parameter) buffer.old placed }
+    ensures buffer { buffer.new ≡ headed (header_bytes codec count parameter) buffer.old placed }
 {
     match placed {
         Placed::NotAllowed => Answer::Refused(refusal::NUMBER_NOT_ALLOWED),
@@ -238,8 +238,8 @@ fn finish(placed: Placed, codec: u32, count: u32, parameter: u32, buffer: &mut [
 
 // The bytes of the header.
 fn write_header(buffer: &mut [u8], codec: u32, count: u32, parameter: u32)
-    requires { headerSize ≤ length buffer.old }
-    ensures { buffer.new ≡ over buffer.old 0 (headerBytes codec count parameter) }
+    requires { header_size ≤ length buffer.old }
+    ensures { buffer.new ≡ over buffer.old 0 (header_bytes codec count parameter) }
 {
     numbers::write_u32(buffer, 0, codec);
     numbers::write_u32(buffer, 4, count);

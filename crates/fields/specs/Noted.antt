@@ -7,19 +7,19 @@ use Rattle.messagepack.specs.Document.{Document, Entries, string, entry}
 use Rattle.values.specs.Parts.{look}
 use Rattle.values.specs.Places.{At, PlaceSays}
 use Rattle.fields.specs.Tests.{fitting}
-use Rattle.fields.specs.Table.{named, fieldCount}
-use Rattle.fields.specs.Fields.{fieldNames, field_at, presenceOf}
+use Rattle.fields.specs.Table.{named, field_count}
+use Rattle.fields.specs.Fields.{field_names, field_at, presence_of}
 use Rattle.fields.specs.declared.Fields.{Fields}
 
 -- the places of the named fields among a file's entries
 pub record PlacesOf (s : List ℕ) (es : Entries) (places : List ℕ) : Type 0 where
-  pub long : length places ≡ fieldCount
-  pub says : (i : ℕ) → i < fieldCount → PlaceSays s (get_or places i 0) (field_at i es)
+  pub long : length places ≡ field_count
+  pub says : (i : ℕ) → i < field_count → PlaceSays s (get_or places i 0) (field_at i es)
 
 -- what is noted of a file's entries: the places of the named fields, the set of those present, and whether each of them has its type
 pub record Noted (s : List ℕ) (es : Entries) (r : Fields) : Type 0 where
   pub places : PlacesOf s es r.places
-  pub presence : r.presence ≡ presenceOf es
+  pub presence : r.presence ≡ presence_of es
   pub typed : r.typed ≡ fitting named es
 
 -- among the entries that stand from p on, the value under the key k stands from q up to e
@@ -34,4 +34,4 @@ pub data SpanFrom (s k : List ℕ) (p : ℕ) (es : Entries) (q e : ℕ) : ℕ �
 
 -- what is noted of the entries from p on: of each named field the value's place and its end, 0 and 0 where the field is absent
 pub record Spanned (s : List ℕ) (p : ℕ) (es : Entries) (r : Fields) : Type 0 where
-  pub spans : (i : ℕ) → i < fieldCount → SpanFrom s (get_or fieldNames i []) p es 0 0 (get_or r.places i 0) (get_or r.ends i 0)
+  pub spans : (i : ℕ) → i < field_count → SpanFrom s (get_or field_names i []) p es 0 0 (get_or r.places i 0) (get_or r.ends i 0)

@@ -3,21 +3,21 @@
 use Rattle.std.specs.Prelude.{Bool, true, cond, not, ◌&&◌, ◌||◌, List, [], ◌∷◌, ◌++◌, ℕ, zero, suc, ◌+◌, ◌*◌, ◌/◌, ◌%◌, ◌^◌, eqb, ltb, length, get_or, drop}
 use Rattle.std.specs.Int.Bits.{bit_or}
 use Rattle.text.specs.Equal.{equal}
-use Rattle.heads.specs.Table.{valuesFrom}
+use Rattle.heads.specs.Table.{values_from}
 use Rattle.messagepack.specs.Document.{Document}
-use Rattle.fields.specs.Types.{FieldType, Rows, plain, array_of, exactly, mapWith, last, row}
-use Rattle.fields.specs.Table.{groupRows, transformRows, assemblyRows, entityRows, named}
+use Rattle.fields.specs.Types.{FieldType, Rows, plain, array_of, exactly, map_with, last, row}
+use Rattle.fields.specs.Table.{group_rows, transform_rows, assembly_rows, entity_rows, named}
 use Rattle.fields.specs.Tests.{typed}
 use Rattle.fields.specs.Fields.{bit}
 
 -- how many types have a number
-abbrev pub codeCount : ℕ
-codeCount = 17
+abbrev pub code_count : ℕ
+code_count = 17
 
 -- three bytes for each: 0 a value of a kind, 1 an array of values of a kind, 2 an array of exactly so many, 3 an array of values of a type,
 -- 4 a map; then how many values or rows; then the kind, the type or the first row
-abbrev pub typeCells : List ℕ
-typeCells =
+abbrev pub type_cells : List ℕ
+type_cells =
     -- 0 an integer, 1 a float, 2 a string, 3 a binary
     0 ∷ 0 ∷ 1 ∷ 0 ∷ 0 ∷ 2 ∷ 0 ∷ 0 ∷ 3 ∷ 0 ∷ 0 ∷ 4
     -- 4 integers, 5 strings, 6 six floats, 7 sixteen floats, 8 arrays of sixteen floats
@@ -35,64 +35,64 @@ dotted (suc n) [] = 0x2e ∷ dotted n []
 dotted (suc n) (b ∷ k) = b ∷ dotted n k
 
 -- 22 bytes for each row: the length of its name, 1 if it is required, the number of its type, and its name
-unfoldable pub rowCells : Rows → List ℕ → List ℕ
-rowCells last codes = []
-rowCells (row k q t rows) codes = (length k ∷ bit q ∷ get_or codes 0 0 ∷ dotted 19 k) ++ rowCells rows (drop 1 codes)
+unfoldable pub row_cells : Rows → List ℕ → List ℕ
+row_cells last codes = []
+row_cells (row k q t rows) codes = (length k ∷ bit q ∷ get_or codes 0 0 ∷ dotted 19 k) ++ row_cells rows (drop 1 codes)
 
 -- the place of a name's hint, by the first row of its map
-unfoldable pub hintPlace : ℕ → List ℕ → ℕ
-hintPlace first k = (get_or k 0 0 * 24 + get_or k 3 0 * 10 + length k % 128 + first * 31) % 128
+unfoldable pub hint_place : ℕ → List ℕ → ℕ
+hint_place first k = (get_or k 0 0 * 24 + get_or k 3 0 * 10 + length k % 128 + first * 31) % 128
 
 -- the hint at a place: the row of a map's name that has its place there, counted from the first, or the rest's
-unfoldable pub rowHint : ℕ → Rows → ℕ → ℕ → ℕ → ℕ
-rowHint first last i place rest = rest
-rowHint first (row k q t rows) i place rest = cond (eqb (hintPlace first k) place) i (rowHint first rows (suc i) place rest)
+unfoldable pub row_hint : ℕ → Rows → ℕ → ℕ → ℕ → ℕ
+row_hint first last i place rest = rest
+row_hint first (row k q t rows) i place rest = cond (eqb (hint_place first k) place) i (row_hint first rows (suc i) place rest)
 
 -- the hints: for each place the row of the name that has its hint there, counted from the first of its map; 255 of none
-unfoldable pub hintCells : List ℕ
-hintCells = valuesFrom (λ place. rowHint 0 groupRows 0 place (rowHint 8 transformRows 0 place (rowHint 10 assemblyRows 0 place (rowHint 12 entityRows 0 place (rowHint 16 named 0 place 255))))) 0 128
+unfoldable pub hint_cells : List ℕ
+hint_cells = values_from (λ place. row_hint 0 group_rows 0 place (row_hint 8 transform_rows 0 place (row_hint 10 assembly_rows 0 place (row_hint 12 entity_rows 0 place (row_hint 16 named 0 place 255))))) 0 128
 
 -- the whole table: the types, the rows of the inner maps, the named fields from row 16 on, and the hints
-unfoldable pub typeTable : List ℕ
-typeTable =
-    typeCells
-    ++ (rowCells groupRows (2 ∷ 2 ∷ 2 ∷ 4 ∷ 5 ∷ 5 ∷ 4 ∷ 4 ∷ [])
-    ++ (rowCells transformRows (4 ∷ 7 ∷ [])
-    ++ (rowCells assemblyRows (2 ∷ 12 ∷ [])
-    ++ (rowCells entityRows (4 ∷ 2 ∷ 2 ∷ 2 ∷ [])
-    ++ (rowCells named (2 ∷ 2 ∷ 0 ∷ 0 ∷ 0 ∷ 0 ∷ 0 ∷ 10 ∷ 3 ∷ 3 ∷ 3 ∷ 3 ∷ 3 ∷ 3 ∷ 4 ∷ 4 ∷ 3 ∷ 3 ∷ 3 ∷ 3 ∷ 3 ∷ 3 ∷ 3 ∷ 3 ∷ 3 ∷ 3 ∷ 2 ∷ 2 ∷ 2 ∷ 2 ∷ 2 ∷ 1 ∷ 1 ∷ 1 ∷ 6 ∷ 5 ∷ 8 ∷ 14 ∷ 16 ∷ []) ++ hintCells)))))
+unfoldable pub type_table : List ℕ
+type_table =
+    type_cells
+    ++ (row_cells group_rows (2 ∷ 2 ∷ 2 ∷ 4 ∷ 5 ∷ 5 ∷ 4 ∷ 4 ∷ [])
+    ++ (row_cells transform_rows (4 ∷ 7 ∷ [])
+    ++ (row_cells assembly_rows (2 ∷ 12 ∷ [])
+    ++ (row_cells entity_rows (4 ∷ 2 ∷ 2 ∷ 2 ∷ [])
+    ++ (row_cells named (2 ∷ 2 ∷ 0 ∷ 0 ∷ 0 ∷ 0 ∷ 0 ∷ 10 ∷ 3 ∷ 3 ∷ 3 ∷ 3 ∷ 3 ∷ 3 ∷ 4 ∷ 4 ∷ 3 ∷ 3 ∷ 3 ∷ 3 ∷ 3 ∷ 3 ∷ 3 ∷ 3 ∷ 3 ∷ 3 ∷ 2 ∷ 2 ∷ 2 ∷ 2 ∷ 2 ∷ 1 ∷ 1 ∷ 1 ∷ 6 ∷ 5 ∷ 8 ∷ 14 ∷ 16 ∷ []) ++ hint_cells)))))
 
 -- the row of the first named field
-abbrev pub firstField : ℕ
-firstField = 16
+abbrev pub first_field : ℕ
+first_field = 16
 
 -- a byte of the table, 0 past its end
-unfoldable pub tableByte : ℕ → ℕ
-tableByte i = get_or typeTable i 0
+unfoldable pub table_byte : ℕ → ℕ
+table_byte i = get_or type_table i 0
 
 -- the three numbers of a type
 abbrev pub tag_of : ℕ → ℕ
-tag_of c = tableByte (c * 3)
+tag_of c = table_byte (c * 3)
 
-abbrev pub manyOf : ℕ → ℕ
-manyOf c = tableByte (c * 3 + 1) % 64
+abbrev pub many_of : ℕ → ℕ
+many_of c = table_byte (c * 3 + 1) % 64
 
-abbrev pub insideOf : ℕ → ℕ
-insideOf c = tableByte (c * 3 + 2)
+abbrev pub inside_of : ℕ → ℕ
+inside_of c = table_byte (c * 3 + 2)
 
 -- where a row starts
 abbrev pub row_at : ℕ → ℕ
-row_at r = r * 22 + codeCount * 3
+row_at r = r * 22 + code_count * 3
 
 -- a row's name, whether it is required, and the number of its type
 unfoldable pub name_of : ℕ → List ℕ
-name_of r = valuesFrom (λ j. tableByte (row_at r + 3 + j)) 0 (tableByte (row_at r))
+name_of r = values_from (λ j. table_byte (row_at r + 3 + j)) 0 (table_byte (row_at r))
 
 abbrev pub need_of : ℕ → Bool
-need_of r = eqb (tableByte (row_at r + 1)) 1
+need_of r = eqb (table_byte (row_at r + 1)) 1
 
 abbrev pub code_of : ℕ → ℕ
-code_of r = tableByte (row_at r + 2)
+code_of r = table_byte (row_at r + 2)
 
 -- n rows from r on, with types by f
 unfoldable pub rows_from : (ℕ → FieldType) → ℕ → ℕ → Rows
@@ -104,13 +104,13 @@ abbrev pub all_rows : ℕ
 all_rows = 55
 
 -- the hint of a name, by the first row of its map
-unfoldable pub hintOf : ℕ → List ℕ → ℕ
-hintOf first k = tableByte (row_at all_rows + hintPlace first k)
+unfoldable pub hint_of : ℕ → List ℕ → ℕ
+hint_of first k = table_byte (row_at all_rows + hint_place first k)
 
 -- are there n rows from the first on, and have their names their own rows as hints?
 unfoldable pub hinted : ℕ → ℕ → Bool
 hinted zero first = true
-hinted (suc n) first = (ltb (first + n) all_rows && eqb (hintOf first (name_of (first + n))) n) && hinted n first
+hinted (suc n) first = (ltb (first + n) all_rows && eqb (hint_of first (name_of (first + n))) n) && hinted n first
 
 -- a type by its three numbers, with the types inside by f
 abbrev pub build : (ℕ → FieldType) → ℕ → ℕ → ℕ → FieldType
@@ -118,22 +118,22 @@ build f zero many inside = plain inside
 build f (suc zero) many inside = array_of (plain inside)
 build f (suc (suc zero)) many inside = exactly many (plain inside)
 build f (suc (suc (suc zero))) many inside = array_of (f inside)
-build f (suc (suc (suc (suc tag)))) many inside = mapWith (rows_from f many inside)
+build f (suc (suc (suc (suc tag)))) many inside = map_with (rows_from f many inside)
 
 -- the type of a number, of at most so many levels; no document has the type 0
 unfoldable pub type_of : ℕ → ℕ → FieldType
 type_of zero c = plain 0
-type_of (suc d) c = cond (ltb c codeCount) (build (type_of d) (tag_of c) (manyOf c) (insideOf c)) (plain 0)
+type_of (suc d) c = cond (ltb c code_count) (build (type_of d) (tag_of c) (many_of c) (inside_of c)) (plain 0)
 
 -- the levels of the deepest type
-abbrev pub typeDepth : ℕ
-typeDepth = 5
+abbrev pub type_depth : ℕ
+type_depth = 5
 
 -- has the document the type of row i? No row asks nothing
-unfoldable pub rowTest : ℕ → Rows → Document → Bool
-rowTest i last x = true
-rowTest zero (row k q t rows) x = typed t x
-rowTest (suc i) (row k q t rows) x = rowTest i rows x
+unfoldable pub row_test : ℕ → Rows → Document → Bool
+row_test i last x = true
+row_test zero (row k q t rows) x = typed t x
+row_test (suc i) (row k q t rows) x = row_test i rows x
 
 -- are the bits of the required rows in a set?
 unfoldable pub covered : Rows → ℕ → Bool
@@ -149,11 +149,11 @@ abbrev pub lacking : ℕ → ℕ → Bool
 lacking need seen = eqb need 1 && not (eqb (seen % 2) 1)
 
 -- has none of the rows a name?
-unfoldable pub newName : List ℕ → Rows → Bool
-newName k last = true
-newName k (row l q t rows) = not (equal k l) && newName k rows
+unfoldable pub new_name : List ℕ → Rows → Bool
+new_name k last = true
+new_name k (row l q t rows) = not (equal k l) && new_name k rows
 
 -- are the names of the rows different?
-unfoldable pub distinctNames : Rows → Bool
-distinctNames last = true
-distinctNames (row k q t rows) = newName k rows && distinctNames rows
+unfoldable pub distinct_names : Rows → Bool
+distinct_names last = true
+distinct_names (row k q t rows) = new_name k rows && distinct_names rows

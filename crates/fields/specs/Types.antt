@@ -13,7 +13,7 @@ mutual
     plain : ℕ → FieldType
     array_of : FieldType → FieldType
     exactly : ℕ → FieldType → FieldType
-    mapWith : Rows → FieldType
+    map_with : Rows → FieldType
 
   -- the keys that are named: the bytes of a name, whether it is required, and the type of its value
   pub data Rows : Type 0 where
@@ -21,25 +21,25 @@ mutual
     row : List ℕ → Bool → FieldType → Rows → Rows
 
 -- the kind of a document: 1 an integer, 2 a float, 3 a string, 4 a binary, 5 an array, 6 a map
-abbrev pub documentKind : Document → ℕ
-documentKind (integer v) = 1
-documentKind (float bits) = 2
-documentKind (string t) = 3
-documentKind (binary t) = 4
-documentKind (array ds) = 5
-documentKind (map es) = 6
+abbrev pub document_kind : Document → ℕ
+document_kind (integer v) = 1
+document_kind (float bits) = 2
+document_kind (string t) = 3
+document_kind (binary t) = 4
+document_kind (array ds) = 5
+document_kind (map es) = 6
 
-abbrev pub anInteger : FieldType
-anInteger = plain 1
+abbrev pub an_integer : FieldType
+an_integer = plain 1
 
-abbrev pub aFloat : FieldType
-aFloat = plain 2
+abbrev pub a_float : FieldType
+a_float = plain 2
 
-abbrev pub aString : FieldType
-aString = plain 3
+abbrev pub a_string : FieldType
+a_string = plain 3
 
-abbrev pub aBinary : FieldType
-aBinary = plain 4
+abbrev pub a_binary : FieldType
+a_binary = plain 4
 
 -- a required key and an optional one, before other rows
 abbrev pub required : Text.String → FieldType → Rows → Rows
@@ -66,10 +66,10 @@ Has (row k false t rows) es = Has rows es
 -- a document has a type
 unfoldable mutual
   pub HasType : FieldType → Document → Type 0
-  HasType (plain k) x = documentKind x ≡ k
+  HasType (plain k) x = document_kind x ≡ k
   HasType (array_of t) x = record { values : Documents; is : x ≡ array values; each : Each (λ d. HasType t d) values }
   HasType (exactly n t) x = record { values : Documents; is : x ≡ array values; many : count values ≡ n; each : Each (λ d. HasType t d) values }
-  HasType (mapWith rows) x = record { entries : Entries; is : x ≡ map entries; has : Has rows entries; fits : Fits rows entries }
+  HasType (map_with rows) x = record { entries : Entries; is : x ≡ map entries; has : Has rows entries; fits : Fits rows entries }
 
   -- each named key that is there has its type
   pub Fits : Rows → Entries → Type 0

@@ -3,16 +3,16 @@
 // and lent. Values, arrays and maps are gone through by functions that call each other, the levels left falling. Each function takes any bytes
 // and any place, and promises a meaning for a file that has been walked (`Walked.antt` of values).
 ghost use Rattle.std.specs.Prelude.{◌≡◌, true, false, List, ℕ, ◌+◌, ◌*◌, ◌^◌, ◌≤◌, ◌<◌, length, get_or, take, drop, set};
-ghost use Rattle.numbers.specs.BigEndian.{unsignedAt};
+ghost use Rattle.numbers.specs.BigEndian.{unsigned_at};
 ghost use Rattle.text.specs.Equal.{equal};
 ghost use Rattle.values.specs.Walked.{Walked, WalkedEntries, WalkedBy};
 ghost use Rattle.fields.specs.Types.{FieldType, plain, array_of};
-ghost use Rattle.fields.specs.Table.{fieldCount};
+ghost use Rattle.fields.specs.Table.{field_count};
 ghost use Rattle.fields.specs.Tests.{typed};
-ghost use Rattle.fields.specs.Fields.{fieldTypeOf, isVersionOne, fieldsNumber, findRow};
+ghost use Rattle.fields.specs.Fields.{field_type_of, is_version_one, fields_number, find_row};
 ghost use Rattle.fields.specs.Noted.{Noted, Spanned};
-ghost use Rattle.fields.specs.Numbers.{typeTable, typeDepth, firstField, name_of, rows_from, type_of, rowTest, build, covered, marked, lacking, distinctNames, tableByte, all_rows, hintOf, hinted};
-ghost use Rattle.fields.specs.Steps.{headKind, hasBody, plainEnd, ValueSays, ItemsSay, RunSays, EntriesSay, RowSays, noPlaces};
+ghost use Rattle.fields.specs.Numbers.{type_table, type_depth, first_field, name_of, rows_from, type_of, row_test, build, covered, marked, lacking, distinct_names, table_byte, all_rows, hint_of, hinted};
+ghost use Rattle.fields.specs.Steps.{head_kind, has_body, plain_end, ValueSays, ItemsSay, RunSays, EntriesSay, RowSays, no_places};
 
 use heads::{Head, Kind};
 
@@ -161,7 +161,7 @@ pub fn note(leads: &[u8; 256], file: &[u8], count: usize, at: usize) -> Fields
 
 // The refusal of a file by what is noted of its fields: 12, 13, 24, or 0.
 pub fn refusal_of(leads: &[u8; 256], file: &[u8], fields: Fields) -> u8
-    ensures { WalkedBy leads.now (λ es. Noted file.now es fields) (λ es. result ≡ fieldsNumber es) }
+    ensures { WalkedBy leads.now (λ es. Noted file.now es fields) (λ es. result ≡ fields_number es) }
 {
     let types = types();
     let whole = all_seen(&types, fields.presence, FIRST_FIELD, FIELD_COUNT);
@@ -183,7 +183,7 @@ pub fn refusal_of(leads: &[u8; 256], file: &[u8], fields: Fields) -> u8
 
 // Has the value at a place the type of a named field? Where there is no such field, no value has.
 pub fn is_typed(leads: &[u8; 256], file: &[u8], at: usize, field: usize) -> bool
-    ensures { Walked leads.now file.now at (λ x e. result ≡ typed (fieldTypeOf field) x) }
+    ensures { Walked leads.now file.now at (λ x e. result ≡ typed (field_type_of field) x) }
 {
     if FIELD_COUNT <= field {
         return false;
@@ -196,7 +196,7 @@ pub fn is_typed(leads: &[u8; 256], file: &[u8], at: usize, field: usize) -> bool
 // Do the m bytes from a on begin with "1." and a digit?
 fn is_version_one(file: &[u8], a: usize, m: usize) -> bool
     requires { a + m ≤ length file.now }
-    ensures { result ≡ isVersionOne (take m (drop a file.now)) }
+    ensures { result ≡ is_version_one (take m (drop a file.now)) }
 {
     if m < 3 {
         return false;
@@ -216,14 +216,14 @@ fn is_version_one(file: &[u8], a: usize, m: usize) -> bool
 
 // No places.
 fn no_places() -> [usize; FIELD_COUNT]
-    ensures { result ≡ noPlaces }
+    ensures { result ≡ no_places }
 {
     [0usize; FIELD_COUNT]
 }
 
 // Puts a place at a field's number, if it is one.
 fn put_place(places: &mut [usize; FIELD_COUNT], row: usize, place: usize)
-    requires { length places.old ≡ fieldCount }
+    requires { length places.old ≡ field_count }
     ensures { places.new ≡ set places.old row place }
 {
     if row < FIELD_COUNT {
@@ -241,7 +241,7 @@ fn mark(n: usize, seen: u64, i: usize) -> u64
 
 // The value at a place as that of a field, or of no field.
 fn judge(leads: &[u8; 256], file: &[u8], types: &[u8; TABLE_SIZE], at: usize, row: usize) -> Judged
-    requires { types.now ≡ typeTable }
+    requires { types.now ≡ type_table }
     ensures { RowSays leads.now file.now row at result.end result.typed }
 {
     let e = field_typed(leads, file, types, at, row);
@@ -265,8 +265,8 @@ fn field_typed(
     at: usize,
     row: usize,
 ) -> usize
-    requires { types.now ≡ typeTable }
-    ensures { ValueSays leads.now file.now (rowTest row (rows_from (type_of typeDepth) fieldCount firstField)) at result }
+    requires { types.now ≡ type_table }
+    ensures { ValueSays leads.now file.now (row_test row (rows_from (type_of type_depth) field_count first_field)) at result }
 {
     if row < FIELD_COUNT {
         let code = cell(types, (FIRST_FIELD + row) * ROW_SIZE + ROWS_AT + 2);
@@ -298,8 +298,8 @@ fn row_typed(
     row: usize,
     depth: usize,
 ) -> usize
-    requires { (types.now ≡ typeTable) × ((first < 256) × (n < 64)) }
-    ensures { ValueSays leads.now file.now (rowTest row (rows_from (type_of depth) n first)) at result }
+    requires { (types.now ≡ type_table) × ((first < 256) × (n < 64)) }
+    ensures { ValueSays leads.now file.now (row_test row (rows_from (type_of depth) n first)) at result }
 {
     if row < n {
         let code = cell(types, (first + row) * ROW_SIZE + ROWS_AT + 2);
@@ -318,7 +318,7 @@ fn typed_at(
     code: usize,
     depth: usize,
 ) -> usize
-    requires { types.now ≡ typeTable }
+    requires { types.now ≡ type_table }
     ensures { ValueSays leads.now file.now (typed (type_of depth code)) at result }
 {
     if depth == 0 {
@@ -360,7 +360,7 @@ fn items_typed(
     code: usize,
     depth: usize,
 ) -> usize
-    requires { types.now ≡ typeTable }
+    requires { types.now ≡ type_table }
     ensures { ItemsSay leads.now file.now (typed (type_of depth code)) count at result }
 {
     let mut left = count;
@@ -388,7 +388,7 @@ fn entries_typed(
     n: usize,
     depth: usize,
 ) -> usize
-    requires { (types.now ≡ typeTable) × ((first < 256) × ((n < 64) × ((distinctNames (rows_from (type_of depth) n first) ≡ true) × (hinted n first ≡ true)))) }
+    requires { (types.now ≡ type_table) × ((first < 256) × ((n < 64) × ((distinct_names (rows_from (type_of depth) n first) ≡ true) × (hinted n first ≡ true)))) }
     ensures { EntriesSay leads.now file.now (rows_from (type_of depth) n first) 0 count at result }
 {
     let mut seen: u64 = 0;
@@ -425,8 +425,8 @@ fn entry_typed(
     row: usize,
     depth: usize,
 ) -> usize
-    requires { (types.now ≡ typeTable) × ((first < 256) × (n < 64)) }
-    ensures { ValueSays leads.now file.now (rowTest row (rows_from (type_of depth) n first)) at result }
+    requires { (types.now ≡ type_table) × ((first < 256) × (n < 64)) }
+    ensures { ValueSays leads.now file.now (row_test row (rows_from (type_of depth) n first)) at result }
 {
     let end = quick_row(file, types, at, first, n, row, depth);
     if 0 < end {
@@ -445,8 +445,8 @@ fn quick_row(
     row: usize,
     depth: usize,
 ) -> usize
-    requires { (types.now ≡ typeTable) × ((first < 256) × (n < 64)) }
-    ensures { 0 < result → (leads : List ℕ) → ValueSays leads file.now (rowTest row (rows_from (type_of depth) n first)) at result }
+    requires { (types.now ≡ type_table) × ((first < 256) × (n < 64)) }
+    ensures { 0 < result → (leads : List ℕ) → ValueSays leads file.now (row_test row (rows_from (type_of depth) n first)) at result }
 {
     if depth == 0 {
         return 0;
@@ -654,7 +654,7 @@ fn headed_at(leads: &[u8; 256], file: &[u8], at: usize, wanted: usize) -> usize
 
 // Where a value of a kind that holds no others ends, if that kind is wanted: its head holds n and ends at p.
 fn plain_end(file: &[u8], kind: usize, wanted: usize, n: usize, p: usize) -> usize
-    ensures { result ≡ plainEnd (length file.now) kind wanted n p }
+    ensures { result ≡ plain_end (length file.now) kind wanted n p }
 {
     if kind != wanted {
         return 0;
@@ -673,14 +673,14 @@ fn plain_end(file: &[u8], kind: usize, wanted: usize, n: usize, p: usize) -> usi
 
 // Has a value of a kind a body after its head: is it a string or a binary?
 fn has_body(kind: usize) -> bool
-    ensures { result ≡ hasBody kind }
+    ensures { result ≡ has_body kind }
 {
     kind == STRING || kind == BINARY
 }
 
 // The kind of the document that a head of a kind begins, by its number; 0 of no kind.
 fn head_kind(kind: Kind) -> usize
-    ensures { result ≡ headKind kind }
+    ensures { result ≡ head_kind kind }
 {
     match kind {
         Kind::Unsigned => INTEGER,
@@ -704,8 +704,8 @@ fn row_of(
     first: usize,
     n: usize,
 ) -> usize
-    requires { (types.now ≡ typeTable) × ((a + m ≤ length file.now) × ((first < 256) × ((n < 64) × (hinted n first ≡ true)))) }
-    ensures { (f : ℕ → FieldType) → result ≡ findRow (take m (drop a file.now)) (rows_from f n first) }
+    requires { (types.now ≡ type_table) × ((a + m ≤ length file.now) × ((first < 256) × ((n < 64) × (hinted n first ≡ true)))) }
+    ensures { (f : ℕ → FieldType) → result ≡ find_row (take m (drop a file.now)) (rows_from f n first) }
 {
     let i = hint(types, file, a, m, first);
     if n <= i {
@@ -719,8 +719,8 @@ fn row_of(
 
 // The hint of the m bytes from a on, by the first row of a map: a byte of the table, at a place that two of them and their length give.
 fn hint(types: &[u8; TABLE_SIZE], file: &[u8], a: usize, m: usize, first: usize) -> usize
-    requires { (types.now ≡ typeTable) × ((a + m ≤ length file.now) × (first < 256)) }
-    ensures { result ≡ hintOf first (take m (drop a file.now)) }
+    requires { (types.now ≡ type_table) × ((a + m ≤ length file.now) × (first < 256)) }
+    ensures { result ≡ hint_of first (take m (drop a file.now)) }
 {
     let early = byte_of(file, a, m, 0);
     let late = byte_of(file, a, m, 3);
@@ -744,7 +744,7 @@ fn byte_of(file: &[u8], a: usize, m: usize, i: usize) -> usize
 
 // Are the m bytes from a on the name of a row?
 fn is_name(types: &[u8; TABLE_SIZE], file: &[u8], a: usize, m: usize, row: usize) -> bool
-    requires { (types.now ≡ typeTable) × ((a + m ≤ length file.now) × (row < all_rows)) }
+    requires { (types.now ≡ type_table) × ((a + m ≤ length file.now) × (row < all_rows)) }
     ensures { result ≡ equal (take m (drop a file.now)) (name_of row) }
 {
     let start = row * ROW_SIZE + ROWS_AT;
@@ -778,14 +778,14 @@ fn same_words(x: &[u8], y: &[u8]) -> bool
 // The number in the four bytes from a place on.
 fn word(bytes: &[u8], at: usize) -> u32
     requires { at + 4 ≤ length bytes.now }
-    ensures { result ≡ unsignedAt 4 bytes.now at }
+    ensures { result ≡ unsigned_at 4 bytes.now at }
 {
     numbers::read_u32(&bytes[at..at + 4], 0)
 }
 
 // Are the required ones of the n rows from first on all in a set? They are if all n are.
 fn all_seen(types: &[u8; TABLE_SIZE], seen: u64, first: usize, n: usize) -> bool
-    requires { (types.now ≡ typeTable) × ((first < 256) × (n < 64)) }
+    requires { (types.now ≡ type_table) × ((first < 256) × (n < 64)) }
     ensures { (f : ℕ → FieldType) → result ≡ covered (rows_from f n first) seen }
 {
     if seen == full(n) {
@@ -804,7 +804,7 @@ fn full(n: usize) -> u64
 
 // Are the required ones of the n rows from first on all in a set, one after another?
 fn each_seen(types: &[u8; TABLE_SIZE], seen: u64, first: usize, n: usize) -> bool
-    requires { (types.now ≡ typeTable) × ((first < 256) × (n < 64)) }
+    requires { (types.now ≡ type_table) × ((first < 256) × (n < 64)) }
     ensures { (f : ℕ → FieldType) → result ≡ covered (rows_from f n first) seen }
 {
     let mut rest = seen;
@@ -831,8 +831,8 @@ fn lacks(need: usize, seen: u64) -> bool
 
 // A byte of the table; 0 past its end.
 fn cell(types: &[u8; TABLE_SIZE], i: usize) -> usize
-    requires { types.now ≡ typeTable }
-    ensures is { result ≡ tableByte i }
+    requires { types.now ≡ type_table }
+    ensures is { result ≡ table_byte i }
     ensures byte { result < 256 }
 {
     if i < TABLE_SIZE {
@@ -844,7 +844,7 @@ fn cell(types: &[u8; TABLE_SIZE], i: usize) -> usize
 
 // The table of types.
 fn types() -> [u8; TABLE_SIZE]
-    ensures { result ≡ typeTable }
+    ensures { result ≡ type_table }
 {
     TYPES
 }

@@ -14,7 +14,7 @@ use Rattle.columns.specs.declared.Kind.TheVariants.{Int8, Int32, Strings, Chars}
 use Rattle.columns.specs.declared.Wanted.{Wanted}
 use Rattle.columns.specs.declared.Wanted.TheVariants.{Only, Real}
 use Rattle.columns.specs.Decode.{Decoding, refused, column}
-use Rattle.file_columns.specs.Field.{fieldColumn, length_of}
+use Rattle.file_columns.specs.Field.{field_column, length_of}
 
 -- what a column has one entry for: an atom, a group or a chain; the columns of bonds are counted by rule 8
 pub data Level : Type 0 where
@@ -29,33 +29,33 @@ pub record Column : Type 0 where
   pub kind : Wanted
   pub level : Level
 
-abbrev pub columnOf : Text.String → Wanted → Level → Column
-columnOf n k l = record { name = n; kind = k; level = l }
+abbrev pub column_of : Text.String → Wanted → Level → Column
+column_of n k l = record { name = n; kind = k; level = l }
 
 -- the columns, in field order (paper 01: real, whole, small, names, letters)
 abbrev pub columns : List Column
 columns =
-    columnOf "xCoordList" Real atom
-    ∷ columnOf "yCoordList" Real atom
-    ∷ columnOf "zCoordList" Real atom
-    ∷ columnOf "groupIdList" (Only Int32) group
-    ∷ columnOf "groupTypeList" (Only Int32) group
-    ∷ columnOf "chainIdList" (Only Strings) chain
-    ∷ columnOf "bondAtomList" (Only Int32) bond
-    ∷ columnOf "bondOrderList" (Only Int8) bond
-    ∷ columnOf "bFactorList" Real atom
-    ∷ columnOf "atomIdList" (Only Int32) atom
-    ∷ columnOf "altLocList" (Only Chars) atom
-    ∷ columnOf "occupancyList" Real atom
-    ∷ columnOf "secStructList" (Only Int8) group
-    ∷ columnOf "insCodeList" (Only Chars) group
-    ∷ columnOf "sequenceIdList" (Only Int32) group
-    ∷ columnOf "chainNameList" (Only Strings) chain
+    column_of "xCoordList" Real atom
+    ∷ column_of "yCoordList" Real atom
+    ∷ column_of "zCoordList" Real atom
+    ∷ column_of "groupIdList" (Only Int32) group
+    ∷ column_of "groupTypeList" (Only Int32) group
+    ∷ column_of "chainIdList" (Only Strings) chain
+    ∷ column_of "bondAtomList" (Only Int32) bond
+    ∷ column_of "bondOrderList" (Only Int8) bond
+    ∷ column_of "bFactorList" Real atom
+    ∷ column_of "atomIdList" (Only Int32) atom
+    ∷ column_of "altLocList" (Only Chars) atom
+    ∷ column_of "occupancyList" Real atom
+    ∷ column_of "secStructList" (Only Int8) group
+    ∷ column_of "insCodeList" (Only Chars) group
+    ∷ column_of "sequenceIdList" (Only Int32) group
+    ∷ column_of "chainNameList" (Only Strings) chain
     ∷ []
 
 -- what the value of a column's field decodes to
 abbrev pub decoded : Wanted → Document → Decoding
-decoded w x = fieldColumn w (text_of x)
+decoded w x = field_column w (text_of x)
 
 -- a column that is there is of its kind and decodes
 abbrev pub ColumnRight : Wanted → Option Document → Type 0
@@ -68,22 +68,22 @@ AllRight [] es = Unit {0}
 AllRight (c ∷ cs) es = ColumnRight c.kind (field c.name es) × AllRight cs es
 
 -- the refusal of a column that is there, or 0
-abbrev pub decodingNumber : Decoding → ℕ
-decodingNumber (refused r) = r
-decodingNumber (column k m xs) = accepted
+abbrev pub decoding_number : Decoding → ℕ
+decoding_number (refused r) = r
+decoding_number (column k m xs) = accepted
 
-abbrev pub columnNumber : Wanted → Option Document → ℕ
-columnNumber w nothing = accepted
-columnNumber w (some x) = decodingNumber (decoded w x)
+abbrev pub column_number : Wanted → Option Document → ℕ
+column_number w nothing = accepted
+column_number w (some x) = decoding_number (decoded w x)
 
 -- the refusal of the first of some columns that has one, or 0
-unfoldable pub firstNumber : List Column → Entries → ℕ
-firstNumber [] es = accepted
-firstNumber (c ∷ cs) es = or_else (columnNumber c.kind (field c.name es)) (firstNumber cs es)
+unfoldable pub first_number : List Column → Entries → ℕ
+first_number [] es = accepted
+first_number (c ∷ cs) es = or_else (column_number c.kind (field c.name es)) (first_number cs es)
 
 -- 14 to 19 over the columns of a file
-abbrev pub columnsNumber : Entries → ℕ
-columnsNumber es = firstNumber columns es
+abbrev pub columns_number : Entries → ℕ
+columns_number es = first_number columns es
 
 -- the cells of a column that is there
 abbrev pub cells_of : Decoding → List ℤ
@@ -95,13 +95,13 @@ cells_in w nothing = nothing
 cells_in w (some x) = some (cells_of (decoded w x))
 
 -- whether a column is there, and how many entries it has
-abbrev pub lengthIn : Decoding → ℕ
-lengthIn (refused r) = 0
-lengthIn (column k m xs) = length_of k xs
+abbrev pub length_in : Decoding → ℕ
+length_in (refused r) = 0
+length_in (column k m xs) = length_of k xs
 
-abbrev pub columnLength : Wanted → Option Document → Length
-columnLength w nothing = record { there = false; count = 0 }
-columnLength w (some x) = record { there = true; count = lengthIn (decoded w x) }
+abbrev pub column_length : Wanted → Option Document → Length
+column_length w nothing = record { there = false; count = 0 }
+column_length w (some x) = record { there = true; count = length_in (decoded w x) }
 
 -- a column's length, and what the column has one entry for
 pub record Measured : Type 0 where
@@ -109,26 +109,26 @@ pub record Measured : Type 0 where
   pub entries : Length
 
 -- the lengths of some columns of a file
-unfoldable pub lengthsIn : List Column → Entries → List Measured
-lengthsIn [] es = []
-lengthsIn (c ∷ cs) es = record { level = c.level; entries = columnLength c.kind (field c.name es) } ∷ lengthsIn cs es
+unfoldable pub lengths_in : List Column → Entries → List Measured
+lengths_in [] es = []
+lengths_in (c ∷ cs) es = record { level = c.level; entries = column_length c.kind (field c.name es) } ∷ lengths_in cs es
 
 -- the lengths of all columns of a file
-abbrev pub lengthsOf : Entries → List Measured
-lengthsOf es = lengthsIn columns es
+abbrev pub lengths_of : Entries → List Measured
+lengths_of es = lengths_in columns es
 
 -- has a column, if it is there, n entries?
-abbrev pub hasEntries : ℕ → Length → Bool
-hasEntries n l = cond l.there (l.count == n) true
+abbrev pub has_entries : ℕ → Length → Bool
+has_entries n l = cond l.there (l.count == n) true
 
 -- has a column as many entries as there are atoms, groups or chains, by its level? Of bonds it may have any number.
-abbrev pub fitsLevel : Level → ℕ → ℕ → ℕ → Length → Bool
-fitsLevel atom atoms groups chains l = hasEntries atoms l
-fitsLevel group atoms groups chains l = hasEntries groups l
-fitsLevel chain atoms groups chains l = hasEntries chains l
-fitsLevel bond atoms groups chains l = true
+abbrev pub fits_level : Level → ℕ → ℕ → ℕ → Length → Bool
+fits_level atom atoms groups chains l = has_entries atoms l
+fits_level group atoms groups chains l = has_entries groups l
+fits_level chain atoms groups chains l = has_entries chains l
+fits_level bond atoms groups chains l = true
 
 -- has each column the length that it must have in a file of so many atoms, groups and chains?
-unfoldable pub lengthsFit : List Measured → ℕ → ℕ → ℕ → Bool
-lengthsFit [] atoms groups chains = true
-lengthsFit (m ∷ ms) atoms groups chains = fitsLevel m.level atoms groups chains m.entries && lengthsFit ms atoms groups chains
+unfoldable pub lengths_fit : List Measured → ℕ → ℕ → ℕ → Bool
+lengths_fit [] atoms groups chains = true
+lengths_fit (m ∷ ms) atoms groups chains = fits_level m.level atoms groups chains m.entries && lengths_fit ms atoms groups chains

@@ -4,43 +4,43 @@ use Rattle.std.specs.Prelude.{◌≡◌, ℕ, ◌+◌, ◌-◌, ◌*◌, ◌%◌
 use Rattle.std.proofs.Math.Option.{Option, none, some}
 use Rattle.std.specs.Int.{w32}
 use Rattle.std.proofs.Common.{of_z}
-use Rattle.numbers.specs.Ranges.{allPass, all_below}
-use Rattle.steps.specs.Delta.{resultsFrom, lastFrom, sumsIf}
-use Rattle.columns.specs.Table.{lengthLimit}
+use Rattle.numbers.specs.Ranges.{all_pass, all_below}
+use Rattle.steps.specs.Delta.{results_from, last_from, sums_if}
+use Rattle.columns.specs.Table.{length_limit}
 use Rattle.file_columns.specs.declared.whole.Last.{Last}
 use Rattle.file_columns.specs.declared.whole.Last.TheVariants.{Within, Outside}
 use Rattle.file_columns.specs.declared.whole.Sums.{Sums}
 use Rattle.file_columns.specs.declared.whole.Tally.{Tally}
 use Rattle.file_columns.specs.declared.whole.Step.{Step}
 use Rattle.file_columns.specs.declared.whole.Step.TheVariants.{On, Off}
-use Rattle.file_columns.specs.Cells.{total, noSums, sumsOver}
+use Rattle.file_columns.specs.Cells.{total, no_sums, sums_over}
 
 -- whether values are held, there are c of them, and all their results pass a test
-abbrev pub heldPass : (ℤ → Bool) → ℕ → Bool → Option (List ℤ) → Bool
-heldPass test c d none = false
-heldPass test c d (some l) = length l == c && allPass test (sumsIf d l)
+abbrev pub held_pass : (ℤ → Bool) → ℕ → Bool → Option (List ℤ) → Bool
+held_pass test c d none = false
+held_pass test c d (some l) = length l == c && all_pass test (sums_if d l)
 
 -- all of the results ys pass a test, and z is the last; or one does not
 abbrev pub Reaches : (ℤ → Bool) → List ℤ → ℤ → Last → Type 0
-Reaches test ys z (Within x) = (allPass test ys ≡ true) × (x ≡ z)
-Reaches test ys z Outside = allPass test ys ≡ false
+Reaches test ys z (Within x) = (all_pass test ys ≡ true) × (x ≡ z)
+Reaches test ys z Outside = all_pass test ys ≡ false
 
 -- how far b is ahead of a, upwards and modulo 2 ^ 32
 abbrev pub ahead_of : ℤ → ℤ → ℕ
 ahead_of a b = (of_z w32 b + (2 ^ 32 - of_z w32 a)) % 2 ^ 32
 
 -- the sums of two tables over the results of c values that are held; none where there are not so many
-abbrev pub heldSums : ℕ → List ℕ → List ℕ → ℕ → Bool → Option (List ℤ) → Sums
-heldSums n atoms bonds c d none = noSums
-heldSums n atoms bonds c d (some l) = cond (length l == c) (sumsOver n atoms bonds (sumsIf d l)) noSums
+abbrev pub held_sums : ℕ → List ℕ → List ℕ → ℕ → Bool → Option (List ℤ) → Sums
+held_sums n atoms bonds c d none = no_sums
+held_sums n atoms bonds c d (some l) = cond (length l == c) (sums_over n atoms bonds (sums_if d l)) no_sums
 
 -- the tally before the first of c cells
-abbrev pub toCome : ℕ → Tally
-toCome c = record { left = c; atoms = 0; bonds = 0; last = pos 0 }
+abbrev pub to_come : ℕ → Tally
+to_come c = record { left = c; atoms = 0; bonds = 0; last = pos 0 }
 
 -- the sums of a tally to which no cell is to come; none where one is
-abbrev pub sumsIn : Tally → Sums
-sumsIn t = cond (t.left == 0) (record { inside = true; atoms = t.atoms; bonds = t.bonds }) noSums
+abbrev pub sums_in : Tally → Sums
+sums_in t = cond (t.left == 0) (record { inside = true; atoms = t.atoms; bonds = t.bonds }) no_sums
 
 -- two tables have n entries each
 abbrev pub Hold : ℕ → List ℕ → List ℕ → Type 0
@@ -48,7 +48,7 @@ Hold n atoms bonds = (n ≤ length atoms) × (n ≤ length bonds)
 
 -- a tally's sums have room for the cells to come: those of as many 32-bit numbers as a column has cells have 64 bits
 abbrev pub Sound : Tally → Type 0
-Sound t = (t.atoms + t.left * 4294967295 ≤ lengthLimit * 4294967295) × (t.bonds + t.left * 4294967295 ≤ lengthLimit * 4294967295)
+Sound t = (t.atoms + t.left * 4294967295 ≤ length_limit * 4294967295) × (t.bonds + t.left * 4294967295 ≤ length_limit * 4294967295)
 
 -- the tally t with the results ys more, of which z is the last; or one is no index of the first n entries, or they are too many
 abbrev pub Adds : ℕ → List ℕ → List ℕ → Tally → List ℤ → ℤ → Step → Type 0
@@ -59,4 +59,4 @@ Adds n atoms bonds t ys z Off = length ys ≤ t.left → all_below n ys ≡ fals
 
 -- the tally t with k equal values v more
 abbrev pub AddsRun : ℕ → List ℕ → List ℕ → Tally → Bool → ℤ → ℕ → Step → Type 0
-AddsRun n atoms bonds t d v k r = Adds n atoms bonds t (resultsFrom d t.last (replicate k v)) (lastFrom d t.last (replicate k v)) r
+AddsRun n atoms bonds t d v k r = Adds n atoms bonds t (results_from d t.last (replicate k v)) (last_from d t.last (replicate k v)) r

@@ -5,13 +5,13 @@ pub mod whole;
 
 ghost use Rattle.std.specs.Prelude.{◌≡◌, ◌<◌, slice_index};
 ghost use Rattle.values.specs.Walked.{WalkedPlace};
-ghost use Rattle.numbers.specs.BigEndian.{unsignedAt};
-ghost use Rattle.numbers.specs.Ranges.{allBetween};
-ghost use Rattle.values.specs.Integers.{listIn};
-ghost use Rattle.fields.specs.Table.{fieldCount};
-ghost use Rattle.file_columns.specs.Columns.{columnsNumber, columnNumber, cells_in, columnLength, lengthsOf, hasEntries, fitsLevel, lengthsFit};
-ghost use Rattle.file_columns.specs.Steps.{WalkedFields, WalkedColumns, WalkedColumn, TotalsIn, columnCount};
-ghost use Rattle.file_columns.specs.Steps.{fieldNumbers, wantedNumbers, levelNumbers, wantedFrom, levelFrom};
+ghost use Rattle.numbers.specs.BigEndian.{unsigned_at};
+ghost use Rattle.numbers.specs.Ranges.{all_between};
+ghost use Rattle.values.specs.Integers.{list_in};
+ghost use Rattle.fields.specs.Table.{field_count};
+ghost use Rattle.file_columns.specs.Columns.{columns_number, column_number, cells_in, column_length, lengths_of, has_entries, fits_level, lengths_fit};
+ghost use Rattle.file_columns.specs.Steps.{WalkedFields, WalkedColumns, WalkedColumn, TotalsIn, column_count};
+ghost use Rattle.file_columns.specs.Steps.{field_numbers, wanted_numbers, level_numbers, wanted_from, level_from};
 
 use crate::whole::{Checked, Sums};
 use columns::{Kind, Wanted};
@@ -48,7 +48,7 @@ const LEVELS: [u8; COLUMN_COUNT] = [0, 0, 0, 1, 1, 2, 3, 3, 0, 0, 0, 0, 1, 1, 1,
 
 // The refusal of the first column of a file that has one, 14 to 19, or 0.
 pub fn columns_refusal(leads: &[u8; 256], file: &[u8], places: &[usize; fields::FIELD_COUNT]) -> u8
-    ensures { WalkedFields leads.now file.now places.now (λ es. result ≡ columnsNumber es) }
+    ensures { WalkedFields leads.now file.now places.now (λ es. result ≡ columns_number es) }
 {
     let mut i: usize = 0;
     while i < COLUMN_COUNT {
@@ -70,7 +70,7 @@ pub fn lengths_fit(
     groups: usize,
     chains: usize,
 ) -> bool
-    ensures { WalkedColumns leads.now file.now places.now (λ es. result ≡ lengthsFit (lengthsOf es) atoms groups chains) }
+    ensures { WalkedColumns leads.now file.now places.now (λ es. result ≡ lengths_fit (lengths_of es) atoms groups chains) }
 {
     let mut i: usize = 0;
     while i < COLUMN_COUNT {
@@ -85,7 +85,7 @@ pub fn lengths_fit(
 
 // Whether a column has as many entries as there are atoms, groups or chains, by its level; of bonds it may have any number.
 fn fits_level(list: Length, level: usize, atoms: usize, groups: usize, chains: usize) -> bool
-    ensures { result ≡ fitsLevel (levelFrom level) atoms groups chains list }
+    ensures { result ≡ fits_level (level_from level) atoms groups chains list }
 {
     if level == 0 {
         return has_entries(list, atoms);
@@ -101,7 +101,7 @@ fn fits_level(list: Length, level: usize, atoms: usize, groups: usize, chains: u
 
 // Whether a column, if it is there, has so many entries.
 fn has_entries(list: Length, count: usize) -> bool
-    ensures { result ≡ hasEntries count list }
+    ensures { result ≡ has_entries count list }
 {
     if list.there {
         return list.count == count;
@@ -111,7 +111,7 @@ fn has_entries(list: Length, count: usize) -> bool
 
 // The length of the column at a place that decodes; a place 0 has none.
 pub fn length_at(leads: &[u8; 256], file: &[u8], at: usize, wanted: Wanted) -> Length
-    ensures { WalkedColumn leads.now file.now at wanted (λ o. result ≡ columnLength wanted o) }
+    ensures { WalkedColumn leads.now file.now at wanted (λ o. result ≡ column_length wanted o) }
 {
     if at == 0 {
         return Length {
@@ -129,14 +129,14 @@ pub fn length_at(leads: &[u8; 256], file: &[u8], at: usize, wanted: Wanted) -> L
 
 // The length that a column's header states.
 fn stated_length(column: &[u8]) -> usize
-    ensures { result ≡ unsignedAt 4 column.now 4 }
+    ensures { result ≡ unsigned_at 4 column.now 4 }
 {
     numbers::u32_to_usize(numbers::read_u32(column, 4))
 }
 
 // The refusal of the column at a place, 14 to 19, or 0; a place 0 has none.
 fn refusal_at(leads: &[u8; 256], file: &[u8], at: usize, wanted: Wanted) -> u8
-    ensures { WalkedPlace leads.now file.now at (λ o. result ≡ columnNumber wanted o) }
+    ensures { WalkedPlace leads.now file.now at (λ o. result ≡ column_number wanted o) }
 {
     if at == 0 {
         return refusal::ACCEPTED;
@@ -158,7 +158,7 @@ pub fn all_between(
     low: i32,
     high: i32,
 ) -> bool
-    ensures { WalkedColumn leads.now file.now at wanted (λ o. result ≡ allBetween low high (listIn (cells_in wanted o))) }
+    ensures { WalkedColumn leads.now file.now at wanted (λ o. result ≡ all_between low high (list_in (cells_in wanted o))) }
 {
     if at == 0 {
         return true;
@@ -186,16 +186,16 @@ pub fn totals(
 
 // The field of column i.
 fn field_of(i: usize) -> usize
-    requires { i < columnCount }
-    ensures { (result ≡ slice_index fieldNumbers i) × (result < fieldCount) }
+    requires { i < column_count }
+    ensures { (result ≡ slice_index field_numbers i) × (result < field_count) }
 {
     FIELDS[i]
 }
 
 // The kind of column i.
 fn kind_of(i: usize) -> Wanted
-    requires { i < columnCount }
-    ensures { result ≡ wantedFrom (slice_index wantedNumbers i) }
+    requires { i < column_count }
+    ensures { result ≡ wanted_from (slice_index wanted_numbers i) }
 {
     let kind = KINDS[i];
     match kind {
@@ -209,8 +209,8 @@ fn kind_of(i: usize) -> Wanted
 
 // What column i has one entry for.
 fn level_of(i: usize) -> usize
-    requires { i < columnCount }
-    ensures { result ≡ slice_index levelNumbers i }
+    requires { i < column_count }
+    ensures { result ≡ slice_index level_numbers i }
 {
     numbers::u8_to_usize(LEVELS[i])
 }

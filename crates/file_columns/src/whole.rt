@@ -3,14 +3,14 @@
 ghost use Rattle.std.specs.Prelude.{◌≡◌, ℕ, ◌+◌, ◌-◌, ◌*◌, ◌<◌, ◌≤◌, true, false, ◌&&◌, replicate, nat_le};
 ghost use Rattle.std.specs.Int.{w32};
 ghost use Rattle.std.proofs.Common.{of_z};
-ghost use Rattle.numbers.specs.Ranges.{between, allBetween};
-ghost use Rattle.steps.specs.Delta.{resultsFrom, lastFrom};
-ghost use Rattle.steps.specs.Payload.{readIn, heldIn};
-ghost use Rattle.columns.specs.Table.{elements, lengthLimit};
+ghost use Rattle.numbers.specs.Ranges.{between, all_between};
+ghost use Rattle.steps.specs.Delta.{results_from, last_from};
+ghost use Rattle.steps.specs.Payload.{read_in, held_in};
+ghost use Rattle.columns.specs.Table.{elements, length_limit};
 ghost use Rattle.columns.specs.Decode.{decode};
-ghost use Rattle.file_columns.specs.Field.{otherSize, otherNames, fieldColumn, checkedOf};
-ghost use Rattle.file_columns.specs.Cells.{cellsPass, noSums, sumsOf};
-ghost use Rattle.file_columns.specs.Passing.{heldPass, Reaches, ahead_of, heldSums, toCome, sumsIn, Hold, Sound, Adds, AddsRun};
+ghost use Rattle.file_columns.specs.Field.{other_size, other_names, field_column, checked_of};
+ghost use Rattle.file_columns.specs.Cells.{cells_pass, no_sums, sums_of};
+ghost use Rattle.file_columns.specs.Passing.{held_pass, Reaches, ahead_of, held_sums, to_come, sums_in, Hold, Sound, Adds, AddsRun};
 
 use columns::{Codec, HEADER_SIZE, Header, Kind, Parameter, Wanted};
 use payloads::Item;
@@ -62,7 +62,7 @@ enum Step {
 
 // The length and the parameter of a column of a named field, where names have 4 bytes; or its refusal, 14 to 19.
 pub fn check(column: &[u8], wanted: Wanted) -> Checked
-    ensures { result ≡ checkedOf (fieldColumn wanted column.now) }
+    ensures { result ≡ checked_of (field_column wanted column.now) }
 {
     if has_other_names(column, wanted) {
         return Checked::Refused(refusal::HEADER_RANGE);
@@ -81,7 +81,7 @@ pub fn check(column: &[u8], wanted: Wanted) -> Checked
 
 // Whether a column of the kind that is wanted decodes, and all its cells lie between two numbers.
 pub fn all_between(column: &[u8], wanted: Wanted, low: i32, high: i32) -> bool
-    ensures { result ≡ cellsPass (between low high) (decode wanted column.now) }
+    ensures { result ≡ cells_pass (between low high) (decode wanted column.now) }
 {
     match columns::read_header(column, wanted) {
         Header::Refused(_) => false,
@@ -100,7 +100,7 @@ pub fn all_between(column: &[u8], wanted: Wanted, low: i32, high: i32) -> bool
 // The sums of the entries of two tables over the cells of an int32 column, where it decodes, the tables have `types` entries and all its cells
 // are indices of these; else none.
 pub fn totals(column: &[u8], types: usize, atoms: &[u32], bonds: &[u32]) -> Sums
-    ensures { result ≡ sumsOf types atoms.now bonds.now (decode (Wanted.Only Kind.Int32) column.now) }
+    ensures { result ≡ sums_of types atoms.now bonds.now (decode (Wanted.Only Kind.Int32) column.now) }
 {
     if !hold(types, atoms.len(), bonds.len()) {
         return no_sums();
@@ -125,7 +125,7 @@ fn hold(types: usize, atoms: usize, bonds: usize) -> bool
 
 // Whether a column has names of another size than a named field has.
 fn has_other_names(column: &[u8], wanted: Wanted) -> bool
-    ensures { result ≡ otherNames wanted column.now }
+    ensures { result ≡ other_names wanted column.now }
 {
     if column.len() < HEADER_SIZE {
         return false;
@@ -137,7 +137,7 @@ fn has_other_names(column: &[u8], wanted: Wanted) -> bool
 
 // Whether a codec has names, and the parameter is another size than a named field has.
 fn is_other_size(codec: Codec, parameter: u32, wanted: Wanted) -> bool
-    ensures { result ≡ otherSize wanted codec parameter }
+    ensures { result ≡ other_size wanted codec parameter }
 {
     match codec {
         Codec::Unknown => false,
@@ -163,7 +163,7 @@ fn results_between(
     low: i32,
     high: i32,
 ) -> bool
-    ensures { result ≡ heldPass (between low high) (elements form n size) delta (heldIn form size payload.now) }
+    ensures { result ≡ held_pass (between low high) (elements form n size) delta (held_in form size payload.now) }
 {
     match form {
         Form::Plain(width) => {
@@ -188,7 +188,7 @@ fn results_between(
 
 // Whether a payload holds n plain numbers that all lie between two numbers.
 fn plain_between(payload: &[u8], size: Size, n: usize, low: i32, high: i32) -> bool
-    ensures { result ≡ heldPass (between low high) n false (readIn (Form.Plain size) payload.now) }
+    ensures { result ≡ held_pass (between low high) n false (read_in (Form.Plain size) payload.now) }
 {
     let k = steps::bytes(size);
     let mut at: usize = 0;
@@ -203,7 +203,7 @@ fn plain_between(payload: &[u8], size: Size, n: usize, low: i32, high: i32) -> b
 
 // Whether a payload holds n names of a size each whose bytes all lie between two numbers.
 fn names_between(payload: &[u8], size: usize, delta: bool, n: usize, low: i32, high: i32) -> bool
-    ensures { result ≡ heldPass (between low high) (elements Form.Names n size) delta (heldIn Form.Names size payload.now) }
+    ensures { result ≡ held_pass (between low high) (elements Form.Names n size) delta (held_in Form.Names size payload.now) }
 {
     if payloads::refusal_of(payload, Form::Names, size, n) != refusal::ACCEPTED {
         return false;
@@ -213,7 +213,7 @@ fn names_between(payload: &[u8], size: usize, delta: bool, n: usize, low: i32, h
 
 // Whether n results are read of a payload, item by item, that all lie between two numbers. `left` are still to come.
 fn items_between(payload: &[u8], form: Form, delta: bool, n: usize, low: i32, high: i32) -> bool
-    ensures { result ≡ heldPass (between low high) n delta (readIn form payload.now) }
+    ensures { result ≡ held_pass (between low high) n delta (read_in form payload.now) }
 {
     let mut at: usize = 0;
     let mut last: i32 = 0;
@@ -244,7 +244,7 @@ fn items_between(payload: &[u8], form: Form, delta: bool, n: usize, low: i32, hi
 // Whether the results of a run lie between two numbers, where `sum` is the result before it.
 fn run_between(sum: i32, value: i32, count: usize, delta: bool, low: i32, high: i32) -> Last
     requires { 1 ≤ count }
-    ensures { Reaches (between low high) (resultsFrom delta sum (replicate count value)) (lastFrom delta sum (replicate count value)) result }
+    ensures { Reaches (between low high) (results_from delta sum (replicate count value)) (last_from delta sum (replicate count value)) result }
 {
     if delta {
         return sums_between(sum, value, count, low, high);
@@ -265,7 +265,7 @@ fn same_between(res: i32, low: i32, high: i32) -> Last
 // Whether the sums of a run lie between two numbers: the first and those that are left after it.
 fn sums_between(sum: i32, value: i32, count: usize, low: i32, high: i32) -> Last
     requires { 1 ≤ count }
-    ensures { Reaches (between low high) (resultsFrom true sum (replicate count value)) (lastFrom true sum (replicate count value)) result }
+    ensures { Reaches (between low high) (results_from true sum (replicate count value)) (last_from true sum (replicate count value)) result }
 {
     let first = steps::add_delta(sum, value);
     if !numbers::is_between(first, low, high) {
@@ -281,7 +281,7 @@ fn sums_between(sum: i32, value: i32, count: usize, low: i32, high: i32) -> Last
 // outside cannot pass over it, so that the room on the way inside decides.
 fn stays_between(sum: i32, value: i32, count: usize, low: i32, high: i32) -> bool
     requires { between low high sum ≡ true }
-    ensures { result ≡ allBetween low high (resultsFrom true sum (replicate count value)) }
+    ensures { result ≡ all_between low high (results_from true sum (replicate count value)) }
 {
     let above = ahead(sum, high);
     let below = ahead(low, sum);
@@ -324,7 +324,7 @@ fn has_room(count: usize, step: usize, room: usize) -> bool
 // Whether sums by steps of 2^31, which are two numbers by turns, lie between two numbers, where the one before them does.
 fn turns_between(sum: i32, value: i32, count: usize, low: i32, high: i32) -> bool
     requires { (of_z w32 value ≡ 2147483648) × (between low high sum ≡ true) }
-    ensures { result ≡ allBetween low high (resultsFrom true sum (replicate count value)) }
+    ensures { result ≡ all_between low high (results_from true sum (replicate count value)) }
 {
     if count == 0 {
         return true;
@@ -334,7 +334,7 @@ fn turns_between(sum: i32, value: i32, count: usize, low: i32, high: i32) -> boo
 
 // Whether the sums of a run lie between two numbers, one after the other.
 fn each_between(sum: i32, value: i32, count: usize, low: i32, high: i32) -> bool
-    ensures { result ≡ allBetween low high (resultsFrom true sum (replicate count value)) }
+    ensures { result ≡ all_between low high (results_from true sum (replicate count value)) }
 {
     let mut x = sum;
     let mut left = count;
@@ -350,7 +350,7 @@ fn each_between(sum: i32, value: i32, count: usize, low: i32, high: i32) -> bool
 
 // The tally before the first of n cells.
 fn to_come(n: usize) -> Tally
-    ensures { result ≡ toCome n }
+    ensures { result ≡ to_come n }
 {
     Tally {
         left: n,
@@ -362,7 +362,7 @@ fn to_come(n: usize) -> Tally
 
 // The sums of a tally to which no cell is to come; none where one is.
 fn sums_in(tally: Tally) -> Sums
-    ensures { result ≡ sumsIn tally }
+    ensures { result ≡ sums_in tally }
 {
     if tally.left != 0 {
         return no_sums();
@@ -376,7 +376,7 @@ fn sums_in(tally: Tally) -> Sums
 
 // The answer where there are no sums.
 fn no_sums() -> Sums
-    ensures { result ≡ noSums }
+    ensures { result ≡ no_sums }
 {
     Sums {
         inside: false,
@@ -395,8 +395,8 @@ fn sums_of(
     atoms: &[u32],
     bonds: &[u32],
 ) -> Sums
-    requires { Hold types atoms.now bonds.now × (n ≤ lengthLimit) }
-    ensures { result ≡ heldSums types atoms.now bonds.now n delta (readIn form payload.now) }
+    requires { Hold types atoms.now bonds.now × (n ≤ length_limit) }
+    ensures { result ≡ held_sums types atoms.now bonds.now n delta (read_in form payload.now) }
 {
     if delta {
         return sum_items(payload, form, delta, n, types, atoms, bonds);
@@ -420,8 +420,8 @@ fn sum_plain(
     atoms: &[u32],
     bonds: &[u32],
 ) -> Sums
-    requires { Hold types atoms.now bonds.now × (n ≤ lengthLimit) }
-    ensures { result ≡ heldSums types atoms.now bonds.now n false (readIn (Form.Plain size) payload.now) }
+    requires { Hold types atoms.now bonds.now × (n ≤ length_limit) }
+    ensures { result ≡ held_sums types atoms.now bonds.now n false (read_in (Form.Plain size) payload.now) }
 {
     let k = steps::bytes(size);
     let mut at: usize = 0;
@@ -447,8 +447,8 @@ fn sum_items(
     atoms: &[u32],
     bonds: &[u32],
 ) -> Sums
-    requires { Hold types atoms.now bonds.now × (n ≤ lengthLimit) }
-    ensures { result ≡ heldSums types atoms.now bonds.now n delta (readIn form payload.now) }
+    requires { Hold types atoms.now bonds.now × (n ≤ length_limit) }
+    ensures { result ≡ held_sums types atoms.now bonds.now n delta (read_in form payload.now) }
 {
     let mut at: usize = 0;
     let mut tally = to_come(n);
@@ -551,8 +551,8 @@ fn add_cells(
 
 // The sum over cells with an entry more, so many times, where so many cells are to come.
 fn add_entry(sum: u64, entry: u32, count: usize, left: usize) -> u64
-    requires { (count ≤ left) × (sum + left * 4294967295 ≤ lengthLimit * 4294967295) }
-    ensures { (result ≡ sum + entry * count) × (result + (left - count) * 4294967295 ≤ lengthLimit * 4294967295) }
+    requires { (count ≤ left) × (sum + left * 4294967295 ≤ length_limit * 4294967295) }
+    ensures { (result ≡ sum + entry * count) × (result + (left - count) * 4294967295 ≤ length_limit * 4294967295) }
 {
     sum + (entry as u64) * (count as u64)
 }

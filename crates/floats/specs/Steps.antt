@@ -9,31 +9,31 @@ use Rattle.steps.specs.declared.Form.{Form}
 use Rattle.steps.specs.declared.Form.TheVariants.{Plain, Packed, Runs, Names}
 use Rattle.columns.specs.declared.Kind.TheVariants as kind
 use Rattle.columns.specs.declared.Header.TheVariants.{Good}
-use Rattle.columns.specs.Decode.{Decoding, judgedPayload}
+use Rattle.columns.specs.Decode.{Decoding, judged_payload}
 use Rattle.payloads.specs.Results.{HasRoom, HasResults, ResultsExact}
 use Rattle.floats.specs.Calls.{exactly}
 
 -- the bits of a number by a divisor that is a float already
-abbrev pub bitsBy : Float → ℤ → ℕ
-bitsBy d x = to_bits binary32 (div binary32 (of_int binary32 x) d)
+abbrev pub bits_by : Float → ℤ → ℕ
+bits_by d x = to_bits binary32 (div binary32 (of_int binary32 x) d)
 
 -- what a payload of codec 1 decodes to, and one of codecs 9 to 13
-abbrev pub keptPayload : ℕ → ℕ → List ℕ → Decoding
-keptPayload n m s = exactly (judgedPayload (Good n m kind.Float32 (Plain Four) false) s)
+abbrev pub kept_payload : ℕ → ℕ → List ℕ → Decoding
+kept_payload n m s = exactly (judged_payload (Good n m kind.Float32 (Plain Four) false) s)
 
-abbrev pub quotientPayload : ℕ → ℕ → Form → Bool → List ℕ → Decoding
-quotientPayload n m f d s = exactly (judgedPayload (Good n m kind.FixedPoint f d) s)
+abbrev pub quotient_payload : ℕ → ℕ → Form → Bool → List ℕ → Decoding
+quotient_payload n m f d s = exactly (judged_payload (Good n m kind.FixedPoint f d) s)
 
 -- the forms that quotients are written of, those of codecs 9 to 13 among them
-abbrev pub isDivided : Form → Bool → Bool
-isDivided (Plain One) d = not d
-isDivided (Plain Two) d = not d
-isDivided (Plain Four) d = false
-isDivided (Packed One) d = true
-isDivided (Packed Two) d = true
-isDivided (Packed Four) d = false
-isDivided (Runs r) d = not d
-isDivided Names d = false
+abbrev pub is_divided : Form → Bool → Bool
+is_divided (Plain One) d = not d
+is_divided (Plain Two) d = not d
+is_divided (Plain Four) d = false
+is_divided (Packed One) d = true
+is_divided (Packed Two) d = true
+is_divided (Packed Four) d = false
+is_divided (Runs r) d = not d
+is_divided Names d = false
 
 -- a payload's results have room and are exact, and the divisor is above zero
 abbrev pub Divisible : Form → Bool → List ℕ → ℕ → Float → Type 0

@@ -4,12 +4,12 @@
 ghost use Rattle.std.specs.Prelude.{◌≡◌, true, false, ◌&&◌, ◌+◌, ◌≤◌, length, pos, T};
 ghost use Rattle.std.specs.Float.Ieee.Positive.{positive};
 ghost use Rattle.columns.specs.Decode.{decode};
-ghost use Rattle.payloads.specs.Limits.{packedSize};
+ghost use Rattle.payloads.specs.Limits.{packed_size};
 ghost use Rattle.payloads.specs.Results.{HasResults, Covered, Wrote};
 ghost use Rattle.payloads.specs.Exact.{exact};
-ghost use Rattle.columns.specs.Buffer.{decodedAnswer, decodedBuffer};
-ghost use Rattle.floats.specs.Calls.{kept, exactly, floatBits};
-ghost use Rattle.floats.specs.Steps.{bitsBy, keptPayload, quotientPayload, isDivided, Divisible, DivisibleAlone};
+ghost use Rattle.columns.specs.Buffer.{decoded_answer, decoded_buffer};
+ghost use Rattle.floats.specs.Calls.{kept, exactly, float_bits};
+ghost use Rattle.floats.specs.Steps.{bits_by, kept_payload, quotient_payload, is_divided, Divisible, DivisibleAlone};
 
 use columns::{HEADER_SIZE, Header, Kind, Wanted};
 use payloads::Outcome;
@@ -18,8 +18,8 @@ use steps::{Form, Range, Size};
 
 // The floats of a real column (codecs 1, 9 to 13), as their bits.
 pub fn decode_float32(column: &[u8], buffer: &mut [u32]) -> Answer
-    ensures answer { result ≡ decodedAnswer (exactly (decode Wanted.Real column.now)) (length buffer.old) }
-    ensures buffer { buffer.new ≡ decodedBuffer floatBits (exactly (decode Wanted.Real column.now)) buffer.old }
+    ensures answer { result ≡ decoded_answer (exactly (decode Wanted.Real column.now)) (length buffer.old) }
+    ensures buffer { buffer.new ≡ decoded_buffer float_bits (exactly (decode Wanted.Real column.now)) buffer.old }
 {
     match columns::read_header(column, Wanted::Real) {
         Header::Refused(r) => Answer::Refused(r),
@@ -42,8 +42,8 @@ pub fn are_exact(cells: bool, divisor: u32) -> bool
 
 // The floats of a payload of codec 1 whose header passed.
 fn kept_in(payload: &[u8], n: usize, m: u32, buffer: &mut [u32]) -> Answer
-    ensures answer { result ≡ decodedAnswer (keptPayload n m payload.now) (length buffer.old) }
-    ensures buffer { buffer.new ≡ decodedBuffer floatBits (keptPayload n m payload.now) buffer.old }
+    ensures answer { result ≡ decoded_answer (kept_payload n m payload.now) (length buffer.old) }
+    ensures buffer { buffer.new ≡ decoded_buffer float_bits (kept_payload n m payload.now) buffer.old }
 {
     let refused = payloads::refusal_of(payload, Form::Plain(Size::Four), m as usize, n);
     if refused != refusal::ACCEPTED {
@@ -79,9 +79,9 @@ fn quotients_in(
     delta: bool,
     buffer: &mut [u32],
 ) -> Answer
-    requires { (isDivided form delta ≡ true) × (1 ≤ m) }
-    ensures answer { result ≡ decodedAnswer (quotientPayload n m form delta payload.now) (length buffer.old) }
-    ensures buffer { buffer.new ≡ decodedBuffer floatBits (quotientPayload n m form delta payload.now) buffer.old }
+    requires { (is_divided form delta ≡ true) × (1 ≤ m) }
+    ensures answer { result ≡ decoded_answer (quotient_payload n m form delta payload.now) (length buffer.old) }
+    ensures buffer { buffer.new ≡ decoded_buffer float_bits (quotient_payload n m form delta payload.now) buffer.old }
 {
     match payloads::scan(payload, form, m as usize, delta, n) {
         Outcome::Refused(r) => Answer::Refused(r),
@@ -109,8 +109,8 @@ fn put_quotients(
     buffer: &mut [u32],
 )
     requires divisible { Divisible form delta payload.now (length buffer.old) divisor }
-    requires has_results { HasResults form payload.now n × (n ≤ length buffer.old) × (isDivided form delta ≡ true) }
-    ensures { Wrote (bitsBy divisor) form delta payload.now buffer.old buffer.new }
+    requires has_results { HasResults form payload.now n × (n ≤ length buffer.old) × (is_divided form delta ≡ true) }
+    ensures { Wrote (bits_by divisor) form delta payload.now buffer.old buffer.new }
 {
     match form {
         Form::Plain(size) => put_plain(payload, size, divisor, n, buffer),
@@ -127,7 +127,7 @@ fn put_quotients(
 // Writes the quotients of n plain numbers, by a loop of their size's own.
 fn put_plain(payload: &[u8], size: Size, divisor: f32, n: usize, buffer: &mut [u32])
     requires { DivisibleAlone (Form.Plain size) payload.now n (length buffer.old) divisor }
-    ensures { Wrote (bitsBy divisor) (Form.Plain size) false payload.now buffer.old buffer.new }
+    ensures { Wrote (bits_by divisor) (Form.Plain size) false payload.now buffer.old buffer.new }
 {
     match size {
         Size::One => write_plain(payload, Size::One, divisor, n, buffer),
@@ -139,7 +139,7 @@ fn put_plain(payload: &[u8], size: Size, divisor: f32, n: usize, buffer: &mut [u
 // Writes the quotients of n plain numbers, each read from the part of the payload that it fills.
 fn write_plain(payload: &[u8], size: Size, divisor: f32, n: usize, buffer: &mut [u32])
     requires { DivisibleAlone (Form.Plain size) payload.now n (length buffer.old) divisor }
-    ensures { Wrote (bitsBy divisor) (Form.Plain size) false payload.now buffer.old buffer.new }
+    ensures { Wrote (bits_by divisor) (Form.Plain size) false payload.now buffer.old buffer.new }
 {
     let k = steps::bytes(size);
     let mut i: usize = 0;
@@ -153,8 +153,8 @@ fn write_plain(payload: &[u8], size: Size, divisor: f32, n: usize, buffer: &mut 
 // Writes the quotients of packed numbers of one or two bytes, by one total: of the result that has begun, and with delta of those before
 // it too.
 fn write_packed(payload: &[u8], two: bool, delta: bool, divisor: f32, buffer: &mut [u32])
-    requires { Divisible (Form.Packed (packedSize two)) delta payload.now (length buffer.old) divisor }
-    ensures { Wrote (bitsBy divisor) (Form.Packed (packedSize two)) delta payload.now buffer.old buffer.new }
+    requires { Divisible (Form.Packed (packed_size two)) delta payload.now (length buffer.old) divisor }
+    ensures { Wrote (bits_by divisor) (Form.Packed (packed_size two)) delta payload.now buffer.old buffer.new }
 {
     let size = payloads::packed_size(two);
     let k = steps::bytes(size);
@@ -177,7 +177,7 @@ fn write_packed(payload: &[u8], two: bool, delta: bool, divisor: f32, buffer: &m
 // Writes the quotients of n results in runs, with one division for each run.
 fn write_runs(payload: &[u8], range: Range, divisor: f32, n: usize, buffer: &mut [u32])
     requires { DivisibleAlone (Form.Runs range) payload.now n (length buffer.old) divisor }
-    ensures { Wrote (bitsBy divisor) (Form.Runs range) false payload.now buffer.old buffer.new }
+    ensures { Wrote (bits_by divisor) (Form.Runs range) false payload.now buffer.old buffer.new }
 {
     let mut at: usize = 0;
     let mut o: usize = 0;
@@ -226,7 +226,7 @@ fn fill_bits(buffer: &mut [u32], from: usize, count: usize, bits: u32)
 // The bits of a number by a divisor: one division in single precision.
 fn quotient_bits(number: i32, divisor: f32) -> u32
     requires { (exact number ≡ true) × T (positive divisor) }
-    ensures { result ≡ bitsBy divisor number }
+    ensures { result ≡ bits_by divisor number }
 {
     f32::to_bits((number as f32) / divisor)
 }

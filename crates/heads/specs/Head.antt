@@ -2,13 +2,13 @@
 -- No lemma stands here. Assumes nothing.
 use Rattle.std.specs.Prelude.{◌≡◌, cond, List, ◌∷◌, ℕ, zero, suc, ◌+◌, ◌-◌, ◌^◌, ◌<◌, ltb, length, get_or, take, drop}
 use Rattle.numbers.specs.BigEndian.{number_of, bytes_of}
-use Rattle.heads.specs.Lead.{kind_of, moreOf, heldBy}
+use Rattle.heads.specs.Lead.{kind_of, more_of, held_by}
 use Rattle.heads.specs.declared.Kind.{Kind}
 use Rattle.heads.specs.declared.Head.{Head}
 
 -- a lead byte b with so many bytes after it holds n
 abbrev pub Holds : ℕ → ℕ → ℕ → Type 0
-Holds zero b n = n ≡ heldBy b
+Holds zero b n = n ≡ held_by b
 Holds (suc k) b n = n < 256 ^ suc k
 
 -- h is a head of a kind that holds n, in any of the kind's forms
@@ -16,22 +16,22 @@ pub record HeadOf (k : Kind) (n : ℕ) (h : List ℕ) : Type 0 where
   pub lead : ℕ
   pub byte : lead < 256
   pub kind : kind_of lead ≡ k
-  pub holds : Holds (moreOf lead) lead n
-  pub is : h ≡ lead ∷ bytes_of (moreOf lead) n
+  pub holds : Holds (more_of lead) lead n
+  pub is : h ≡ lead ∷ bytes_of (more_of lead) n
 
 -- the kind of the value that starts at a place
 unfoldable pub kind_at : List ℕ → ℕ → Kind
 kind_at s at = cond (ltb at (length s)) (kind_of (get_or s at 0)) Kind.Missing
 
 -- the number of a head with k bytes after its lead byte b, from the place p after that
-abbrev pub headNumber : List ℕ → ℕ → ℕ → ℕ → ℕ
-headNumber s b zero p = heldBy b
-headNumber s b (suc k) p = number_of (take (suc k) (drop p s))
+abbrev pub head_number : List ℕ → ℕ → ℕ → ℕ → ℕ
+head_number s b zero p = held_by b
+head_number s b (suc k) p = number_of (take (suc k) (drop p s))
 
 -- a head with k bytes after its lead byte b, from the place p after that
-abbrev pub headFrom : List ℕ → ℕ → ℕ → ℕ → Head
-headFrom s b k p = cond (ltb (length s - p) k) Head.Cut (Head.At (headNumber s b k p) (p + k))
+abbrev pub head_from : List ℕ → ℕ → ℕ → ℕ → Head
+head_from s b k p = cond (ltb (length s - p) k) Head.Cut (Head.At (head_number s b k p) (p + k))
 
 -- the number of the head at a place, and the place after the head
-unfoldable pub headAt : List ℕ → ℕ → Head
-headAt s at = cond (ltb at (length s)) (headFrom s (get_or s at 0) (moreOf (get_or s at 0)) (at + 1)) Head.Cut
+unfoldable pub head_at : List ℕ → ℕ → Head
+head_at s at = cond (ltb at (length s)) (head_from s (get_or s at 0) (more_of (get_or s at 0)) (at + 1)) Head.Cut

@@ -15,8 +15,8 @@ abbrev pub row : ℕ → ℕ → Kind → ℕ → Row
 row f t k m = record { from = f; to = t; kind = k; more = m }
 
 -- paper 01, "Lead bytes", in its order
-abbrev pub leadBytes : List Row
-leadBytes =
+abbrev pub lead_bytes : List Row
+lead_bytes =
     row 0x00 0x7f Kind.Unsigned 0
     ∷ row 0x80 0x8f Kind.Map 0
     ∷ row 0x90 0x9f Kind.Array 0
@@ -52,12 +52,12 @@ row_in b (r ∷ rs) = cond (in_row b r) r (row_in b rs)
 
 -- the kind of a lead byte
 unfoldable pub kind_of : ℕ → Kind
-kind_of b = (row_in b leadBytes).kind
+kind_of b = (row_in b lead_bytes).kind
 
 -- how many bytes of a number follow a lead byte
-unfoldable pub moreOf : ℕ → ℕ
-moreOf b = (row_in b leadBytes).more
+unfoldable pub more_of : ℕ → ℕ
+more_of b = (row_in b lead_bytes).more
 
 -- the number that a lead byte itself holds where none follow: its place in its row
-unfoldable pub heldBy : ℕ → ℕ
-heldBy b = b - (row_in b leadBytes).from
+unfoldable pub held_by : ℕ → ℕ
+held_by b = b - (row_in b lead_bytes).from

@@ -2,26 +2,26 @@
 -- table that is lent. No lemma stands here; that by the table of lead bytes they are those of the lead-byte rule is in Laws/Table.antt. Assumes
 -- nothing.
 use Rattle.std.specs.Prelude.{cond, List, [], ◌∷◌, ℕ, zero, suc, ◌+◌, ◌-◌, ◌*◌, ◌/◌, ◌%◌, ltb, eqb, length, get_or}
-use Rattle.numbers.specs.BigEndian.{unsignedAt}
-use Rattle.heads.specs.Lead.{kind_of, moreOf, heldBy}
+use Rattle.numbers.specs.BigEndian.{unsigned_at}
+use Rattle.heads.specs.Lead.{kind_of, more_of, held_by}
 use Rattle.heads.specs.declared.Kind.{Kind}
 use Rattle.heads.specs.declared.Head.{Head}
 
 -- a kind's number in the table of kinds, which only tells kinds apart; `Missing`, which is no lead byte's, never stands in it
-abbrev pub kindCell : Kind → ℕ
-kindCell Kind.Unsigned = 1
-kindCell Kind.Signed = 2
-kindCell Kind.Float = 3
-kindCell Kind.Str = 4
-kindCell Kind.Bin = 5
-kindCell Kind.Array = 6
-kindCell Kind.Map = 7
-kindCell Kind.Outside = 0
-kindCell Kind.Missing = 0
+abbrev pub kind_cell : Kind → ℕ
+kind_cell Kind.Unsigned = 1
+kind_cell Kind.Signed = 2
+kind_cell Kind.Float = 3
+kind_cell Kind.Str = 4
+kind_cell Kind.Bin = 5
+kind_cell Kind.Array = 6
+kind_cell Kind.Map = 7
+kind_cell Kind.Outside = 0
+kind_cell Kind.Missing = 0
 
 -- the kind of a number in the table
-abbrev pub kindFrom : ℕ → Kind
-kindFrom n =
+abbrev pub kind_from : ℕ → Kind
+kind_from n =
     cond (eqb n 1) Kind.Unsigned
     (cond (eqb n 2) Kind.Signed
     (cond (eqb n 3) Kind.Float
@@ -29,36 +29,36 @@ kindFrom n =
     (cond (eqb n 5) Kind.Bin (cond (eqb n 6) Kind.Array (cond (eqb n 7) Kind.Map Kind.Outside))))))
 
 -- n values of f, from i on
-abbrev pub valuesFrom : (ℕ → ℕ) → ℕ → ℕ → List ℕ
-valuesFrom f i zero = []
-valuesFrom f i (suc n) = f i ∷ valuesFrom f (suc i) n
+abbrev pub values_from : (ℕ → ℕ) → ℕ → ℕ → List ℕ
+values_from f i zero = []
+values_from f i (suc n) = f i ∷ values_from f (suc i) n
 
 -- the table of kinds: the number of the kind of each of the 256 lead bytes
-unfoldable pub kindTable : List ℕ
-kindTable = valuesFrom (λ b. kindCell (kind_of b)) 0 256
+unfoldable pub kind_table : List ℕ
+kind_table = values_from (λ b. kind_cell (kind_of b)) 0 256
 
 -- the table of head sizes: a head is its lead byte and the bytes of its number
-unfoldable pub sizeTable : List ℕ
-sizeTable = valuesFrom (λ b. moreOf b + 1) 0 256
+unfoldable pub size_table : List ℕ
+size_table = values_from (λ b. more_of b + 1) 0 256
 
 -- the table of lead bytes: in each row eight times the row of kinds, plus the row of head sizes
-unfoldable pub leadTable : List ℕ
-leadTable = valuesFrom (λ b. get_or kindTable b 0 * 8 + get_or sizeTable b 0) 0 256
+unfoldable pub lead_table : List ℕ
+lead_table = values_from (λ b. get_or kind_table b 0 * 8 + get_or size_table b 0) 0 256
 
 -- the kind at a place by a table
-unfoldable pub kindBy : List ℕ → List ℕ → ℕ → Kind
-kindBy table s at = cond (ltb at (length s)) (kindFrom (get_or table (get_or s at 0) 0 / 8)) Kind.Missing
+unfoldable pub kind_by : List ℕ → List ℕ → ℕ → Kind
+kind_by table s at = cond (ltb at (length s)) (kind_from (get_or table (get_or s at 0) 0 / 8)) Kind.Missing
 
 -- the number of a head of some size, whose lead byte b is at a place
-abbrev pub sizedNumber : List ℕ → ℕ → ℕ → ℕ → ℕ
-sizedNumber s b at size =
-    cond (eqb size 1) (heldBy b)
-    (cond (eqb size 2) (unsignedAt 1 s (at + 1)) (cond (eqb size 3) (unsignedAt 2 s (at + 1)) (unsignedAt 4 s (at + 1))))
+abbrev pub sized_number : List ℕ → ℕ → ℕ → ℕ → ℕ
+sized_number s b at size =
+    cond (eqb size 1) (held_by b)
+    (cond (eqb size 2) (unsigned_at 1 s (at + 1)) (cond (eqb size 3) (unsigned_at 2 s (at + 1)) (unsigned_at 4 s (at + 1))))
 
 -- a head of some size, whose lead byte b is at a place
-abbrev pub sizedHead : List ℕ → ℕ → ℕ → ℕ → Head
-sizedHead s b at size = cond (ltb (length s - at) size) Head.Cut (Head.At (sizedNumber s b at size) (at + size))
+abbrev pub sized_head : List ℕ → ℕ → ℕ → ℕ → Head
+sized_head s b at size = cond (ltb (length s - at) size) Head.Cut (Head.At (sized_number s b at size) (at + size))
 
 -- the head at a place by a table
-unfoldable pub headBy : List ℕ → List ℕ → ℕ → Head
-headBy table s at = cond (ltb at (length s)) (sizedHead s (get_or s at 0) at (get_or table (get_or s at 0) 0 % 8)) Head.Cut
+unfoldable pub head_by : List ℕ → List ℕ → ℕ → Head
+head_by table s at = cond (ltb at (length s)) (sized_head s (get_or s at 0) at (get_or table (get_or s at 0) 0 % 8)) Head.Cut

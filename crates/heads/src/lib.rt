@@ -2,9 +2,9 @@
 // Kind and head size stand in two constant tables of 256 rows, one for each lead byte. `leads` packs them into one table, which is lent to each
 // call, so that one look gives both. Any table, any bytes and any place are taken.
 ghost use Rattle.std.specs.Prelude.{◌≡◌, ◌+◌, ◌/◌, ◌%◌, ◌≤◌, ◌<◌, length};
-ghost use Rattle.heads.specs.Lead.{heldBy};
-ghost use Rattle.heads.specs.Table.{kindTable, sizeTable, leadTable, kindFrom, kindBy, sizedNumber, headBy};
-ghost use Rattle.heads.specs.Head.{kind_at, headAt};
+ghost use Rattle.heads.specs.Lead.{held_by};
+ghost use Rattle.heads.specs.Table.{kind_table, size_table, lead_table, kind_from, kind_by, sized_number, head_by};
+ghost use Rattle.heads.specs.Head.{kind_at, head_at};
 
 // The kind of the value that starts at a place.
 #[derive(Drop)]
@@ -33,7 +33,7 @@ pub enum Head {
 
 // The table of lead bytes: for each one, eight times its kind plus the size of its head.
 pub fn leads() -> [u8; 256]
-    ensures { result ≡ leadTable }
+    ensures { result ≡ lead_table }
 {
     let kinds = kinds();
     let sizes = head_sizes();
@@ -48,8 +48,8 @@ pub fn leads() -> [u8; 256]
 
 // The kind of the value that starts at a place of a file.
 pub fn kind_at(leads: &[u8; 256], file: &[u8], at: usize) -> Kind
-    ensures table { result ≡ kindBy leads.now file.now at }
-    ensures rule { leads.now ≡ leadTable → result ≡ kind_at file.now at }
+    ensures table { result ≡ kind_by leads.now file.now at }
+    ensures rule { leads.now ≡ lead_table → result ≡ kind_at file.now at }
 {
     if at < file.len() {
         kind_of(leads[numbers::u8_to_usize(file[at])])
@@ -60,8 +60,8 @@ pub fn kind_at(leads: &[u8; 256], file: &[u8], at: usize) -> Kind
 
 // The number of the head at a place of a file, and the place after the head.
 pub fn head_at(leads: &[u8; 256], file: &[u8], at: usize) -> Head
-    ensures table { result ≡ headBy leads.now file.now at }
-    ensures rule { leads.now ≡ leadTable → result ≡ headAt file.now at }
+    ensures table { result ≡ head_by leads.now file.now at }
+    ensures rule { leads.now ≡ lead_table → result ≡ head_at file.now at }
 {
     if file.len() <= at {
         return Head::Cut;
@@ -76,21 +76,21 @@ pub fn head_at(leads: &[u8; 256], file: &[u8], at: usize) -> Head
 
 // The table of kinds.
 fn kinds() -> [u8; 256]
-    ensures { result ≡ kindTable }
+    ensures { result ≡ kind_table }
 {
     KINDS
 }
 
 // The table of head sizes.
 fn head_sizes() -> [u8; 256]
-    ensures { result ≡ sizeTable }
+    ensures { result ≡ size_table }
 {
     HEAD_SIZES
 }
 
 // The kind in a row of the table.
 fn kind_of(row: u8) -> Kind
-    ensures { result ≡ kindFrom (row / 8) }
+    ensures { result ≡ kind_from (row / 8) }
 {
     let n = row / 8;
     match n {
@@ -115,7 +115,7 @@ fn size_of(row: u8) -> usize
 // The number of a head of some size, whose lead byte b is at a place.
 fn number(file: &[u8], b: u8, at: usize, size: usize) -> usize
     requires { (at < length file.now) × (at + size ≤ length file.now) }
-    ensures { result ≡ sizedNumber file.now b at size }
+    ensures { result ≡ sized_number file.now b at size }
 {
     if size == 1 {
         return held(b);
@@ -132,7 +132,7 @@ fn number(file: &[u8], b: u8, at: usize, size: usize) -> usize
 
 // The number that a lead byte itself holds: its place in its row of paper 01.
 fn held(b: u8) -> usize
-    ensures { result ≡ heldBy b }
+    ensures { result ≡ held_by b }
 {
     if b < 0x80 {
         return numbers::u8_to_usize(b);

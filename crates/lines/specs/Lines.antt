@@ -26,9 +26,9 @@ pub record Lines {A : Type 0} (text : A → List ℕ) (room : ℕ) (xs : List A)
   pub lent : new ≡ sets old 0 (lines text (take r.values xs))
 
 -- the first so many names of a size, and all of them
-unfoldable pub namesFrom : ℕ → ℕ → List ℕ → List (List ℕ)
-namesFrom zero size s = []
-namesFrom (suc n) size s = take size s ∷ namesFrom n size (drop size s)
+unfoldable pub names_from : ℕ → ℕ → List ℕ → List (List ℕ)
+names_from zero size s = []
+names_from (suc n) size s = take size s ∷ names_from n size (drop size s)
 
-unfoldable pub namesIn : ℕ → List ℕ → List (List ℕ)
-namesIn size s = namesFrom (length s / size) size s
+unfoldable pub names_in : ℕ → List ℕ → List (List ℕ)
+names_in size s = names_from (length s / size) size s

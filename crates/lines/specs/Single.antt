@@ -12,36 +12,36 @@ abbrev pub breaks : ℕ → ℕ → Bool
 breaks mark b = ltb b 32 || (eqb b 127 || eqb b mark)
 
 -- a byte as it is, or as \xNN with two digits in base 16
-abbrev pub byteText : ℕ → ℕ → List ℕ
-byteText mark b = cond (breaks mark b) (ascii "\\x" ++ digits 16 2 b) (b ∷ [])
+abbrev pub byte_text : ℕ → ℕ → List ℕ
+byte_text mark b = cond (breaks mark b) (ascii "\\x" ++ digits 16 2 b) (b ∷ [])
 
 unfoldable pub escaped : ℕ → List ℕ → List ℕ
 escaped mark [] = []
-escaped mark (b ∷ s) = byteText mark b ++ escaped mark s
+escaped mark (b ∷ s) = byte_text mark b ++ escaped mark s
 
 -- a string: bytes below 32 and 127 as \xNN, everything else as it stands
-abbrev pub stringText : List ℕ → List ℕ
-stringText s = escaped 127 s
+abbrev pub string_text : List ℕ → List ℕ
+string_text s = escaped 127 s
 
 -- a name: its control characters and backslashes as \xNN
-abbrev pub nameShown : List ℕ → List ℕ
-nameShown s = escaped 92 s
+abbrev pub name_shown : List ℕ → List ℕ
+name_shown s = escaped 92 s
 
 -- a tab, and what a field is
-abbrev pub sortText : Sort → List ℕ
-sortText Sort.Integer = ascii "\tinteger"
-sortText Sort.Float = ascii "\tfloat"
-sortText Sort.String = ascii "\tstring"
-sortText Sort.Array = ascii "\tarray"
-sortText Sort.Map = ascii "\tmap"
-sortText Sort.Column = ascii "\tcolumn"
-sortText Sort.Binary = ascii "\tbinary"
+abbrev pub sort_text : Sort → List ℕ
+sort_text Sort.Integer = ascii "\tinteger"
+sort_text Sort.Float = ascii "\tfloat"
+sort_text Sort.String = ascii "\tstring"
+sort_text Sort.Array = ascii "\tarray"
+sort_text Sort.Map = ascii "\tmap"
+sort_text Sort.Column = ascii "\tcolumn"
+sort_text Sort.Binary = ascii "\tbinary"
 
 -- a tab and a number, or - where there is none
-abbrev pub countText : Number → List ℕ
-countText (Number.Is n) = ascii "\t" ++ decimal n
-countText Number.None = ascii "\t-"
+abbrev pub count_text : Number → List ℕ
+count_text (Number.Is n) = ascii "\t" ++ decimal n
+count_text Number.None = ascii "\t-"
 
 -- the line of a field: its name, what it is, its codec and its length
-abbrev pub fieldText : List ℕ → Sort → Number → Number → List ℕ
-fieldText name sort codec length = nameShown name ++ (sortText sort ++ (countText codec ++ (countText length ++ ascii "\n")))
+abbrev pub field_text : List ℕ → Sort → Number → Number → List ℕ
+field_text name sort codec length = name_shown name ++ (sort_text sort ++ (count_text codec ++ (count_text length ++ ascii "\n")))

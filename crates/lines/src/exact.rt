@@ -1,9 +1,9 @@
 // The exact decimal of a finite float: its digits in an array, the lowest first, made by multiplying, and put as text from the highest on.
 ghost use Rattle.std.specs.Prelude.{◌≡◌, [], ◌∷◌, ℕ, ◌+◌, ◌-◌, ◌*◌, ◌^◌, ◌<◌, ◌≤◌, length, take, drop};
-ghost use Rattle.text.specs.Decimal.{decimalIn};
+ghost use Rattle.text.specs.Decimal.{decimal_in};
 ghost use Rattle.text.specs.Put.{Put};
 ghost use Rattle.lines.specs.Figures.{figures, value_of, glyphs, trimmed};
-ghost use Rattle.lines.specs.Decimals.{scaledText, binaryText, exactText};
+ghost use Rattle.lines.specs.Decimals.{scaled_text, binary_text, exact_text};
 
 // Room for the digits of a float: 149 after the point, and 39 before it.
 const ROOM: usize = 192;
@@ -12,7 +12,7 @@ const ROOM: usize = 192;
 pub(crate) fn put_exact(buffer: &mut [u8], at: usize, exponent: u32, fraction: u32) -> usize
     requires exponent_bound { exponent < 255 }
     requires fraction_bound { fraction < 0x80_0000 }
-    ensures { Put buffer.old at (exactText exponent fraction) buffer.new result }
+    ensures { Put buffer.old at (exact_text exponent fraction) buffer.new result }
 {
     if exponent == 0 {
         return put_binary(buffer, at, fraction, 1);
@@ -24,7 +24,7 @@ pub(crate) fn put_exact(buffer: &mut [u8], at: usize, exponent: u32, fraction: u
 fn put_binary(buffer: &mut [u8], at: usize, m: u32, exponent: u32) -> usize
     requires m_bound { m < 0x100_0000 }
     requires le_exponent { (1 ≤ exponent) × (exponent < 255) }
-    ensures { Put buffer.old at (binaryText m exponent) buffer.new result }
+    ensures { Put buffer.old at (binary_text m exponent) buffer.new result }
 {
     let mut row = blank();
     if exponent < 150 {
@@ -77,7 +77,7 @@ fn times(row: &mut [u8], factor: u32, more: u32)
 // Puts a number over 10 ^ k by its digits, of which 39 stand before the point.
 fn put_scaled(buffer: &mut [u8], at: usize, row: &[u8], k: usize) -> usize
     requires { length row.now ≡ k + 39 }
-    ensures { (n : ℕ) → row.now ≡ figures (k + 39) n → n < 10 ^ (k + 39) → Put buffer.old at (scaledText k n) buffer.new result }
+    ensures { (n : ℕ) → row.now ≡ figures (k + 39) n → n < 10 ^ (k + 39) → Put buffer.old at (scaled_text k n) buffer.new result }
 {
     let end = k + whole_count(&row[k..]);
     let point = put_row(buffer, at, &row[k..end]);
@@ -90,7 +90,7 @@ fn whole_count(row: &[u8]) -> usize
     requires { 1 ≤ length row.now }
     ensures within { result ≤ length row.now }
     ensures text { (n : ℕ) → row.now ≡ figures (length row.now) n → n < 10 ^ length row.now
-        → decimalIn (length row.now - 1) n ≡ glyphs (take result row.now) }
+        → decimal_in (length row.now - 1) n ≡ glyphs (take result row.now) }
 {
     let mut i = row.len();
     while 1 < i {

@@ -4,10 +4,10 @@ pub mod single;
 
 ghost use Rattle.std.specs.Prelude.{◌≡◌, ◌+◌, ◌<◌, ◌≤◌, length, take};
 ghost use Rattle.text.specs.Put.{Put};
-ghost use Rattle.lines.specs.Texts.{digits, places_of, fractionText, magnitudeText, numberText, signText};
-ghost use Rattle.lines.specs.Texts.{leadOf, scaledOf, exponentText, finiteText, specialText, bitsText, nameText};
-ghost use Rattle.lines.specs.Decimals.{floatText, float_in};
-ghost use Rattle.lines.specs.Lines.{line, Lines, namesIn};
+ghost use Rattle.lines.specs.Texts.{digits, places_of, fraction_text, magnitude_text, number_text, sign_text};
+ghost use Rattle.lines.specs.Texts.{lead_of, scaled_of, exponent_text, finite_text, special_text, bits_text, name_text};
+ghost use Rattle.lines.specs.Decimals.{float_text, float_in};
+ghost use Rattle.lines.specs.Lines.{line, Lines, names_in};
 
 // How many values were put as lines, and how many bytes these take.
 #[derive(Drop)]
@@ -39,7 +39,7 @@ const FLOAT_ROOM: usize = 192;
 // Numbers over a divisor, a line each: exactly so many decimal places if the divisor is a power of ten, else the number, a slash and
 // the divisor.
 pub fn number_lines(values: &[i32], divisor: u32, buffer: &mut [u8]) -> Gathered
-    ensures { Lines (numberText divisor) 32 values.now buffer.old buffer.new result }
+    ensures { Lines (number_text divisor) 32 values.now buffer.old buffer.new result }
 {
     let places = places_of(divisor);
     let mut at: usize = 0;
@@ -84,7 +84,7 @@ pub fn float_lines(values: &[u32], notation: Notation, buffer: &mut [u8]) -> Gat
 
 // Names of a size, a line each, without the 0 bytes at their ends. Characters are names of one byte.
 pub fn name_lines(names: &[u8], size: usize, buffer: &mut [u8]) -> Gathered
-    ensures { Lines nameText (size + 1) (namesIn size names.now) buffer.old buffer.new result }
+    ensures { Lines name_text (size + 1) (names_in size names.now) buffer.old buffer.new result }
 {
     let mut at: usize = 0;
     let mut i: usize = 0;
@@ -135,7 +135,7 @@ fn places_of(divisor: u32) -> Places
 // Puts the line of a number over a divisor.
 fn put_number(buffer: &mut [u8], at: usize, number: i32, divisor: u32, places: Places) -> usize
     requires { places ≡ places_of divisor }
-    ensures { Put buffer.old at (line (numberText divisor) number) buffer.new result }
+    ensures { Put buffer.old at (line (number_text divisor) number) buffer.new result }
 {
     let bits = numbers::to_u32(number);
     if bits < 0x8000_0000 {
@@ -150,7 +150,7 @@ fn put_number(buffer: &mut [u8], at: usize, number: i32, divisor: u32, places: P
 // Puts a number that is not negative, over a divisor.
 fn put_magnitude(buffer: &mut [u8], at: usize, number: u32, divisor: u32, places: Places) -> usize
     requires { places ≡ places_of divisor }
-    ensures { Put buffer.old at (magnitudeText divisor number) buffer.new result }
+    ensures { Put buffer.old at (magnitude_text divisor number) buffer.new result }
 {
     match places {
         Places::Exactly(k) => {
@@ -167,7 +167,7 @@ fn put_magnitude(buffer: &mut [u8], at: usize, number: u32, divisor: u32, places
 
 // Puts a point and the last k digits of a number; nothing where there are none.
 fn put_fraction(buffer: &mut [u8], at: usize, number: u32, k: usize) -> usize
-    ensures { Put buffer.old at (fractionText k number) buffer.new result }
+    ensures { Put buffer.old at (fraction_text k number) buffer.new result }
 {
     if k == 0 {
         return at;
@@ -200,7 +200,7 @@ fn put_in(buffer: &mut [u8], at: usize, bits: u32, notation: Notation) -> usize
 
 // Puts the line of a float in decimal.
 fn put_float(buffer: &mut [u8], at: usize, bits: u32) -> usize
-    ensures { Put buffer.old at (line floatText bits) buffer.new result }
+    ensures { Put buffer.old at (line float_text bits) buffer.new result }
 {
     let exponent = bits / 0x80_0000 % 256;
     if exponent == 255 {
@@ -213,7 +213,7 @@ fn put_float(buffer: &mut [u8], at: usize, bits: u32) -> usize
 
 // Puts the line of a float in hexadecimal.
 fn put_bits(buffer: &mut [u8], at: usize, bits: u32) -> usize
-    ensures { Put buffer.old at (line bitsText bits) buffer.new result }
+    ensures { Put buffer.old at (line bits_text bits) buffer.new result }
 {
     let exponent = bits / 0x80_0000 % 256;
     if exponent == 255 {
@@ -226,7 +226,7 @@ fn put_bits(buffer: &mut [u8], at: usize, bits: u32) -> usize
 
 // Puts the line of an infinity or of what is no number.
 fn put_special(buffer: &mut [u8], at: usize, bits: u32) -> usize
-    ensures { Put buffer.old at (line specialText bits) buffer.new result }
+    ensures { Put buffer.old at (line special_text bits) buffer.new result }
 {
     if bits % 0x80_0000 == 0 {
         let first = put_sign(buffer, at, bits);
@@ -237,7 +237,7 @@ fn put_special(buffer: &mut [u8], at: usize, bits: u32) -> usize
 
 // Puts the sign of a float.
 fn put_sign(buffer: &mut [u8], at: usize, bits: u32) -> usize
-    ensures { Put buffer.old at (signText bits) buffer.new result }
+    ensures { Put buffer.old at (sign_text bits) buffer.new result }
 {
     if bits < 0x8000_0000 {
         return at;
@@ -248,7 +248,7 @@ fn put_sign(buffer: &mut [u8], at: usize, bits: u32) -> usize
 // Puts the digits and the power of two of a float.
 fn put_finite(buffer: &mut [u8], at: usize, exponent: u32, fraction: u32) -> usize
     requires { fraction < 0x80_0000 }
-    ensures { Put buffer.old at (finiteText exponent fraction) buffer.new result }
+    ensures { Put buffer.old at (finite_text exponent fraction) buffer.new result }
 {
     let lead = text::put(buffer, at, b"0x");
     let point = text::put_byte(buffer, lead, text::digit(lead_of(exponent)));
@@ -259,14 +259,14 @@ fn put_finite(buffer: &mut [u8], at: usize, exponent: u32, fraction: u32) -> usi
 
 // The digit before the point: 0 for zero and subnormal floats.
 fn lead_of(exponent: u32) -> u32
-    ensures { result ≡ leadOf exponent }
+    ensures { result ≡ lead_of exponent }
 {
     if exponent == 0 { 0 } else { 1 }
 }
 
 // The exponent that counts: that of subnormal floats is 1, and zero is written with the power 0.
 fn scaled_of(exponent: u32, fraction: u32) -> u32
-    ensures { result ≡ scaledOf exponent fraction }
+    ensures { result ≡ scaled_of exponent fraction }
 {
     if exponent != 0 {
         return exponent;
@@ -276,7 +276,7 @@ fn scaled_of(exponent: u32, fraction: u32) -> u32
 
 // Puts the power of two of an exponent.
 fn put_exponent(buffer: &mut [u8], at: usize, exponent: u32) -> usize
-    ensures { Put buffer.old at (exponentText exponent) buffer.new result }
+    ensures { Put buffer.old at (exponent_text exponent) buffer.new result }
 {
     if exponent < 127 {
         let size = text::put(buffer, at, b"p-");
@@ -288,7 +288,7 @@ fn put_exponent(buffer: &mut [u8], at: usize, exponent: u32) -> usize
 
 // Puts the line of a name.
 fn put_name(buffer: &mut [u8], at: usize, name: &[u8]) -> usize
-    ensures { Put buffer.old at (line nameText name.now) buffer.new result }
+    ensures { Put buffer.old at (line name_text name.now) buffer.new result }
 {
     let n = text_length(name);
     let end = text::put(buffer, at, &name[..n]);
@@ -298,7 +298,7 @@ fn put_name(buffer: &mut [u8], at: usize, name: &[u8]) -> usize
 // How many bytes of a name stand before the first that is 0.
 fn text_length(name: &[u8]) -> usize
     ensures within { result ≤ length name.now }
-    ensures text { take result name.now ≡ nameText name.now }
+    ensures text { take result name.now ≡ name_text name.now }
 {
     let mut i: usize = 0;
     while i < name.len() {

@@ -2,10 +2,10 @@
 // would break a line are put as \xNN. Every call is total: of what goes beyond the buffer's end nothing is put.
 ghost use Rattle.std.specs.Prelude.{◌≡◌};
 ghost use Rattle.text.specs.Put.{Put};
-ghost use Rattle.lines.specs.Texts.{numberText};
-ghost use Rattle.lines.specs.Decimals.{floatText};
+ghost use Rattle.lines.specs.Texts.{number_text};
+ghost use Rattle.lines.specs.Decimals.{float_text};
 ghost use Rattle.lines.specs.Lines.{line};
-ghost use Rattle.lines.specs.Single.{breaks, byteText, escaped, sortText, countText, fieldText, stringText};
+ghost use Rattle.lines.specs.Single.{breaks, byte_text, escaped, sort_text, count_text, field_text, string_text};
 
 use crate::Places;
 use text::Number;
@@ -36,7 +36,7 @@ pub fn put_field(
     codec: Number,
     length: Number,
 ) -> usize
-    ensures { Put buffer.old at (fieldText name.now sort codec length) buffer.new result }
+    ensures { Put buffer.old at (field_text name.now sort codec length) buffer.new result }
 {
     let first = put_escaped(buffer, at, name, BACKSLASH);
     let second = put_sort(buffer, first, sort);
@@ -47,7 +47,7 @@ pub fn put_field(
 
 // Puts the line of a string.
 pub fn put_string(buffer: &mut [u8], at: usize, bytes: &[u8]) -> usize
-    ensures { Put buffer.old at (line stringText bytes.now) buffer.new result }
+    ensures { Put buffer.old at (line string_text bytes.now) buffer.new result }
 {
     let end = put_escaped(buffer, at, bytes, DELETE);
     text::put_byte(buffer, end, b'\n')
@@ -55,14 +55,14 @@ pub fn put_string(buffer: &mut [u8], at: usize, bytes: &[u8]) -> usize
 
 // Puts the line of an integer.
 pub fn put_integer(buffer: &mut [u8], at: usize, value: i32) -> usize
-    ensures { Put buffer.old at (line (numberText 1) value) buffer.new result }
+    ensures { Put buffer.old at (line (number_text 1) value) buffer.new result }
 {
     crate::put_number(buffer, at, value, 1, Places::Exactly(0))
 }
 
 // Puts the line of a float by its bits.
 pub fn put_float(buffer: &mut [u8], at: usize, bits: u32) -> usize
-    ensures { Put buffer.old at (line floatText bits) buffer.new result }
+    ensures { Put buffer.old at (line float_text bits) buffer.new result }
 {
     crate::put_float(buffer, at, bits)
 }
@@ -82,7 +82,7 @@ fn put_escaped(buffer: &mut [u8], at: usize, bytes: &[u8], mark: u8) -> usize
 
 // Puts a byte, as \xNN if it breaks a line or is the mark.
 fn put_shown(buffer: &mut [u8], at: usize, byte: u8, mark: u8) -> usize
-    ensures { Put buffer.old at (byteText mark byte) buffer.new result }
+    ensures { Put buffer.old at (byte_text mark byte) buffer.new result }
 {
     if breaks_line(byte, mark) {
         let digits = text::put(buffer, at, b"\\x");
@@ -106,7 +106,7 @@ fn breaks_line(byte: u8, mark: u8) -> bool
 
 // Puts a tab and what a field is.
 fn put_sort(buffer: &mut [u8], at: usize, sort: Sort) -> usize
-    ensures { Put buffer.old at (sortText sort) buffer.new result }
+    ensures { Put buffer.old at (sort_text sort) buffer.new result }
 {
     match sort {
         Sort::Integer => text::put(buffer, at, b"\tinteger"),
@@ -121,7 +121,7 @@ fn put_sort(buffer: &mut [u8], at: usize, sort: Sort) -> usize
 
 // Puts a tab and a number, or - where there is none.
 fn put_count(buffer: &mut [u8], at: usize, count: Number) -> usize
-    ensures { Put buffer.old at (countText count) buffer.new result }
+    ensures { Put buffer.old at (count_text count) buffer.new result }
 {
     match count {
         Number::Is(n) => {

@@ -2,8 +2,8 @@
 // read by `words_in`, which reads any table of numbered words.
 ghost use Rattle.std.specs.Prelude.{◌≡◌, length};
 ghost use Rattle.text.specs.Put.{Put};
-ghost use Rattle.meanings.specs.Meanings.{meaningOf, meaningAnswer, meaningBuffer};
-ghost use Rattle.meanings.specs.Steps.{words_in, lineEnd};
+ghost use Rattle.meanings.specs.Meanings.{meaning_of, meaning_answer, meaning_buffer};
+ghost use Rattle.meanings.specs.Steps.{words_in, line_end};
 
 use refusal::Answer;
 
@@ -12,8 +12,8 @@ const ROOM: usize = 64;
 
 // Writes the meaning of a number into the buffer: 28 for a number that the table does not have, then 25.
 pub fn write(number: u8, buffer: &mut [u8]) -> Answer
-    ensures answer { result ≡ meaningAnswer number (length buffer.old) }
-    ensures buffer { buffer.new ≡ meaningBuffer number buffer.old }
+    ensures answer { result ≡ meaning_answer number (length buffer.old) }
+    ensures buffer { buffer.new ≡ meaning_buffer number buffer.old }
 {
     let mut page = [0u8; ROOM];
     let end = put_meaning(&mut page, 0, number);
@@ -30,7 +30,7 @@ pub fn write(number: u8, buffer: &mut [u8]) -> Answer
 // Puts the meaning of a number at a place, and gives the place after it; nothing for a number that the table does not have. The table has for each
 // number a byte with the number, its meaning, and a line feed.
 pub fn put_meaning(buffer: &mut [u8], at: usize, number: u8) -> usize
-    ensures { Put buffer.old at (meaningOf number) buffer.new result }
+    ensures { Put buffer.old at (meaning_of number) buffer.new result }
 {
     let words = words_in(
         b"\x00accepted\n\
@@ -93,7 +93,7 @@ fn wide(byte: u8) -> u32
 
 // Where the line of a place ends: at its line feed, or where the bytes end.
 fn line_end(bytes: &[u8], at: usize) -> usize
-    ensures { result ≡ lineEnd bytes.now at }
+    ensures { result ≡ line_end bytes.now at }
 {
     let mut i = at;
     while i < bytes.len() {

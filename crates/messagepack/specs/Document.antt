@@ -1,7 +1,7 @@
 -- Documents, and the bytes that are their writings (paper 01, "Lead bytes"). No reader, no place and no lemma stands here.
 -- Assumes nothing.
 use Rattle.std.specs.Prelude.{◌≡◌, ℕ, zero, suc, ◌-◌, ◌*◌, ◌^◌, cond, ◌⊎◌, List, [], ◌++◌, length, ℤ, pos, negsuc, nat_lt}
-use Rattle.heads.specs.Lead.{moreOf}
+use Rattle.heads.specs.Lead.{more_of}
 use Rattle.heads.specs.Head.{HeadOf}
 use Rattle.heads.specs.declared.Kind.{Kind}
 
@@ -36,9 +36,9 @@ size empty = zero
 size (entry k d es) = suc (size es)
 
 -- the integer of a signed head that holds n: -32 to -1 in a lead byte e0 to ff itself, two's complement in the k bytes after any other
-abbrev pub signedValue : ℕ → ℕ → ℤ
-signedValue zero n = negsuc (31 - n)
-signedValue (suc k) n = cond (nat_lt n (2 ^ (8 * suc k - 1))) (pos n) (negsuc (2 ^ (8 * suc k) - 1 - n))
+abbrev pub signed_value : ℕ → ℕ → ℤ
+signed_value zero n = negsuc (31 - n)
+signed_value (suc k) n = cond (nat_lt n (2 ^ (8 * suc k - 1))) (pos n) (negsuc (2 ^ (8 * suc k) - 1 - n))
 
 -- an integer by an unsigned head
 pub record UnsignedOf (v : ℤ) (w : List ℕ) : Type 0 where
@@ -50,7 +50,7 @@ pub record UnsignedOf (v : ℤ) (w : List ℕ) : Type 0 where
 pub record SignedOf (v : ℤ) (w : List ℕ) : Type 0 where
   pub n : ℕ
   pub head : HeadOf Kind.Signed n w
-  pub is : v ≡ signedValue (moreOf head.lead) n
+  pub is : v ≡ signed_value (more_of head.lead) n
 
 -- a string or a binary: a head of that kind that holds the length, and the bytes t
 pub record TextOf (k : Kind) (t : List ℕ) (w : List ℕ) : Type 0 where

@@ -1,47 +1,47 @@
 -- The tables of keys that the walk lends down: a row for each key of each map that is open, as many for each level as a map has entries at most.
 -- Contracts of functions inside this crate cite these; no public contract does. No lemma stands here. Assumes nothing.
 use Rattle.std.specs.Prelude.{◌≡◌, ℕ, zero, suc, ◌+◌, ◌-◌, ◌*◌, ◌%◌, ◌<◌, ◌≤◌, true, false, cond, List, [], ◌∷◌, length, take, drop, nat_le, slice_index, slice_index_or, slice_set}
-use Rattle.refusal.specs.Table.{keyRepeated}
-use Rattle.numbers.specs.BigEndian.{unsignedAt}
-use Rattle.heads.specs.Table.{leadTable}
-use Rattle.heads.specs.Head.{kind_at, headAt}
+use Rattle.refusal.specs.Table.{key_repeated}
+use Rattle.numbers.specs.BigEndian.{unsigned_at}
+use Rattle.heads.specs.Table.{lead_table}
+use Rattle.heads.specs.Head.{kind_at, head_at}
 use Rattle.heads.specs.declared.Kind.{Kind}
 use Rattle.heads.specs.declared.Head.{Head}
-use Rattle.messagepack.specs.Limits.{fileLimit, nestingLimit, entryLimit}
-use Rattle.messagepack.specs.Walk.{key_at, among, manyAt, entries_at, value_at}
-use Rattle.messagepack.specs.Outer.{keysFrom}
+use Rattle.messagepack.specs.Limits.{file_limit, nesting_limit, entry_limit}
+use Rattle.messagepack.specs.Walk.{key_at, among, many_at, entries_at, value_at}
+use Rattle.messagepack.specs.Outer.{keys_from}
 use Rattle.messagepack.specs.declared.Walk.{Walk}
 use Rattle.messagepack.specs.declared.Text.{Text}
 
 -- the rows of the largest map for each level
-abbrev pub tableLength : ℕ
-tableLength = nestingLimit * entryLimit
+abbrev pub table_length : ℕ
+table_length = nesting_limit * entry_limit
 
 -- the number of a key's first four bytes and its last four; of its last two where it has fewer, and 0 where it has fewer than that
-abbrev pub endsOf : List ℕ → ℕ
-endsOf k = cond (nat_le 4 (length k)) ((unsignedAt 4 k 0 + unsignedAt 4 k (length k - 4)) % 4294967296) (unsignedAt 2 k (length k - 2))
+abbrev pub ends_of : List ℕ → ℕ
+ends_of k = cond (nat_le 4 (length k)) ((unsigned_at 4 k 0 + unsigned_at 4 k (length k - 4)) % 4294967296) (unsigned_at 2 k (length k - 2))
 
 -- a key's print: a number of its length and its first and last bytes, which equal keys share
-unfoldable pub printOf : List ℕ → ℕ
-printOf k = (length k % 65536 * 65536 + endsOf k) % 4294967296
+unfoldable pub print_of : List ℕ → ℕ
+print_of k = (length k % 65536 * 65536 + ends_of k) % 4294967296
 
 -- the bytes of a key
-abbrev pub keyBytes : List ℕ → Text → List ℕ
-keyBytes s (Text.At a m) = take m (drop a s)
-keyBytes s (Text.Refused e) = []
+abbrev pub key_bytes : List ℕ → Text → List ℕ
+key_bytes s (Text.At a m) = take m (drop a s)
+key_bytes s (Text.Refused e) = []
 
 -- the bytes of the key at a place
-abbrev pub keyHere : List ℕ → ℕ → List ℕ
-keyHere s at = keyBytes s (key_at s at)
+abbrev pub key_here : List ℕ → ℕ → List ℕ
+key_here s at = key_bytes s (key_at s at)
 
 -- the keys in the first n rows, the last first: each row has the place where its key starts
 unfoldable pub keys_of : List ℕ → List ℕ → ℕ → List (List ℕ)
 keys_of s starts zero = []
-keys_of s starts (suc n) = keyHere s (slice_index starts n) ∷ keys_of s starts n
+keys_of s starts (suc n) = key_here s (slice_index starts n) ∷ keys_of s starts n
 
 -- the keys in the rows from base up to end
-abbrev pub keysIn : List ℕ → List ℕ → ℕ → ℕ → List (List ℕ)
-keysIn s starts base end = keys_of s (drop base starts) (end - base)
+abbrev pub keys_in : List ℕ → List ℕ → ℕ → ℕ → List (List ℕ)
+keys_in s starts base end = keys_of s (drop base starts) (end - base)
 
 -- a key stands at a place
 pub record KeyThere (s : List ℕ) (at : ℕ) : Type 0 where
@@ -52,7 +52,7 @@ pub record KeyThere (s : List ℕ) (at : ℕ) : Type 0 where
 -- a row holds the place of a key, and its print
 pub record RowHolds (s starts prints : List ℕ) (i : ℕ) : Type 0 where
   pub key : KeyThere s (slice_index starts i)
-  pub print : slice_index_or prints i 0 ≡ printOf (keyHere s (slice_index starts i))
+  pub print : slice_index_or prints i 0 ≡ print_of (key_here s (slice_index starts i))
 
 -- each of the first n rows holds the place of a key, and its print
 unfoldable pub Stored : List ℕ → List ℕ → List ℕ → ℕ → Type 0
@@ -60,16 +60,16 @@ Stored s starts prints n = (i : ℕ) → i < n → RowHolds s starts prints i
 
 -- a walk with so many levels left may begin
 pub record Free (leads s : List ℕ) (depth : ℕ) (starts prints : List ℕ) : Type 0 where
-  pub small : length s ≤ fileLimit
-  pub table : leads ≡ leadTable
-  pub levels : depth ≤ nestingLimit
-  pub starts-long : length starts ≡ tableLength
-  pub prints-long : length prints ≡ tableLength
+  pub small : length s ≤ file_limit
+  pub table : leads ≡ lead_table
+  pub levels : depth ≤ nesting_limit
+  pub starts-long : length starts ≡ table_length
+  pub prints-long : length prints ≡ table_length
 
 -- the rows above those of the levels left are as they were
 pub record Kept (depth : ℕ) (old new : List ℕ) : Type 0 where
-  pub long : length new ≡ tableLength
-  pub same : drop (depth * entryLimit) new ≡ drop (depth * entryLimit) old
+  pub long : length new ≡ table_length
+  pub same : drop (depth * entry_limit) new ≡ drop (depth * entry_limit) old
 
 -- a walk's answer, with the tables before and after
 pub record KeysWalked (expected : Walk) (depth : ℕ) (starts prints : List ℕ) (r : Walk) (starts' prints' : List ℕ) : Type 0 where
@@ -82,15 +82,15 @@ abbrev pub ValueWalked : List ℕ → ℕ → ℕ → List ℕ → List ℕ → 
 ValueWalked s depth at starts prints r starts' prints' = KeysWalked (value_at s depth at) depth starts prints r starts' prints'
 
 abbrev pub ItemsWalked : List ℕ → ℕ → ℕ → ℕ → List ℕ → List ℕ → Walk → List ℕ → List ℕ → Type 0
-ItemsWalked s depth n at starts prints r starts' prints' = KeysWalked (manyAt (value_at s depth) n at) depth starts prints r starts' prints'
+ItemsWalked s depth n at starts prints r starts' prints' = KeysWalked (many_at (value_at s depth) n at) depth starts prints r starts' prints'
 
 abbrev pub EntriesWalked : List ℕ → ℕ → ℕ → ℕ → List ℕ → List ℕ → Walk → List ℕ → List ℕ → Type 0
 EntriesWalked s depth n at starts prints r starts' prints' = KeysWalked (entries_at s (value_at s depth) n at) (depth + 1) starts prints r starts' prints'
 
 -- a map of n entries has been walked with so many levels left for its values: the rows of its level have the places of its keys
 pub record MapNoted (s : List ℕ) (levels n at : ℕ) (starts : List ℕ) : Type 0 where
-  pub few : n ≤ entryLimit
-  pub places : take n (drop (levels * entryLimit) starts) ≡ keysFrom s levels n at
+  pub few : n ≤ entry_limit
+  pub places : take n (drop (levels * entry_limit) starts) ≡ keys_from s levels n at
 
 -- if n entries end, the rows of their level have the places of their keys
 pub record EntriesNoted (s : List ℕ) (levels n at : ℕ) (r : Walk) (starts : List ℕ) : Type 0 where
@@ -98,25 +98,25 @@ pub record EntriesNoted (s : List ℕ) (levels n at : ℕ) (r : Walk) (starts : 
 
 -- if the value at a place is a map and ends, the rows of its level have the places of its keys
 pub record ValueNoted (s : List ℕ) (depth at : ℕ) (r : Walk) (starts : List ℕ) : Type 0 where
-  pub says : (n p e : ℕ) → kind_at s at ≡ Kind.Map → headAt s at ≡ Head.At n p → r ≡ Walk.End e → MapNoted s (depth - 1) n p starts
+  pub says : (n p e : ℕ) → kind_at s at ≡ Kind.Map → head_at s at ≡ Head.At n p → r ≡ Walk.End e → MapNoted s (depth - 1) n p starts
 
 -- the rows from base up to end hold keys, and there is a row after them
 pub record Rows (s : List ℕ) (base end : ℕ) (starts prints : List ℕ) : Type 0 where
-  pub small : length s ≤ fileLimit
+  pub small : length s ≤ file_limit
   pub order : base ≤ end
-  pub room : end < tableLength
-  pub starts-long : length starts ≡ tableLength
-  pub prints-long : length prints ≡ tableLength
+  pub room : end < table_length
+  pub starts-long : length starts ≡ table_length
+  pub prints-long : length prints ≡ table_length
   pub stored : Stored s (drop base starts) (drop base prints) (end - base)
 
 -- the key at a place is sought among them
 pub record Sought (s : List ℕ) (base end : ℕ) (starts prints : List ℕ) (at print : ℕ) : Type 0 where
   pub rows : Rows s base end starts prints
   pub key : KeyThere s at
-  pub is : print ≡ printOf (keyHere s at)
+  pub is : print ≡ print_of (key_here s at)
 
 -- what comes of the key at a place: a refusal, with the tables as they were; or its end, and a row more
 pub data KeyNoted (s : List ℕ) (at base end : ℕ) (starts prints : List ℕ) : Walk → List ℕ → List ℕ → Type 0 where
   refused : {e : ℕ} → key_at s at ≡ Text.Refused e → KeyNoted s at base end starts prints (Walk.Refused e) starts prints
-  repeated : {a m : ℕ} → key_at s at ≡ Text.At a m → among (keyHere s at) (keysIn s starts base end) ≡ true → KeyNoted s at base end starts prints (Walk.Refused keyRepeated) starts prints
-  noted : {a m print : ℕ} → key_at s at ≡ Text.At a m → Sought s base end starts prints at print → among (keyHere s at) (keysIn s starts base end) ≡ false → KeyNoted s at base end starts prints (Walk.End (a + m)) (slice_set starts end at) (slice_set prints end print)
+  repeated : {a m : ℕ} → key_at s at ≡ Text.At a m → among (key_here s at) (keys_in s starts base end) ≡ true → KeyNoted s at base end starts prints (Walk.Refused key_repeated) starts prints
+  noted : {a m print : ℕ} → key_at s at ≡ Text.At a m → Sought s base end starts prints at print → among (key_here s at) (keys_in s starts base end) ≡ false → KeyNoted s at base end starts prints (Walk.End (a + m)) (slice_set starts end at) (slice_set prints end print)

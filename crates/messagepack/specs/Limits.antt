@@ -2,13 +2,13 @@
 use Rattle.std.specs.Prelude.{ℕ}
 
 -- the bytes of a file
-abbrev pub fileLimit : ℕ
-fileLimit = 67108864
+abbrev pub file_limit : ℕ
+file_limit = 67108864
 
 -- arrays and maps in one another, the outer map included
-abbrev pub nestingLimit : ℕ
-nestingLimit = 12
+abbrev pub nesting_limit : ℕ
+nesting_limit = 12
 
 -- the entries of a map
-abbrev pub entryLimit : ℕ
-entryLimit = 256
+abbrev pub entry_limit : ℕ
+entry_limit = 256

@@ -4,18 +4,18 @@
 // The places of the outer keys are handed over, so that nothing walks a file again to find them.
 ghost use Rattle.std.specs.Prelude.{◌≡◌, ℕ, ◌+◌, ◌*◌, ◌<◌, ◌≤◌, true, false, ◌↔◌, length, take, drop, ◌≢◌, slice_index};
 ghost use Rattle.refusal.specs.Answer.{answered, leaves};
-ghost use Rattle.numbers.specs.BigEndian.{unsignedAt};
+ghost use Rattle.numbers.specs.BigEndian.{unsigned_at};
 ghost use Rattle.text.specs.Equal.{equal};
-ghost use Rattle.utf8.specs.Check.{isAscii};
-ghost use Rattle.heads.specs.Table.{leadTable};
+ghost use Rattle.utf8.specs.Check.{is_ascii};
+ghost use Rattle.heads.specs.Table.{lead_table};
 ghost use Rattle.heads.specs.Head.{kind_at};
-ghost use Rattle.messagepack.specs.Limits.{fileLimit, entryLimit};
+ghost use Rattle.messagepack.specs.Limits.{file_limit, entry_limit};
 ghost use Rattle.messagepack.specs.Rules.{Container};
-ghost use Rattle.messagepack.specs.Walk.{body_at, textAt, key_at, integerAt, plainAt, binaryAt, stringAt, among, containerNumber};
-ghost use Rattle.messagepack.specs.Keys.{printOf, keyHere, keysIn, KeyThere, tableLength, Free, KeyNoted};
+ghost use Rattle.messagepack.specs.Walk.{body_at, text_at, key_at, integer_at, plain_at, binary_at, string_at, among, container_number};
+ghost use Rattle.messagepack.specs.Keys.{print_of, key_here, keys_in, KeyThere, table_length, Free, KeyNoted};
 ghost use Rattle.messagepack.specs.Keys.{ValueWalked, ItemsWalked, EntriesWalked, ValueNoted, EntriesNoted, Rows, Sought};
-ghost use Rattle.messagepack.specs.Outer.{outerLevels, keysAnswer, keysLeave};
-ghost use Rattle.messagepack.specs.Quick.{leafOf, leafAt, QuickSays, ShortSays, RunSays};
+ghost use Rattle.messagepack.specs.Outer.{outer_levels, keys_answer, keys_leave};
+ghost use Rattle.messagepack.specs.Quick.{leaf_of, leaf_at, QuickSays, ShortSays, RunSays};
 
 use heads::{Head, Kind};
 use refusal::Answer;
@@ -81,7 +81,7 @@ pub enum Short {
 
 // The refusal of a file as a container, 1 to 11, or 0.
 pub fn container(file: &[u8]) -> u8
-    ensures number { result ≡ containerNumber file.now }
+    ensures number { result ≡ container_number file.now }
     ensures exactly { (result ≡ 0) ↔ Container file.now }
 {
     let mut places = no_places();
@@ -93,8 +93,8 @@ pub fn container(file: &[u8]) -> u8
 
 // Walks a file, and puts the places of its outer keys, in their order, into a buffer: how many there are, the container's number, or 25.
 pub fn keys(file: &[u8], places: &mut [u32]) -> Answer
-    ensures answer { result ≡ keysAnswer file.now (length places.old) }
-    ensures places { places.new ≡ keysLeave file.now places.old }
+    ensures answer { result ≡ keys_answer file.now (length places.old) }
+    ensures places { places.new ≡ keys_leave file.now places.old }
 {
     if FILE_LIMIT < file.len() {
         return Answer::Refused(refusal::FILE_OVER_LIMIT);
@@ -128,8 +128,8 @@ fn body_at(file: &[u8], n: usize, p: usize) -> Walk
 
 // The string whose head is at a place.
 fn text_at(leads: &[u8; 256], file: &[u8], at: usize) -> Text
-    requires { leads.now ≡ leadTable }
-    ensures { result ≡ textAt file.now at }
+    requires { leads.now ≡ lead_table }
+    ensures { result ≡ text_at file.now at }
 {
     match heads::head_at(leads, file, at) {
         Head::Cut => Text::Refused(refusal::CUT_SHORT),
@@ -148,7 +148,7 @@ fn text_at(leads: &[u8; 256], file: &[u8], at: usize) -> Text
 
 // The key that starts at a place.
 fn key_at(leads: &[u8; 256], file: &[u8], at: usize) -> Text
-    requires { leads.now ≡ leadTable }
+    requires { leads.now ≡ lead_table }
     ensures { result ≡ key_at file.now at }
 {
     if let Short::At(p, n) = short_key(file, at) {
@@ -253,7 +253,7 @@ fn short_key(file: &[u8], at: usize) -> Short
 
 // True only if all bytes are below 0x80: they are looked at four at a time, and the last four may overlap others.
 fn all_low(bytes: &[u8]) -> bool
-    ensures { result ≡ true → isAscii bytes.now ≡ true }
+    ensures { result ≡ true → is_ascii bytes.now ≡ true }
 {
     if bytes.len() < 4 {
         return utf8::is_ascii(bytes);
@@ -303,8 +303,8 @@ fn holds_few(file: &[u8], at: usize) -> bool
 
 // The value at a place if it holds no others.
 fn leaf_at(leads: &[u8; 256], file: &[u8], at: usize) -> Leaf
-    requires { leads.now ≡ leadTable }
-    ensures { result ≡ leafAt file.now at }
+    requires { leads.now ≡ lead_table }
+    ensures { result ≡ leaf_at file.now at }
 {
     match heads::kind_at(leads, file, at) {
         Kind::Missing => Leaf::Refused(refusal::CUT_SHORT),
@@ -320,7 +320,7 @@ fn leaf_at(leads: &[u8; 256], file: &[u8], at: usize) -> Leaf
 }
 
 fn as_leaf(walk: Walk) -> Leaf
-    ensures { result ≡ leafOf walk }
+    ensures { result ≡ leaf_of walk }
 {
     match walk {
         Walk::End(p) => Leaf::End(p),
@@ -330,8 +330,8 @@ fn as_leaf(walk: Walk) -> Leaf
 
 // An integer by an unsigned head.
 fn integer_at(leads: &[u8; 256], file: &[u8], at: usize) -> Walk
-    requires { leads.now ≡ leadTable }
-    ensures { result ≡ integerAt file.now at }
+    requires { leads.now ≡ lead_table }
+    ensures { result ≡ integer_at file.now at }
 {
     match heads::head_at(leads, file, at) {
         Head::Cut => Walk::Refused(refusal::CUT_SHORT),
@@ -347,8 +347,8 @@ fn integer_at(leads: &[u8; 256], file: &[u8], at: usize) -> Walk
 
 // A value that is its head alone: an integer by a signed head, or a float.
 fn plain_at(leads: &[u8; 256], file: &[u8], at: usize) -> Walk
-    requires { leads.now ≡ leadTable }
-    ensures { result ≡ plainAt file.now at }
+    requires { leads.now ≡ lead_table }
+    ensures { result ≡ plain_at file.now at }
 {
     match heads::head_at(leads, file, at) {
         Head::Cut => Walk::Refused(refusal::CUT_SHORT),
@@ -357,8 +357,8 @@ fn plain_at(leads: &[u8; 256], file: &[u8], at: usize) -> Walk
 }
 
 fn binary_at(leads: &[u8; 256], file: &[u8], at: usize) -> Walk
-    requires { leads.now ≡ leadTable }
-    ensures { result ≡ binaryAt file.now at }
+    requires { leads.now ≡ lead_table }
+    ensures { result ≡ binary_at file.now at }
 {
     match heads::head_at(leads, file, at) {
         Head::Cut => Walk::Refused(refusal::CUT_SHORT),
@@ -367,8 +367,8 @@ fn binary_at(leads: &[u8; 256], file: &[u8], at: usize) -> Walk
 }
 
 fn string_at(leads: &[u8; 256], file: &[u8], at: usize) -> Walk
-    requires { leads.now ≡ leadTable }
-    ensures { result ≡ stringAt file.now at }
+    requires { leads.now ≡ lead_table }
+    ensures { result ≡ string_at file.now at }
 {
     match text_at(leads, file, at) {
         Text::Refused(e) => Walk::Refused(e),
@@ -378,9 +378,9 @@ fn string_at(leads: &[u8; 256], file: &[u8], at: usize) -> Walk
 
 // The walk of the outer map, with the tables of keys, and nothing after it; then the places of its keys are handed over.
 fn outer(leads: &[u8; 256], file: &[u8], places: &mut [u32]) -> Answer
-    requires { (leads.now ≡ leadTable) × ((length file.now ≤ fileLimit) × (kind_at file.now 0 ≡ Kind.Map)) }
-    ensures answer { result ≡ keysAnswer file.now (length places.old) }
-    ensures places { places.new ≡ keysLeave file.now places.old }
+    requires { (leads.now ≡ lead_table) × ((length file.now ≤ file_limit) × (kind_at file.now 0 ≡ Kind.Map)) }
+    ensures answer { result ≡ keys_answer file.now (length places.old) }
+    ensures places { places.new ≡ keys_leave file.now places.old }
 {
     let Head::At(n, _) = heads::head_at(leads, file, 0) else {
         return Answer::Refused(refusal::CUT_SHORT);
@@ -401,9 +401,9 @@ fn outer(leads: &[u8; 256], file: &[u8], places: &mut [u32]) -> Answer
 
 // Puts the first n rows of the outer map into a buffer.
 fn hand_over(starts: &[u32; KEY_ROWS], n: usize, places: &mut [u32]) -> Answer
-    requires { (length starts.now ≡ tableLength) × (n ≤ entryLimit) }
+    requires { (length starts.now ≡ table_length) × (n ≤ entry_limit) }
     ensures answer { result ≡ answered n (length places.old) }
-    ensures places { places.new ≡ leaves (take n (drop (outerLevels * entryLimit) starts.now)) places.old }
+    ensures places { places.new ≡ leaves (take n (drop (outer_levels * entry_limit) starts.now)) places.old }
 {
     if places.len() < n {
         return Answer::Refused(refusal::BUFFER_TOO_SMALL);
@@ -418,14 +418,14 @@ fn hand_over(starts: &[u32; KEY_ROWS], n: usize, places: &mut [u32]) -> Answer
 
 // Room for the places of the outer keys.
 fn no_places() -> [u32; ENTRY_LIMIT]
-    ensures { length result ≡ entryLimit }
+    ensures { length result ≡ entry_limit }
 {
     [0u32; ENTRY_LIMIT]
 }
 
 // A table of keys with nothing in it.
 fn no_keys() -> [u32; KEY_ROWS]
-    ensures { length result ≡ tableLength }
+    ensures { length result ≡ table_length }
 {
     [0u32; KEY_ROWS]
 }
@@ -534,7 +534,7 @@ fn array(
 
 // Past the first of n values from a place on that hold no others.
 fn leaves(leads: &[u8; 256], file: &[u8], at: usize, n: usize) -> Run
-    requires { leads.now ≡ leadTable }
+    requires { leads.now ≡ lead_table }
     ensures { RunSays file.now at n result.at result.left }
 {
     let mut left = n;
@@ -551,7 +551,7 @@ fn leaves(leads: &[u8; 256], file: &[u8], at: usize, n: usize) -> Run
 
 // The end of a value at a place that holds no others and is not refused.
 fn leaf_end(leads: &[u8; 256], file: &[u8], at: usize) -> Quick
-    requires { leads.now ≡ leadTable }
+    requires { leads.now ≡ lead_table }
     ensures { QuickSays file.now at result }
 {
     if let Quick::End(p) = quick_at(file, at) {
@@ -622,7 +622,7 @@ fn new_key(
     starts: &mut [u32; KEY_ROWS],
     prints: &mut [u32; KEY_ROWS],
 ) -> Walk
-    requires { (leads.now ≡ leadTable) × Rows file.now base end starts.old prints.old }
+    requires { (leads.now ≡ lead_table) × Rows file.now base end starts.old prints.old }
     ensures { KeyNoted file.now at base end starts.old prints.old result starts.new prints.new }
 {
     match key_at(leads, file, at) {
@@ -650,8 +650,8 @@ fn seen(
     at: usize,
     print: u32,
 ) -> bool
-    requires { (leads.now ≡ leadTable) × Sought file.now base end starts.now prints.now at print }
-    ensures { result ≡ among (keyHere file.now at) (keysIn file.now starts.now base end) }
+    requires { (leads.now ≡ lead_table) × Sought file.now base end starts.now prints.now at print }
+    ensures { result ≡ among (key_here file.now at) (keys_in file.now starts.now base end) }
 {
     if hits(prints, base, end, print) == 0 {
         return false;
@@ -670,7 +670,7 @@ fn seen(
 
 // How many rows from base up to end have a print: it goes through all of them, so that several are compared at a time.
 fn hits(prints: &[u32; KEY_ROWS], base: usize, end: usize, print: u32) -> u32
-    requires { (base ≤ end) × (end ≤ tableLength) }
+    requires { (base ≤ end) × (end ≤ table_length) }
     ensures { result ≡ 0 → (i : ℕ) → base ≤ i → i < end → slice_index prints.now i ≢ print }
 {
     let mut n: u32 = 0;
@@ -686,8 +686,8 @@ fn hits(prints: &[u32; KEY_ROWS], base: usize, end: usize, print: u32) -> u32
 
 // Are the keys at two places the same?
 fn same_key(leads: &[u8; 256], file: &[u8], at: usize, other: usize) -> bool
-    requires { (leads.now ≡ leadTable) × KeyThere file.now at × KeyThere file.now other }
-    ensures { result ≡ equal (keyHere file.now at) (keyHere file.now other) }
+    requires { (leads.now ≡ lead_table) × KeyThere file.now at × KeyThere file.now other }
+    ensures { result ≡ equal (key_here file.now at) (key_here file.now other) }
 {
     let Head::At(m, a) = heads::head_at(leads, file, at) else {
         return false;
@@ -701,7 +701,7 @@ fn same_key(leads: &[u8; 256], file: &[u8], at: usize, other: usize) -> bool
 // The print of the m bytes from a: a number of how many they are and of the first and the last of them.
 fn print_of(file: &[u8], a: usize, m: usize) -> u32
     requires { a + m ≤ length file.now }
-    ensures { result ≡ printOf (take m (drop a file.now)) }
+    ensures { result ≡ print_of (take m (drop a file.now)) }
 {
     let size = ((m % 65536) as u32) * 65536;
     if m < 2 {
@@ -719,7 +719,7 @@ fn print_of(file: &[u8], a: usize, m: usize) -> u32
 // The number in the four bytes from a place on, with no test of its own that they are there.
 fn word(bytes: &[u8], at: usize) -> u32
     requires { at + 4 ≤ length bytes.now }
-    ensures { result ≡ unsignedAt 4 bytes.now at }
+    ensures { result ≡ unsigned_at 4 bytes.now at }
 {
     numbers::read_u32(&bytes[at..at + 4], 0)
 }
@@ -727,7 +727,7 @@ fn word(bytes: &[u8], at: usize) -> u32
 // The number in the two bytes from a place on, likewise.
 fn half_word(bytes: &[u8], at: usize) -> u16
     requires { at + 2 ≤ length bytes.now }
-    ensures { result ≡ unsignedAt 2 bytes.now at }
+    ensures { result ≡ unsigned_at 2 bytes.now at }
 {
     numbers::read_u16(&bytes[at..at + 2], 0)
 }

@@ -2,33 +2,33 @@
 // On refusal no out parameter changes.
 ghost use Rattle.std.specs.Prelude.{◌≡◌, ◌↔◌, length, take, pos};
 ghost use Rattle.std.specs.Int.{w32};
-ghost use Rattle.refusal.specs.Answer.{answerNumber, answerCount};
+ghost use Rattle.refusal.specs.Answer.{answer_number, answer_count};
 ghost use Rattle.messagepack.specs.Rules.{Container};
-ghost use Rattle.messagepack.specs.Walk.{containerNumber};
-ghost use Rattle.structure.specs.Accepted.{Accepted, verdictOf};
-ghost use Rattle.views.specs.View.{Viewable, viewNumber};
+ghost use Rattle.messagepack.specs.Walk.{container_number};
+ghost use Rattle.structure.specs.Accepted.{Accepted, verdict_of};
+ghost use Rattle.views.specs.View.{Viewable, view_number};
 ghost use Rattle.views.specs.Place.{place_of};
-ghost use Rattle.fields.specs.Table.{fieldCount};
-ghost use Rattle.opening.specs.Opening.{startsOf, lengthsOf, openingOf, openedBuffer};
-ghost use Rattle.transforms.specs.Matrix.{matrixNumber};
-ghost use Rattle.numbers.specs.BigEndian.{signedAt};
-ghost use Rattle.columns.specs.Header.{headerOf};
+ghost use Rattle.fields.specs.Table.{field_count};
+ghost use Rattle.opening.specs.Opening.{starts_of, lengths_of, opening_of, opened_buffer};
+ghost use Rattle.transforms.specs.Matrix.{matrix_number};
+ghost use Rattle.numbers.specs.BigEndian.{signed_at};
+ghost use Rattle.columns.specs.Header.{header_of};
 ghost use Rattle.columns.specs.Decode.{decode};
-ghost use Rattle.columns.specs.Buffer.{decodedBuffer};
-ghost use Rattle.decoding.specs.Calls.{numberBuffer, byteBuffer};
-ghost use Rattle.floats.specs.Calls.{exactly, floatBits};
+ghost use Rattle.columns.specs.Buffer.{decoded_buffer};
+ghost use Rattle.decoding.specs.Calls.{number_buffer, byte_buffer};
+ghost use Rattle.floats.specs.Calls.{exactly, float_bits};
 ghost use Rattle.cells.specs.Calls.{cell_of};
-ghost use Rattle.meanings.specs.Meanings.{meaningBuffer};
-ghost use Rattle.receipt.specs.Receipt.{numbersOf};
+ghost use Rattle.meanings.specs.Meanings.{meaning_buffer};
+ghost use Rattle.receipt.specs.Receipt.{numbers_of};
 ghost use Rattle.receipt.specs.Reading.{reading_of};
-ghost use Rattle.receipt.specs.File.{Receipted, receiptBuffer};
-ghost use Rattle.bill.specs.Answer.{billBuffer, Billed};
-ghost use Rattle.mmtf.specs.Calls.{viewStart, viewLength, openedNumber, openedPresence, matrixRows, decodedNumber, decodedCount};
-ghost use Rattle.mmtf.specs.Calls.{floatsNumber, floatsCount, fixed_of, fixedNumber, fixedCount, fixedDivisor};
-ghost use Rattle.mmtf.specs.Version.{versionNumber};
-ghost use Rattle.mmtf.specs.Calls.{headerNumber, headerNow, headerParameter, meaningNumber, meaningCount};
-ghost use Rattle.mmtf.specs.Calls.{cellNumber, cellKind, cellInteger, cellReal, encodedNumber, encodedCount, encodedLeaves};
-ghost use Rattle.mmtf.specs.Calls.{receiptNumber, receiptCount, readNumber, readNumbers, billedNumber, billedCount};
+ghost use Rattle.receipt.specs.File.{Receipted, receipt_buffer};
+ghost use Rattle.bill.specs.Answer.{bill_buffer, Billed};
+ghost use Rattle.mmtf.specs.Calls.{view_start, view_length, opened_number, opened_presence, matrix_rows, decoded_number, decoded_count};
+ghost use Rattle.mmtf.specs.Calls.{floats_number, floats_count, fixed_of, fixed_number, fixed_count, fixed_divisor};
+ghost use Rattle.mmtf.specs.Version.{version_number};
+ghost use Rattle.mmtf.specs.Calls.{header_number, header_now, header_parameter, meaning_number, meaning_count};
+ghost use Rattle.mmtf.specs.Calls.{cell_number, cell_kind, cell_integer, cell_real, encoded_number, encoded_count, encoded_leaves};
+ghost use Rattle.mmtf.specs.Calls.{receipt_number, receipt_count, read_number, read_numbers, billed_number, billed_count};
 
 use cells::Cell;
 use columns::{Header, Kind, Wanted};
@@ -48,7 +48,7 @@ const PATCH: u32 = 0;
 // The refusal of a file as a container, 1 to 11, or 0.
 #[unsafe(no_mangle)]
 pub extern "C" fn mmtf_container(file: &[u8]) -> u8
-    ensures number { result ≡ containerNumber file.now }
+    ensures number { result ≡ container_number file.now }
     ensures exactly { (result ≡ 0) ↔ Container file.now }
 {
     messagepack::container(file)
@@ -57,7 +57,7 @@ pub extern "C" fn mmtf_container(file: &[u8]) -> u8
 // The verdict on a file: 0 if it is accepted, else its refusal, 1 to 24.
 #[unsafe(no_mangle)]
 pub extern "C" fn mmtf_verdict(file: &[u8]) -> u8
-    ensures number { result ≡ verdictOf file.now }
+    ensures number { result ≡ verdict_of file.now }
     ensures exactly { (result ≡ 0) ↔ Accepted file.now }
 {
     structure::verdict(file)
@@ -73,10 +73,10 @@ pub extern "C" fn mmtf_fields(
     starts: &mut [u64; fields::FIELD_COUNT],
     lengths: &mut [u64],
 ) -> u8
-    ensures answer { result ≡ openedNumber (openingOf file.now fieldCount (length lengths.old)) }
-    ensures presence { presence.new ≡ openedPresence (openingOf file.now fieldCount (length lengths.old)) presence.old }
-    ensures starts { starts.new ≡ openedBuffer (openingOf file.now fieldCount (length lengths.old)) (startsOf file.now) starts.old }
-    ensures lengths { lengths.new ≡ openedBuffer (openingOf file.now fieldCount (length lengths.old)) (lengthsOf file.now) lengths.old }
+    ensures answer { result ≡ opened_number (opening_of file.now field_count (length lengths.old)) }
+    ensures presence { presence.new ≡ opened_presence (opening_of file.now field_count (length lengths.old)) presence.old }
+    ensures starts { starts.new ≡ opened_buffer (opening_of file.now field_count (length lengths.old)) (starts_of file.now) starts.old }
+    ensures lengths { lengths.new ≡ opened_buffer (opening_of file.now field_count (length lengths.old)) (lengths_of file.now) lengths.old }
 {
     match opening::fields_of(file, starts, lengths) {
         Opening::Refused(n) => n,
@@ -90,10 +90,10 @@ pub extern "C" fn mmtf_fields(
 // The place of the part of a file that shows an outer key's value; or the refusal, 1 to 11 or 26.
 #[unsafe(no_mangle)]
 pub extern "C" fn mmtf_view(file: &[u8], name: &[u8], start: &mut u64, length: &mut u64) -> u8
-    ensures number { result ≡ viewNumber file.now name.now }
+    ensures number { result ≡ view_number file.now name.now }
     ensures exactly { (result ≡ 0) ↔ Viewable file.now name.now }
-    ensures start { start.new ≡ viewStart (place_of file.now name.now) start.old }
-    ensures length { length.new ≡ viewLength (place_of file.now name.now) length.old }
+    ensures start { start.new ≡ view_start (place_of file.now name.now) start.old }
+    ensures length { length.new ≡ view_length (place_of file.now name.now) length.old }
 {
     match views::find(file, name) {
         Place::Refused(n) => n,
@@ -113,8 +113,8 @@ pub extern "C" fn mmtf_matrix(
     transform: u64,
     rows: &mut [[f32; 4]; 4],
 ) -> u8
-    ensures answer { result ≡ matrixNumber file.now assembly transform }
-    ensures rows { rows.new ≡ matrixRows file.now assembly transform rows.old }
+    ensures answer { result ≡ matrix_number file.now assembly transform }
+    ensures rows { rows.new ≡ matrix_rows file.now assembly transform rows.old }
 {
     let found = transforms::find(file, assembly, transform);
     if found.refusal != refusal::ACCEPTED {
@@ -128,9 +128,9 @@ pub extern "C" fn mmtf_matrix(
 // The integers of an int32 column (codecs 4, 7, 8, 14, 15).
 #[unsafe(no_mangle)]
 pub extern "C" fn mmtf_decode_int32(column: &[u8], buffer: &mut [i32], count: &mut u64) -> u8
-    ensures answer { result ≡ decodedNumber (Wanted.Only Kind.Int32) column.now buffer.old }
-    ensures count { count.new ≡ decodedCount (Wanted.Only Kind.Int32) column.now buffer.old count.old }
-    ensures buffer { buffer.new ≡ numberBuffer (decode (Wanted.Only Kind.Int32) column.now) buffer.old }
+    ensures answer { result ≡ decoded_number (Wanted.Only Kind.Int32) column.now buffer.old }
+    ensures count { count.new ≡ decoded_count (Wanted.Only Kind.Int32) column.now buffer.old count.old }
+    ensures buffer { buffer.new ≡ number_buffer (decode (Wanted.Only Kind.Int32) column.now) buffer.old }
 {
     hand_count(decoding::decode_int32(column, buffer), count)
 }
@@ -138,9 +138,9 @@ pub extern "C" fn mmtf_decode_int32(column: &[u8], buffer: &mut [i32], count: &m
 // The integers of an int8 column (codecs 2, 16).
 #[unsafe(no_mangle)]
 pub extern "C" fn mmtf_decode_int8(column: &[u8], buffer: &mut [i32], count: &mut u64) -> u8
-    ensures answer { result ≡ decodedNumber (Wanted.Only Kind.Int8) column.now buffer.old }
-    ensures count { count.new ≡ decodedCount (Wanted.Only Kind.Int8) column.now buffer.old count.old }
-    ensures buffer { buffer.new ≡ numberBuffer (decode (Wanted.Only Kind.Int8) column.now) buffer.old }
+    ensures answer { result ≡ decoded_number (Wanted.Only Kind.Int8) column.now buffer.old }
+    ensures count { count.new ≡ decoded_count (Wanted.Only Kind.Int8) column.now buffer.old count.old }
+    ensures buffer { buffer.new ≡ number_buffer (decode (Wanted.Only Kind.Int8) column.now) buffer.old }
 {
     hand_count(decoding::decode_int8(column, buffer), count)
 }
@@ -148,9 +148,9 @@ pub extern "C" fn mmtf_decode_int8(column: &[u8], buffer: &mut [i32], count: &mu
 // The integers of an int16 column (codec 3).
 #[unsafe(no_mangle)]
 pub extern "C" fn mmtf_decode_int16(column: &[u8], buffer: &mut [i32], count: &mut u64) -> u8
-    ensures answer { result ≡ decodedNumber (Wanted.Only Kind.Int16) column.now buffer.old }
-    ensures count { count.new ≡ decodedCount (Wanted.Only Kind.Int16) column.now buffer.old count.old }
-    ensures buffer { buffer.new ≡ numberBuffer (decode (Wanted.Only Kind.Int16) column.now) buffer.old }
+    ensures answer { result ≡ decoded_number (Wanted.Only Kind.Int16) column.now buffer.old }
+    ensures count { count.new ≡ decoded_count (Wanted.Only Kind.Int16) column.now buffer.old count.old }
+    ensures buffer { buffer.new ≡ number_buffer (decode (Wanted.Only Kind.Int16) column.now) buffer.old }
 {
     hand_count(decoding::decode_int16(column, buffer), count)
 }
@@ -158,9 +158,9 @@ pub extern "C" fn mmtf_decode_int16(column: &[u8], buffer: &mut [i32], count: &m
 // The characters of a column (codec 6), a byte each.
 #[unsafe(no_mangle)]
 pub extern "C" fn mmtf_decode_chars(column: &[u8], buffer: &mut [u8], count: &mut u64) -> u8
-    ensures answer { result ≡ decodedNumber (Wanted.Only Kind.Chars) column.now buffer.old }
-    ensures count { count.new ≡ decodedCount (Wanted.Only Kind.Chars) column.now buffer.old count.old }
-    ensures buffer { buffer.new ≡ byteBuffer (decode (Wanted.Only Kind.Chars) column.now) buffer.old }
+    ensures answer { result ≡ decoded_number (Wanted.Only Kind.Chars) column.now buffer.old }
+    ensures count { count.new ≡ decoded_count (Wanted.Only Kind.Chars) column.now buffer.old count.old }
+    ensures buffer { buffer.new ≡ byte_buffer (decode (Wanted.Only Kind.Chars) column.now) buffer.old }
 {
     hand_count(decoding::decode_chars(column, buffer), count)
 }
@@ -168,9 +168,9 @@ pub extern "C" fn mmtf_decode_chars(column: &[u8], buffer: &mut [u8], count: &mu
 // The bytes of a column of strings (codec 5); the count is in bytes.
 #[unsafe(no_mangle)]
 pub extern "C" fn mmtf_decode_strings(column: &[u8], buffer: &mut [u8], count: &mut u64) -> u8
-    ensures answer { result ≡ decodedNumber (Wanted.Only Kind.Strings) column.now buffer.old }
-    ensures count { count.new ≡ decodedCount (Wanted.Only Kind.Strings) column.now buffer.old count.old }
-    ensures buffer { buffer.new ≡ byteBuffer (decode (Wanted.Only Kind.Strings) column.now) buffer.old }
+    ensures answer { result ≡ decoded_number (Wanted.Only Kind.Strings) column.now buffer.old }
+    ensures count { count.new ≡ decoded_count (Wanted.Only Kind.Strings) column.now buffer.old count.old }
+    ensures buffer { buffer.new ≡ byte_buffer (decode (Wanted.Only Kind.Strings) column.now) buffer.old }
 {
     hand_count(decoding::decode_strings(column, buffer), count)
 }
@@ -183,10 +183,10 @@ pub extern "C" fn mmtf_decode_fixed_point(
     count: &mut u64,
     divisor: &mut i32,
 ) -> u8
-    ensures answer { result ≡ fixedNumber (fixed_of column.now buffer.old) }
-    ensures count { count.new ≡ fixedCount (fixed_of column.now buffer.old) count.old }
-    ensures divisor { divisor.new ≡ fixedDivisor (fixed_of column.now buffer.old) divisor.old }
-    ensures buffer { buffer.new ≡ numberBuffer (decode (Wanted.Only Kind.FixedPoint) column.now) buffer.old }
+    ensures answer { result ≡ fixed_number (fixed_of column.now buffer.old) }
+    ensures count { count.new ≡ fixed_count (fixed_of column.now buffer.old) count.old }
+    ensures divisor { divisor.new ≡ fixed_divisor (fixed_of column.now buffer.old) divisor.old }
+    ensures buffer { buffer.new ≡ number_buffer (decode (Wanted.Only Kind.FixedPoint) column.now) buffer.old }
 {
     match decoding::decode_fixed_point(column, buffer) {
         Fixed::Refused(r) => r,
@@ -201,9 +201,9 @@ pub extern "C" fn mmtf_decode_fixed_point(
 // The floats of a real column (codecs 1, 9 to 13), as their IEEE bits.
 #[unsafe(no_mangle)]
 pub extern "C" fn mmtf_decode_float32(column: &[u8], buffer: &mut [u32], count: &mut u64) -> u8
-    ensures answer { result ≡ floatsNumber column.now buffer.old }
-    ensures count { count.new ≡ floatsCount column.now buffer.old count.old }
-    ensures buffer { buffer.new ≡ decodedBuffer floatBits (exactly (decode Wanted.Real column.now)) buffer.old }
+    ensures answer { result ≡ floats_number column.now buffer.old }
+    ensures count { count.new ≡ floats_count column.now buffer.old count.old }
+    ensures buffer { buffer.new ≡ decoded_buffer float_bits (exactly (decode Wanted.Real column.now)) buffer.old }
 {
     hand_count(floats::decode_float32(column, buffer), count)
 }
@@ -216,10 +216,10 @@ pub extern "C" fn mmtf_header(
     length: &mut i32,
     parameter: &mut i32,
 ) -> u8
-    ensures answer { result ≡ headerNumber (headerOf Wanted.Any column.now) }
-    ensures codec { codec.new ≡ headerNow (headerOf Wanted.Any column.now) (signedAt w32 column.now 0) codec.old }
-    ensures length { length.new ≡ headerNow (headerOf Wanted.Any column.now) (signedAt w32 column.now 4) length.old }
-    ensures parameter { parameter.new ≡ headerParameter (headerOf Wanted.Any column.now) parameter.old }
+    ensures answer { result ≡ header_number (header_of Wanted.Any column.now) }
+    ensures codec { codec.new ≡ header_now (header_of Wanted.Any column.now) (signed_at w32 column.now 0) codec.old }
+    ensures length { length.new ≡ header_now (header_of Wanted.Any column.now) (signed_at w32 column.now 4) length.old }
+    ensures parameter { parameter.new ≡ header_parameter (header_of Wanted.Any column.now) parameter.old }
 {
     match columns::read_header(column, Wanted::Any) {
         Header::Refused(r) => r,
@@ -241,10 +241,10 @@ pub extern "C" fn mmtf_cell(
     integer: &mut i32,
     real: &mut f32,
 ) -> u8
-    ensures answer { result ≡ cellNumber (cell_of (decode Wanted.Any column.now) index) }
-    ensures kind { kind.new ≡ cellKind (cell_of (decode Wanted.Any column.now) index) kind.old }
-    ensures integer { integer.new ≡ cellInteger (cell_of (decode Wanted.Any column.now) index) integer.old }
-    ensures real { real.new ≡ cellReal (cell_of (decode Wanted.Any column.now) index) real.old }
+    ensures answer { result ≡ cell_number (cell_of (decode Wanted.Any column.now) index) }
+    ensures kind { kind.new ≡ cell_kind (cell_of (decode Wanted.Any column.now) index) kind.old }
+    ensures integer { integer.new ≡ cell_integer (cell_of (decode Wanted.Any column.now) index) integer.old }
+    ensures real { real.new ≡ cell_real (cell_of (decode Wanted.Any column.now) index) real.old }
 {
     match cells::cell_at(column, index as usize) {
         Cell::Refused(r) => r,
@@ -274,9 +274,9 @@ pub extern "C" fn mmtf_encode_int32(
     buffer: &mut [u8],
     written: &mut u64,
 ) -> u8
-    ensures answer { result ≡ encodedNumber Kind.Int32 codec (pos 0) values.now buffer.old }
-    ensures written { written.new ≡ encodedCount Kind.Int32 codec (pos 0) values.now buffer.old written.old }
-    ensures buffer { buffer.new ≡ encodedLeaves Kind.Int32 codec (pos 0) values.now buffer.old }
+    ensures answer { result ≡ encoded_number Kind.Int32 codec (pos 0) values.now buffer.old }
+    ensures written { written.new ≡ encoded_count Kind.Int32 codec (pos 0) values.now buffer.old written.old }
+    ensures buffer { buffer.new ≡ encoded_leaves Kind.Int32 codec (pos 0) values.now buffer.old }
 {
     hand_count(encoding::encode_int32(codec, values, buffer), written)
 }
@@ -289,9 +289,9 @@ pub extern "C" fn mmtf_encode_int8(
     buffer: &mut [u8],
     written: &mut u64,
 ) -> u8
-    ensures answer { result ≡ encodedNumber Kind.Int8 codec (pos 0) values.now buffer.old }
-    ensures written { written.new ≡ encodedCount Kind.Int8 codec (pos 0) values.now buffer.old written.old }
-    ensures buffer { buffer.new ≡ encodedLeaves Kind.Int8 codec (pos 0) values.now buffer.old }
+    ensures answer { result ≡ encoded_number Kind.Int8 codec (pos 0) values.now buffer.old }
+    ensures written { written.new ≡ encoded_count Kind.Int8 codec (pos 0) values.now buffer.old written.old }
+    ensures buffer { buffer.new ≡ encoded_leaves Kind.Int8 codec (pos 0) values.now buffer.old }
 {
     hand_count(encoding::encode_int8(codec, values, buffer), written)
 }
@@ -304,9 +304,9 @@ pub extern "C" fn mmtf_encode_int16(
     buffer: &mut [u8],
     written: &mut u64,
 ) -> u8
-    ensures answer { result ≡ encodedNumber Kind.Int16 codec (pos 0) values.now buffer.old }
-    ensures written { written.new ≡ encodedCount Kind.Int16 codec (pos 0) values.now buffer.old written.old }
-    ensures buffer { buffer.new ≡ encodedLeaves Kind.Int16 codec (pos 0) values.now buffer.old }
+    ensures answer { result ≡ encoded_number Kind.Int16 codec (pos 0) values.now buffer.old }
+    ensures written { written.new ≡ encoded_count Kind.Int16 codec (pos 0) values.now buffer.old written.old }
+    ensures buffer { buffer.new ≡ encoded_leaves Kind.Int16 codec (pos 0) values.now buffer.old }
 {
     hand_count(encoding::encode_int16(codec, values, buffer), written)
 }
@@ -319,9 +319,9 @@ pub extern "C" fn mmtf_encode_chars(
     buffer: &mut [u8],
     written: &mut u64,
 ) -> u8
-    ensures answer { result ≡ encodedNumber Kind.Chars codec (pos 0) values.now buffer.old }
-    ensures written { written.new ≡ encodedCount Kind.Chars codec (pos 0) values.now buffer.old written.old }
-    ensures buffer { buffer.new ≡ encodedLeaves Kind.Chars codec (pos 0) values.now buffer.old }
+    ensures answer { result ≡ encoded_number Kind.Chars codec (pos 0) values.now buffer.old }
+    ensures written { written.new ≡ encoded_count Kind.Chars codec (pos 0) values.now buffer.old written.old }
+    ensures buffer { buffer.new ≡ encoded_leaves Kind.Chars codec (pos 0) values.now buffer.old }
 {
     hand_count(encoding::encode_chars(codec, values, buffer), written)
 }
@@ -335,9 +335,9 @@ pub extern "C" fn mmtf_encode_strings(
     buffer: &mut [u8],
     written: &mut u64,
 ) -> u8
-    ensures answer { result ≡ encodedNumber Kind.Strings codec size names.now buffer.old }
-    ensures written { written.new ≡ encodedCount Kind.Strings codec size names.now buffer.old written.old }
-    ensures buffer { buffer.new ≡ encodedLeaves Kind.Strings codec size names.now buffer.old }
+    ensures answer { result ≡ encoded_number Kind.Strings codec size names.now buffer.old }
+    ensures written { written.new ≡ encoded_count Kind.Strings codec size names.now buffer.old written.old }
+    ensures buffer { buffer.new ≡ encoded_leaves Kind.Strings codec size names.now buffer.old }
 {
     hand_count(
         encoding::encode_strings(codec, size, names, buffer),
@@ -354,10 +354,10 @@ pub extern "C" fn mmtf_encode_fixed_point(
     buffer: &mut [u8],
     written: &mut u64,
 ) -> u8
-    ensures answer { result ≡ encodedNumber Kind.FixedPoint codec divisor values.now buffer.old }
+    ensures answer { result ≡ encoded_number Kind.FixedPoint codec divisor values.now buffer.old }
     ensures written { written.new
-        ≡ encodedCount Kind.FixedPoint codec divisor values.now buffer.old written.old }
-    ensures buffer { buffer.new ≡ encodedLeaves Kind.FixedPoint codec divisor values.now buffer.old }
+        ≡ encoded_count Kind.FixedPoint codec divisor values.now buffer.old written.old }
+    ensures buffer { buffer.new ≡ encoded_leaves Kind.FixedPoint codec divisor values.now buffer.old }
 {
     hand_count(
         encoding::encode_fixed_point(codec, divisor, values, buffer),
@@ -373,9 +373,9 @@ pub extern "C" fn mmtf_encode_float32(
     buffer: &mut [u8],
     written: &mut u64,
 ) -> u8
-    ensures answer { result ≡ encodedNumber Kind.Float32 codec (pos 0) bits.now buffer.old }
-    ensures written { written.new ≡ encodedCount Kind.Float32 codec (pos 0) bits.now buffer.old written.old }
-    ensures buffer { buffer.new ≡ encodedLeaves Kind.Float32 codec (pos 0) bits.now buffer.old }
+    ensures answer { result ≡ encoded_number Kind.Float32 codec (pos 0) bits.now buffer.old }
+    ensures written { written.new ≡ encoded_count Kind.Float32 codec (pos 0) bits.now buffer.old written.old }
+    ensures buffer { buffer.new ≡ encoded_leaves Kind.Float32 codec (pos 0) bits.now buffer.old }
 {
     hand_count(encoding::encode_float32(codec, bits, buffer), written)
 }
@@ -389,9 +389,9 @@ pub extern "C" fn mmtf_write_receipt(
     buffer: &mut [u8],
     written: &mut u64,
 ) -> u8
-    ensures answer { result ≡ receiptNumber station job file.now buffer.old }
-    ensures written { written.new ≡ receiptCount station job file.now buffer.old written.old }
-    ensures buffer { buffer.new ≡ receiptBuffer station job file.now buffer.old }
+    ensures answer { result ≡ receipt_number station job file.now buffer.old }
+    ensures written { written.new ≡ receipt_count station job file.now buffer.old written.old }
+    ensures buffer { buffer.new ≡ receipt_buffer station job file.now buffer.old }
     ensures receipt { result ≡ 0 → Receipted station job file.now (take written.new buffer.new) }
 {
     match receipt::write(station, job, file, buffer) {
@@ -406,8 +406,8 @@ pub extern "C" fn mmtf_write_receipt(
 // The ten numbers of a receipt, in the order of its lines; or 29.
 #[unsafe(no_mangle)]
 pub extern "C" fn mmtf_read_receipt(bytes: &[u8], numbers: &mut [u32; 10]) -> u8
-    ensures answer { result ≡ readNumber (reading_of bytes.now) }
-    ensures numbers { numbers.new ≡ readNumbers (reading_of bytes.now) numbers.old }
+    ensures answer { result ≡ read_number (reading_of bytes.now) }
+    ensures numbers { numbers.new ≡ read_numbers (reading_of bytes.now) numbers.old }
 {
     match receipt::read(bytes) {
         Reading::Refused(r) => r,
@@ -420,7 +420,7 @@ pub extern "C" fn mmtf_read_receipt(bytes: &[u8], numbers: &mut [u32; 10]) -> u8
 
 // The numbers of a receipt in the order of its lines.
 fn in_order(receipt: Receipt) -> [u32; 10]
-    ensures { result ≡ numbersOf receipt }
+    ensures { result ≡ numbers_of receipt }
 {
     [
         receipt.station,
@@ -439,9 +439,9 @@ fn in_order(receipt: Receipt) -> [u32; 10]
 // The bill of a run of receipts; or the refusal, 1 for a run over the limit, then 29 or 30 of the first receipt at fault, then 25.
 #[unsafe(no_mangle)]
 pub extern "C" fn mmtf_bill(receipts: &[u8], buffer: &mut [u8], written: &mut u64) -> u8
-    ensures answer { result ≡ billedNumber receipts.now buffer.old }
-    ensures written { written.new ≡ billedCount receipts.now buffer.old written.old }
-    ensures buffer { buffer.new ≡ billBuffer receipts.now buffer.old }
+    ensures answer { result ≡ billed_number receipts.now buffer.old }
+    ensures written { written.new ≡ billed_count receipts.now buffer.old written.old }
+    ensures buffer { buffer.new ≡ bill_buffer receipts.now buffer.old }
     ensures bill { result ≡ 0 → Billed receipts.now (take written.new buffer.new) }
 {
     match bill::bill(receipts, buffer) {
@@ -456,9 +456,9 @@ pub extern "C" fn mmtf_bill(receipts: &[u8], buffer: &mut [u8], written: &mut u6
 // The words of a refusal number; or the refusal, 28 for a number that the table does not have, then 25.
 #[unsafe(no_mangle)]
 pub extern "C" fn mmtf_meaning(number: u8, buffer: &mut [u8], written: &mut u64) -> u8
-    ensures answer { result ≡ meaningNumber number buffer.old }
-    ensures written { written.new ≡ meaningCount number buffer.old written.old }
-    ensures buffer { buffer.new ≡ meaningBuffer number buffer.old }
+    ensures answer { result ≡ meaning_number number buffer.old }
+    ensures written { written.new ≡ meaning_count number buffer.old written.old }
+    ensures buffer { buffer.new ≡ meaning_buffer number buffer.old }
 {
     hand_count(meanings::write(number, buffer), written)
 }
@@ -466,15 +466,15 @@ pub extern "C" fn mmtf_meaning(number: u8, buffer: &mut [u8], written: &mut u64)
 // The version of this library.
 #[unsafe(no_mangle)]
 pub extern "C" fn mmtf_version() -> u32
-    ensures { result ≡ versionNumber }
+    ensures { result ≡ version_number }
 {
     MAJOR * 10000 + MINOR * 100 + PATCH
 }
 
 // Hands on the answer of a call that fills a buffer: the count where it succeeded.
 fn hand_count(answer: Answer, count: &mut u64) -> u8
-    ensures number { result ≡ answerNumber answer }
-    ensures count { count.new ≡ answerCount answer count.old }
+    ensures number { result ≡ answer_number answer }
+    ensures count { count.new ≡ answer_count answer count.old }
 {
     match answer {
         Answer::Refused(r) => r,

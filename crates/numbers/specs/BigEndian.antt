@@ -23,17 +23,17 @@ abbrev pub inside : ℕ → List ℕ → ℕ → Bool
 inside k s at = leb (at + k) (length s)
 
 -- the number in the k bytes that start at `at`; 0 where they are not all inside
-unfoldable pub unsignedAt : ℕ → List ℕ → ℕ → ℕ
-unsignedAt k s at = cond (inside k s at) (number_of (take k (drop at s))) 0
+unfoldable pub unsigned_at : ℕ → List ℕ → ℕ → ℕ
+unsigned_at k s at = cond (inside k s at) (number_of (take k (drop at s))) 0
 
 -- how many bytes a number of a width has
-abbrev pub bytesIn : Width → ℕ
-bytesIn w = bits w / 8
+abbrev pub bytes_in : Width → ℕ
+bytes_in w = bits w / 8
 
 -- the number in the bytes of a width that start at `at`, in two's complement; 0 where they are not all inside
-unfoldable pub signedAt : Width → List ℕ → ℕ → ℤ
-signedAt w s at = to_z w (unsignedAt (bytesIn w) s at)
+unfoldable pub signed_at : Width → List ℕ → ℕ → ℤ
+signed_at w s at = to_z w (unsigned_at (bytes_in w) s at)
 
 -- s with n in the k bytes that start at `at`; s itself where they are not all inside
-unfoldable pub writtenAt : ℕ → List ℕ → ℕ → ℕ → List ℕ
-writtenAt k s at n = cond (inside k s at) (take at s ++ bytes_of k n ++ drop (at + k) s) s
+unfoldable pub written_at : ℕ → List ℕ → ℕ → ℕ → List ℕ
+written_at k s at n = cond (inside k s at) (take at s ++ bytes_of k n ++ drop (at + k) s) s

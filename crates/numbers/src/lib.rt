@@ -6,8 +6,8 @@ ghost use Rattle.std.specs.Int.{w16, w32};
 ghost use Rattle.std.proofs.Common.{to_z, of_z};
 ghost use Rattle.std.specs.Float.{binary32};
 ghost use Rattle.std.specs.Float.Ieee.{of_bits};
-ghost use Rattle.numbers.specs.BigEndian.{unsignedAt, signedAt, writtenAt};
-ghost use Rattle.numbers.specs.Ranges.{between, lastIndex};
+ghost use Rattle.numbers.specs.BigEndian.{unsigned_at, signed_at, written_at};
+ghost use Rattle.numbers.specs.Ranges.{between, last_index};
 ghost use Rattle.numbers.specs.Steps.{Loaded};
 
 // The largest integer of 32 bits.
@@ -15,7 +15,7 @@ pub const INTEGER_LIMIT: usize = 2_147_483_647;
 
 // The unsigned number in the 2 bytes that start at `at`; 0 where they are not all inside.
 pub fn read_u16(bytes: &[u8], at: usize) -> u16
-    ensures { result ≡ unsignedAt 2 bytes.now at }
+    ensures { result ≡ unsigned_at 2 bytes.now at }
 {
     if 2 <= room(bytes.len(), at) {
         let n = loaded_u16(bytes, at);
@@ -27,7 +27,7 @@ pub fn read_u16(bytes: &[u8], at: usize) -> u16
 
 // The unsigned number in the 4 bytes that start at `at`; 0 where they are not all inside.
 pub fn read_u32(bytes: &[u8], at: usize) -> u32
-    ensures { result ≡ unsignedAt 4 bytes.now at }
+    ensures { result ≡ unsigned_at 4 bytes.now at }
 {
     if 4 <= room(bytes.len(), at) {
         let n = loaded_u32(bytes, at);
@@ -39,21 +39,21 @@ pub fn read_u32(bytes: &[u8], at: usize) -> u32
 
 // The signed number in the 2 bytes that start at `at`; 0 where they are not all inside.
 pub fn read_i16(bytes: &[u8], at: usize) -> i16
-    ensures { result ≡ signedAt w16 bytes.now at }
+    ensures { result ≡ signed_at w16 bytes.now at }
 {
     to_i16(read_u16(bytes, at))
 }
 
 // The signed number in the 4 bytes that start at `at`; 0 where they are not all inside.
 pub fn read_i32(bytes: &[u8], at: usize) -> i32
-    ensures { result ≡ signedAt w32 bytes.now at }
+    ensures { result ≡ signed_at w32 bytes.now at }
 {
     to_i32(read_u32(bytes, at))
 }
 
 // Puts an unsigned number into the 2 bytes that start at `at`; changes nothing where they are not all inside.
 pub fn write_u16(buffer: &mut [u8], at: usize, value: u16)
-    ensures { buffer.new ≡ writtenAt 2 buffer.old at value }
+    ensures { buffer.new ≡ written_at 2 buffer.old at value }
 {
     let n = value as u32;
     if 2 <= room(buffer.len(), at) {
@@ -64,7 +64,7 @@ pub fn write_u16(buffer: &mut [u8], at: usize, value: u16)
 
 // Puts an unsigned number into the 4 bytes that start at `at`; changes nothing where they are not all inside.
 pub fn write_u32(buffer: &mut [u8], at: usize, value: u32)
-    ensures { buffer.new ≡ writtenAt 4 buffer.old at value }
+    ensures { buffer.new ≡ written_at 4 buffer.old at value }
 {
     if 4 <= room(buffer.len(), at) {
         buffer[at] = low_byte(value / 256 / 256 / 256);
@@ -76,14 +76,14 @@ pub fn write_u32(buffer: &mut [u8], at: usize, value: u32)
 
 // Puts a signed number into the 2 bytes that start at `at`; changes nothing where they are not all inside.
 pub fn write_i16(buffer: &mut [u8], at: usize, value: i16)
-    ensures { buffer.new ≡ writtenAt 2 buffer.old at (of_z w16 value) }
+    ensures { buffer.new ≡ written_at 2 buffer.old at (of_z w16 value) }
 {
     write_u16(buffer, at, to_u16(value));
 }
 
 // Puts a signed number into the 4 bytes that start at `at`; changes nothing where they are not all inside.
 pub fn write_i32(buffer: &mut [u8], at: usize, value: i32)
-    ensures { buffer.new ≡ writtenAt 4 buffer.old at (of_z w32 value) }
+    ensures { buffer.new ≡ written_at 4 buffer.old at (of_z w32 value) }
 {
     write_u32(buffer, at, to_u32(value));
 }
@@ -260,7 +260,7 @@ pub fn is_between(number: i32, low: i32, high: i32) -> bool
 
 // The last index of a table of n entries that an integer can hold, -1 where there is none.
 pub fn last_index(n: usize) -> i32
-    ensures { result ≡ lastIndex n }
+    ensures { result ≡ last_index n }
 {
     if n == 0 {
         return -1;

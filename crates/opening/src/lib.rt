@@ -1,12 +1,12 @@
 // A file opened: its verdict and, of an accepted file, the set of its named fields and the part of each, by one walk of the container and one pass
 // over the outer map. The parts are those of the fields' views, so that a program decodes every column with no further walk.
 ghost use Rattle.std.specs.Prelude.{◌≡◌, ◌≤◌, ◌-◌, length};
-ghost use Rattle.heads.specs.Table.{leadTable};
-ghost use Rattle.heads.specs.Head.{headAt};
-ghost use Rattle.views.specs.Place.{bodyPlace};
-ghost use Rattle.fields.specs.Table.{fieldCount};
-ghost use Rattle.opening.specs.Opening.{startsOf, lengthsOf, openingOf, openedBuffer};
-ghost use Rattle.opening.specs.Steps.{spanPlace, asPart, SpansSay, Ready};
+ghost use Rattle.heads.specs.Table.{lead_table};
+ghost use Rattle.heads.specs.Head.{head_at};
+ghost use Rattle.views.specs.Place.{body_place};
+ghost use Rattle.fields.specs.Table.{field_count};
+ghost use Rattle.opening.specs.Opening.{starts_of, lengths_of, opening_of, opened_buffer};
+ghost use Rattle.opening.specs.Steps.{span_place, as_part, SpansSay, Ready};
 ghost use Rattle.opening.specs.declared.Opening.{Opening};
 
 use fields::Fields;
@@ -22,9 +22,9 @@ pub enum Opening {
 
 // Opens a file: the start and the length of each named field's part, in the order of the fields; 0 and 0 where a field is absent.
 pub fn fields_of(file: &[u8], starts: &mut [u64], lengths: &mut [u64]) -> Opening
-    ensures answer { result ≡ openingOf file.now (length starts.old) (length lengths.old) }
-    ensures starts { starts.new ≡ openedBuffer result (startsOf file.now) starts.old }
-    ensures lengths { lengths.new ≡ openedBuffer result (lengthsOf file.now) lengths.old }
+    ensures answer { result ≡ opening_of file.now (length starts.old) (length lengths.old) }
+    ensures starts { starts.new ≡ opened_buffer result (starts_of file.now) starts.old }
+    ensures lengths { lengths.new ≡ opened_buffer result (lengths_of file.now) lengths.old }
 {
     let number = messagepack::container(file);
     if number != refusal::ACCEPTED {
@@ -44,10 +44,10 @@ fn opened(
     starts: &mut [u64],
     lengths: &mut [u64],
 ) -> Opening
-    requires { (leads.now ≡ leadTable) × Ready file.now noted }
-    ensures answer { result ≡ openingOf file.now (length starts.old) (length lengths.old) }
-    ensures starts { starts.new ≡ openedBuffer result (startsOf file.now) starts.old }
-    ensures lengths { lengths.new ≡ openedBuffer result (lengthsOf file.now) lengths.old }
+    requires { (leads.now ≡ lead_table) × Ready file.now noted }
+    ensures answer { result ≡ opening_of file.now (length starts.old) (length lengths.old) }
+    ensures starts { starts.new ≡ opened_buffer result (starts_of file.now) starts.old }
+    ensures lengths { lengths.new ≡ opened_buffer result (lengths_of file.now) lengths.old }
 {
     let found = structure::document_refusal(leads, file, noted);
     if found != refusal::ACCEPTED {
@@ -74,9 +74,9 @@ fn put_parts(
     starts: &mut [u64],
     lengths: &mut [u64],
 )
-    requires { (leads.now ≡ leadTable) × (SpansSay file.now places.now ends.now × ((fieldCount ≤ length starts.old) × (fieldCount ≤ length lengths.old))) }
-    ensures starts { starts.new ≡ openedBuffer (Opening.Presence 0) (startsOf file.now) starts.old }
-    ensures lengths { lengths.new ≡ openedBuffer (Opening.Presence 0) (lengthsOf file.now) lengths.old }
+    requires { (leads.now ≡ lead_table) × (SpansSay file.now places.now ends.now × ((field_count ≤ length starts.old) × (field_count ≤ length lengths.old))) }
+    ensures starts { starts.new ≡ opened_buffer (Opening.Presence 0) (starts_of file.now) starts.old }
+    ensures lengths { lengths.new ≡ opened_buffer (Opening.Presence 0) (lengths_of file.now) lengths.old }
 {
     let mut i: usize = 0;
     while i < fields::FIELD_COUNT {
@@ -89,8 +89,8 @@ fn put_parts(
 
 // The part that shows the value which stands from a place up to an end: the body of a string or a binary, else the whole; none at place 0.
 fn part_at(leads: &[u8; 256], file: &[u8], at: usize, end: usize) -> Part
-    requires { leads.now ≡ leadTable }
-    ensures { result ≡ asPart (spanPlace file.now at end) }
+    requires { leads.now ≡ lead_table }
+    ensures { result ≡ as_part (span_place file.now at end) }
 {
     if at == 0 {
         return Part { at: 0, count: 0 };
@@ -104,8 +104,8 @@ fn part_at(leads: &[u8; 256], file: &[u8], at: usize, end: usize) -> Part
 
 // The body after the head at a place.
 fn body_at(leads: &[u8; 256], file: &[u8], at: usize) -> Part
-    requires { leads.now ≡ leadTable }
-    ensures { result ≡ asPart (bodyPlace (headAt file.now at)) }
+    requires { leads.now ≡ lead_table }
+    ensures { result ≡ as_part (body_place (head_at file.now at)) }
 {
     match heads::head_at(leads, file, at) {
         Head::Cut => Part { at: 0, count: 0 },

@@ -7,9 +7,9 @@ use Rattle.steps.specs.declared.Range.TheVariants.{Ascii}
 use Rattle.steps.specs.declared.Form.{Form}
 use Rattle.steps.specs.declared.Form.TheVariants.{Plain, Packed, Runs, Names}
 use Rattle.steps.specs.Width.{size_of, upper, lower}
-use Rattle.steps.specs.Numbers.{numbersIn}
-use Rattle.steps.specs.Packing.{isLimit, in32}
-use Rattle.steps.specs.Payload.{numberSize, in_range}
+use Rattle.steps.specs.Numbers.{numbers_in}
+use Rattle.steps.specs.Packing.{is_limit, in32}
+use Rattle.steps.specs.Payload.{number_size, in_range}
 use Rattle.payloads.specs.declared.Item.{Item}
 use Rattle.payloads.specs.declared.Item.TheVariants.{Run, Wrong, End}
 use Rattle.payloads.specs.declared.Outcome.{Outcome}
@@ -21,7 +21,7 @@ unfoldable pub result_of : Size → ℕ → ℤ → Bool → List ℤ → Item
 result_of z at sum begun [] = cond begun Wrong End
 result_of z at sum begun (x ∷ xs) =
     cond (in32 (sum +ℤ x))
-    (cond (isLimit (upper z) (lower z) x) (result_of z (at + size_of z) (sum +ℤ x) true xs) (Run (sum +ℤ x) 1 (at + size_of z)))
+    (cond (is_limit (upper z) (lower z) x) (result_of z (at + size_of z) (sum +ℤ x) true xs) (Run (sum +ℤ x) 1 (at + size_of z)))
     Wrong
 
 -- the first item of the numbers from a place on: a plain number, a packed result, a run, or a byte of a name
@@ -37,9 +37,9 @@ item_of Names at (x ∷ xs) = cond (in_range Ascii x) (Run x 1 (at + 1)) Wrong
 
 -- the item at a place of a payload
 unfoldable pub item_at : Form → List ℕ → ℕ → Item
-item_at f s at = item_of f at (numbersIn (numberSize f) (drop at s))
+item_at f s at = item_of f at (numbers_in (number_size f) (drop at s))
 
 -- the refusal that a scan answers, or 0
-abbrev pub outcomeRefusal : Outcome → ℕ
-outcomeRefusal (Fine e) = accepted
-outcomeRefusal (Refused r) = r
+abbrev pub outcome_refusal : Outcome → ℕ
+outcome_refusal (Fine e) = accepted
+outcome_refusal (Refused r) = r

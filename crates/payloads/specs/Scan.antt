@@ -2,31 +2,31 @@
 -- in Laws/Scan.antt. Assumes nothing.
 use Rattle.std.specs.Prelude.{ℕ, Bool, true, false, cond, not, ◌&&◌, List, length, ℤ, ◌==◌}
 use Rattle.std.proofs.Math.Option.{Option, none, some}
-use Rattle.refusal.specs.Table.{numberNotAllowed, lengthDiffers}
+use Rattle.refusal.specs.Table.{number_not_allowed, length_differs}
 use Rattle.refusal.specs.First.{unless}
 use Rattle.steps.specs.declared.Size.TheVariants.{One, Two, Four}
 use Rattle.steps.specs.declared.Form.{Form}
 use Rattle.steps.specs.declared.Form.TheVariants.{Plain, Packed, Runs, Names}
-use Rattle.steps.specs.Delta.{sumsIf}
+use Rattle.steps.specs.Delta.{sums_if}
 use Rattle.payloads.specs.declared.Outcome.{Outcome}
 use Rattle.payloads.specs.declared.Outcome.TheVariants.{Fine, Refused}
-use Rattle.payloads.specs.Exact.{allExact}
+use Rattle.payloads.specs.Exact.{all_exact}
 
 -- The forms whose results are judged to be exact: those that a divisor may follow. Of the others the scan says no.
-abbrev pub judgesExact : Form → Bool → Bool
-judgesExact (Plain One) delta = not delta
-judgesExact (Plain Two) delta = not delta
-judgesExact (Plain Four) delta = false
-judgesExact (Packed z) delta = true
-judgesExact (Runs r) delta = not delta
-judgesExact Names delta = false
+abbrev pub judges_exact : Form → Bool → Bool
+judges_exact (Plain One) delta = not delta
+judges_exact (Plain Two) delta = not delta
+judges_exact (Plain Four) delta = false
+judges_exact (Packed z) delta = true
+judges_exact (Runs r) delta = not delta
+judges_exact Names delta = false
 
 -- the answer for n results
-abbrev pub scanOf : Form → Bool → ℕ → Option (List ℤ) → Outcome
-scanOf f d n none = Refused numberNotAllowed
-scanOf f d n (some l) = cond (length l == n) (Fine (judgesExact f d && allExact (sumsIf d l))) (Refused lengthDiffers)
+abbrev pub scan_of : Form → Bool → ℕ → Option (List ℤ) → Outcome
+scan_of f d n none = Refused number_not_allowed
+scan_of f d n (some l) = cond (length l == n) (Fine (judges_exact f d && all_exact (sums_if d l))) (Refused length_differs)
 
 -- the refusal of n results, or 0
-abbrev pub refusalOf : ℕ → Option (List ℤ) → ℕ
-refusalOf n none = numberNotAllowed
-refusalOf n (some l) = unless (length l == n) lengthDiffers
+abbrev pub refusal_of : ℕ → Option (List ℤ) → ℕ
+refusal_of n none = number_not_allowed
+refusal_of n (some l) = unless (length l == n) length_differs

@@ -3,18 +3,18 @@
 ghost use Rattle.std.specs.Prelude.{◌≡◌, ◌+◌, ◌-◌, ◌*◌, ◌/◌, ◌<◌, ◌≤◌, true, false, not, ◌&&◌, ◌||◌, length, pos, if◌then◌else◌, ◌==◌, nat_le};
 ghost use Rattle.std.specs.Int.{w8};
 ghost use Rattle.std.proofs.Common.{to_z};
-ghost use Rattle.refusal.specs.Table.{lengthDiffers};
-ghost use Rattle.steps.specs.Delta.{advance, plusTimes, afterRun};
+ghost use Rattle.refusal.specs.Table.{length_differs};
+ghost use Rattle.steps.specs.Delta.{advance, plus_times, after_run};
 ghost use Rattle.steps.specs.Width.{size_of};
-ghost use Rattle.steps.specs.Packing.{isLimit};
-ghost use Rattle.steps.specs.Payload.{readIn, heldIn};
+ghost use Rattle.steps.specs.Packing.{is_limit};
+ghost use Rattle.steps.specs.Payload.{read_in, held_in};
 ghost use Rattle.columns.specs.Table.{elements};
 ghost use Rattle.payloads.specs.Exact.{exact};
 ghost use Rattle.payloads.specs.Results.{ResultsJudged};
-ghost use Rattle.payloads.specs.Scan.{scanOf, judgesExact, refusalOf};
-ghost use Rattle.payloads.specs.Limits.{packedSize, limitAt, limitsIn, endsAtLimit, RowsWithin, mostLimits, exactLimits, block_row};
-ghost use Rattle.payloads.specs.Blocks.{countIn};
-ghost use Rattle.payloads.specs.Items.{item_at, outcomeRefusal};
+ghost use Rattle.payloads.specs.Scan.{scan_of, judges_exact, refusal_of};
+ghost use Rattle.payloads.specs.Limits.{packed_size, limit_at, limits_in, ends_at_limit, RowsWithin, most_limits, exact_limits, block_row};
+ghost use Rattle.payloads.specs.Blocks.{count_in};
+ghost use Rattle.payloads.specs.Items.{item_at, outcome_refusal};
 
 use steps::{Form, Range, Size, Turn};
 
@@ -38,7 +38,7 @@ pub enum Item {
 
 // Scans a payload that should have `length` results. Names have `size` bytes each; other forms have no use for it.
 pub fn scan(payload: &[u8], form: Form, size: usize, delta: bool, length: usize) -> Outcome
-    ensures { result ≡ scanOf form delta (elements form length size) (heldIn form size payload.now) }
+    ensures { result ≡ scan_of form delta (elements form length size) (held_in form size payload.now) }
 {
     match form {
         Form::Plain(width) => scan_plain(payload, width, delta, length),
@@ -55,7 +55,7 @@ pub fn scan(payload: &[u8], form: Form, size: usize, delta: bool, length: usize)
 // The refusal of a payload that should have `length` results, or 0. Names have `size` bytes each; other forms have no use for it. Calls get
 // the part that is all of the payload: a slice that is handed on as it stands is copied through memory first, for every form.
 pub fn refusal_of(payload: &[u8], form: Form, size: usize, length: usize) -> u8
-    ensures { result ≡ refusalOf (elements form length size) (heldIn form size payload.now) }
+    ensures { result ≡ refusal_of (elements form length size) (held_in form size payload.now) }
 {
     match form {
         Form::Packed(width) => match width {
@@ -91,7 +91,7 @@ pub fn next_result(sum: i32, value: i32, delta: bool) -> i32
 
 // The result after `count` values, where `sum` was the one before.
 pub fn after_run(sum: i32, value: i32, count: usize, delta: bool) -> i32
-    ensures { result ≡ afterRun delta sum value count }
+    ensures { result ≡ after_run delta sum value count }
 {
     if delta {
         return add_times(sum, value, count);
@@ -101,7 +101,7 @@ pub fn after_run(sum: i32, value: i32, count: usize, delta: bool) -> i32
 
 // sum + count * value, modulo 2^32 into the signed range.
 fn add_times(sum: i32, value: i32, count: usize) -> i32
-    ensures { result ≡ plusTimes sum value count }
+    ensures { result ≡ plus_times sum value count }
 {
     let a = numbers::to_u32(sum) as u64;
     let d = numbers::to_u32(value) as u64;
@@ -126,7 +126,7 @@ pub fn item_at(payload: &[u8], at: usize, form: Form) -> Item
 
 // Scans plain numbers: their count is the payload's size.
 fn scan_plain(payload: &[u8], size: Size, delta: bool, length: usize) -> Outcome
-    ensures { result ≡ scanOf (Form.Plain size) delta length (readIn (Form.Plain size) payload.now) }
+    ensures { result ≡ scan_of (Form.Plain size) delta length (read_in (Form.Plain size) payload.now) }
 {
     let k = steps::bytes(size);
     if payload.len() / k != length {
@@ -137,7 +137,7 @@ fn scan_plain(payload: &[u8], size: Size, delta: bool, length: usize) -> Outcome
 
 // Scans names, which are never judged to be exact.
 fn scan_names(payload: &[u8], size: usize, length: usize) -> Outcome
-    ensures { result ≡ scanOf Form.Names false (elements Form.Names length size) (heldIn Form.Names size payload.now) }
+    ensures { result ≡ scan_of Form.Names false (elements Form.Names length size) (held_in Form.Names size payload.now) }
 {
     let number = names_refusal(payload, size, length);
     if number != refusal::ACCEPTED {
@@ -148,7 +148,7 @@ fn scan_names(payload: &[u8], size: usize, length: usize) -> Outcome
 
 // Scans packed numbers, number by number.
 fn scan_packed(payload: &[u8], size: Size, delta: bool, length: usize) -> Outcome
-    ensures { result ≡ scanOf (Form.Packed size) delta length (readIn (Form.Packed size) payload.now) }
+    ensures { result ≡ scan_of (Form.Packed size) delta length (read_in (Form.Packed size) payload.now) }
 {
     let k = steps::bytes(size);
     let mut i: usize = 0;
@@ -189,7 +189,7 @@ fn scan_packed(payload: &[u8], size: Size, delta: bool, length: usize) -> Outcom
 // Scans packed numbers of one or two bytes: their refusal first, and then whether their results are exact, as all are without delta where the
 // limits stand in short rows.
 fn scan_totals(payload: &[u8], two: bool, delta: bool, length: usize) -> Outcome
-    ensures { result ≡ scanOf (Form.Packed (packedSize two)) delta length (readIn (Form.Packed (packedSize two)) payload.now) }
+    ensures { result ≡ scan_of (Form.Packed (packed_size two)) delta length (read_in (Form.Packed (packed_size two)) payload.now) }
 {
     let refused = count_packed(payload, two, length);
     if refused != refusal::ACCEPTED {
@@ -209,7 +209,7 @@ fn scan_totals(payload: &[u8], two: bool, delta: bool, length: usize) -> Outcome
 // Whether it is known that each result without delta is exact: there are few limits, or none of them stand in a long row. A number that is no
 // limit ends a result, so the limits are the numbers less the results.
 fn has_short_rows(payload: &[u8], two: bool, length: usize) -> bool
-    ensures { result ≡ true → 0 ≡ refusalOf length (readIn (Form.Packed (packedSize two)) payload.now) → ResultsJudged (packedSize two) false payload.now true }
+    ensures { result ≡ true → 0 ≡ refusal_of length (read_in (Form.Packed (packed_size two)) payload.now) → ResultsJudged (packed_size two) false payload.now true }
 {
     let count = count_of(payload.len(), two);
     if less(count, length) <= exact_limits(two) {
@@ -220,7 +220,7 @@ fn has_short_rows(payload: &[u8], two: bool, length: usize) -> bool
 
 // Whether the results of packed numbers are exact, by one total: of the result that has begun, and with delta of those before it too.
 fn are_exact(payload: &[u8], two: bool, delta: bool) -> bool
-    ensures { ResultsJudged (packedSize two) delta payload.now result }
+    ensures { ResultsJudged (packed_size two) delta payload.now result }
 {
     let size = packed_size(two);
     let k = steps::bytes(size);
@@ -240,7 +240,7 @@ fn are_exact(payload: &[u8], two: bool, delta: bool) -> bool
 
 // The refusal that a scan answers, or 0.
 fn refusal_in(outcome: Outcome) -> u8
-    ensures { result ≡ outcomeRefusal outcome }
+    ensures { result ≡ outcome_refusal outcome }
 {
     match outcome {
         Outcome::Refused(r) => r,
@@ -250,7 +250,7 @@ fn refusal_in(outcome: Outcome) -> u8
 
 // The refusal of a payload of `length` names of a size each, or 0, in one pass.
 fn names_refusal(payload: &[u8], size: usize, length: usize) -> u8
-    ensures { result ≡ refusalOf (elements Form.Names length size) (heldIn Form.Names size payload.now) }
+    ensures { result ≡ refusal_of (elements Form.Names length size) (held_in Form.Names size payload.now) }
 {
     if !steps::are_names(payload, size) {
         return refusal::NUMBER_NOT_ALLOWED;
@@ -276,7 +276,7 @@ fn is_product(length: usize, n: usize, size: usize) -> bool
 
 // The refusal of packed numbers of one or two bytes, or 0.
 fn count_packed(payload: &[u8], two: bool, length: usize) -> u8
-    ensures { result ≡ refusalOf length (readIn (Form.Packed (packedSize two)) payload.now) }
+    ensures { result ≡ refusal_of length (read_in (Form.Packed (packed_size two)) payload.now) }
 {
     let count = count_of(payload.len(), two);
     let limits = count_limits(payload, two, count);
@@ -294,8 +294,8 @@ fn count_packed(payload: &[u8], two: bool, length: usize) -> u8
 
 // Whether it is known that no sum leaves 32 bits: there are few limits, or none of them stand in a long row.
 fn sums_fit(payload: &[u8], two: bool, count: usize, limits: usize) -> bool
-    requires { (size_of (packedSize two) * count ≤ length payload.now) × (limits ≡ limitsIn (packedSize two) payload.now 0 count) }
-    ensures { result ≡ true → RowsWithin (mostLimits two) two payload.now count }
+    requires { (size_of (packed_size two) * count ≤ length payload.now) × (limits ≡ limits_in (packed_size two) payload.now 0 count) }
+    ensures { result ≡ true → RowsWithin (most_limits two) two payload.now count }
 {
     if limits <= most_limits(two) {
         return true;
@@ -305,7 +305,7 @@ fn sums_fit(payload: &[u8], two: bool, count: usize, limits: usize) -> bool
 
 // Whether one of the blocks is all limits. If none is, a row of limits is shorter than two blocks.
 fn has_row(payload: &[u8], two: bool, count: usize) -> bool
-    requires { size_of (packedSize two) * count ≤ length payload.now }
+    requires { size_of (packed_size two) * count ≤ length payload.now }
     ensures { result ≡ false → RowsWithin block_row two payload.now count }
 {
     let mut i: usize = 0;
@@ -320,8 +320,8 @@ fn has_row(payload: &[u8], two: bool, count: usize) -> bool
 
 // Whether the last of `count` numbers is a limit.
 fn ends_at_limit(payload: &[u8], two: bool, count: usize) -> bool
-    requires { size_of (packedSize two) * count ≤ length payload.now }
-    ensures { result ≡ endsAtLimit (packedSize two) payload.now count }
+    requires { size_of (packed_size two) * count ≤ length payload.now }
+    ensures { result ≡ ends_at_limit (packed_size two) payload.now count }
 {
     if count == 0 {
         return false;
@@ -335,15 +335,15 @@ fn ends_at_limit(payload: &[u8], two: bool, count: usize) -> bool
 
 // How many packed numbers of one or two bytes are limits.
 pub fn limits_of(packed: &[u8], two: bool) -> usize
-    ensures { result ≡ limitsIn (packedSize two) packed.now 0 (countIn (packedSize two) packed.now) }
+    ensures { result ≡ limits_in (packed_size two) packed.now 0 (count_in (packed_size two) packed.now) }
 {
     count_limits(packed, two, count_of(packed.len(), two))
 }
 
 // How many of `count` numbers are limits: in blocks, and in the rest.
 fn count_limits(payload: &[u8], two: bool, count: usize) -> usize
-    requires { size_of (packedSize two) * count ≤ length payload.now }
-    ensures { result ≡ limitsIn (packedSize two) payload.now 0 count }
+    requires { size_of (packed_size two) * count ≤ length payload.now }
+    ensures { result ≡ limits_in (packed_size two) payload.now 0 count }
 {
     let mut i: usize = 0;
     let mut limits: usize = 0;
@@ -356,8 +356,8 @@ fn count_limits(payload: &[u8], two: bool, count: usize) -> usize
 
 // How many of so few numbers are limits, by a loop of their size's own.
 fn limits_in(payload: &[u8], two: bool, at: usize, count: usize) -> u16
-    requires { (at + size_of (packedSize two) * count ≤ length payload.now) × (count ≤ 256) }
-    ensures { result ≡ limitsIn (packedSize two) payload.now at count }
+    requires { (at + size_of (packed_size two) * count ≤ length payload.now) × (count ≤ 256) }
+    ensures { result ≡ limits_in (packed_size two) payload.now at count }
 {
     if two {
         return add_limits(payload, true, at, count);
@@ -367,8 +367,8 @@ fn limits_in(payload: &[u8], two: bool, at: usize, count: usize) -> u16
 
 // The same, number by number. The processor counts many at a time, in 16 bits each.
 fn add_limits(payload: &[u8], two: bool, at: usize, count: usize) -> u16
-    requires { (at + size_of (packedSize two) * count ≤ length payload.now) × (count ≤ 256) }
-    ensures { result ≡ limitsIn (packedSize two) payload.now at count }
+    requires { (at + size_of (packed_size two) * count ≤ length payload.now) × (count ≤ 256) }
+    ensures { result ≡ limits_in (packed_size two) payload.now at count }
 {
     let mut k: usize = 0;
     let mut limits: u16 = 0;
@@ -381,8 +381,8 @@ fn add_limits(payload: &[u8], two: bool, at: usize, count: usize) -> u16
 
 // 1 where a number is a limit, else 0.
 fn limit_at(payload: &[u8], two: bool, at: usize) -> u16
-    requires { at + size_of (packedSize two) ≤ length payload.now }
-    ensures { result ≡ limitAt (packedSize two) payload.now at }
+    requires { at + size_of (packed_size two) ≤ length payload.now }
+    ensures { result ≡ limit_at (packed_size two) payload.now at }
 {
     if two {
         return two_at_limit(payload, at);
@@ -394,7 +394,7 @@ fn limit_at(payload: &[u8], two: bool, at: usize) -> u16
 // because only bits with a single use are loaded at once.
 fn two_at_limit(payload: &[u8], at: usize) -> u16
     requires { at + 2 ≤ length payload.now }
-    ensures { result ≡ limitAt Size.Two payload.now at }
+    ensures { result ≡ limit_at Size.Two payload.now at }
 {
     let bits = numbers::u8_to_u16(payload[at + 1]) * 256 + numbers::u8_to_u16(payload[at]);
     let moved = std::num::wrapping_add_u16(bits, 129);
@@ -406,7 +406,7 @@ fn two_at_limit(payload: &[u8], at: usize) -> u16
 
 // 1 where a byte is a limit, else 0.
 fn byte_at_limit(bits: u8) -> u16
-    ensures { result ≡ (if isLimit 127 128 (to_z w8 bits) then 1 else 0) }
+    ensures { result ≡ (if is_limit 127 128 (to_z w8 bits) then 1 else 0) }
 {
     if bits == 127 {
         return 1;
@@ -416,36 +416,36 @@ fn byte_at_limit(bits: u8) -> u16
 
 // The size of packed numbers: two bytes, or one.
 pub fn packed_size(two: bool) -> Size
-    ensures { result ≡ packedSize two }
+    ensures { result ≡ packed_size two }
 {
     if two { Size::Two } else { Size::One }
 }
 
 // How many packed numbers so many bytes hold.
 fn count_of(bytes: usize, two: bool) -> usize
-    ensures { result ≡ bytes / size_of (packedSize two) }
+    ensures { result ≡ bytes / size_of (packed_size two) }
 {
     if two { bytes / 2 } else { bytes }
 }
 
 // Where the packed number at an index stands.
 fn place_of(two: bool, index: usize) -> usize
-    requires { size_of (packedSize two) * index < 18446744073709551616 }
-    ensures { result ≡ size_of (packedSize two) * index }
+    requires { size_of (packed_size two) * index < 18446744073709551616 }
+    ensures { result ≡ size_of (packed_size two) * index }
 {
     if two { 2 * index } else { index }
 }
 
 // So many limits of a size, and a number after them, cannot lead a sum out of 32 bits.
 fn most_limits(two: bool) -> usize
-    ensures { result ≡ mostLimits two }
+    ensures { result ≡ most_limits two }
 {
     if two { 65534 } else { 16777214 }
 }
 
 // So many limits of a size, and a number after them, have a sum that is exact in single precision.
 fn exact_limits(two: bool) -> usize
-    ensures { result ≡ exactLimits two }
+    ensures { result ≡ exact_limits two }
 {
     if two { 510 } else { 131070 }
 }
@@ -476,7 +476,7 @@ pub fn is_short(count: usize, left: usize) -> bool
 
 // Scans runs, by a loop of their range's own.
 fn scan_ranged(payload: &[u8], range: Range, delta: bool, length: usize) -> Outcome
-    ensures { result ≡ scanOf (Form.Runs range) delta length (readIn (Form.Runs range) payload.now) }
+    ensures { result ≡ scan_of (Form.Runs range) delta length (read_in (Form.Runs range) payload.now) }
 {
     match range {
         Range::Int8 => scan_runs(payload, Range::Int8, delta, length),
@@ -488,7 +488,7 @@ fn scan_ranged(payload: &[u8], range: Range, delta: bool, length: usize) -> Outc
 
 // Scans runs.
 fn scan_runs(payload: &[u8], range: Range, delta: bool, length: usize) -> Outcome
-    ensures { result ≡ scanOf (Form.Runs range) delta length (readIn (Form.Runs range) payload.now) }
+    ensures { result ≡ scan_of (Form.Runs range) delta length (read_in (Form.Runs range) payload.now) }
 {
     let mut at: usize = 0;
     let mut left = length;
@@ -514,7 +514,7 @@ fn scan_runs(payload: &[u8], range: Range, delta: bool, length: usize) -> Outcom
 
 // The refusal of runs, or 0, by a loop of their range's own.
 fn runs_refusal(payload: &[u8], range: Range, length: usize) -> u8
-    ensures { result ≡ refusalOf length (readIn (Form.Runs range) payload.now) }
+    ensures { result ≡ refusal_of length (read_in (Form.Runs range) payload.now) }
 {
     match range {
         Range::Int8 => count_runs(payload, Range::Int8, length),
@@ -526,7 +526,7 @@ fn runs_refusal(payload: &[u8], range: Range, length: usize) -> u8
 
 // The refusal of runs, or 0.
 fn count_runs(payload: &[u8], range: Range, length: usize) -> u8
-    ensures { result ≡ refusalOf length (readIn (Form.Runs range) payload.now) }
+    ensures { result ≡ refusal_of length (read_in (Form.Runs range) payload.now) }
 {
     let mut at: usize = 0;
     let mut left = length;
@@ -550,7 +550,7 @@ fn count_runs(payload: &[u8], range: Range, length: usize) -> u8
 
 // What is left of the results and whether there were too many, at the payload's end.
 fn judged(over: bool, left: usize, exact: bool) -> Outcome
-    ensures { result ≡ (if over || not (left == 0) then Outcome.Refused lengthDiffers else Outcome.Fine exact) }
+    ensures { result ≡ (if over || not (left == 0) then Outcome.Refused length_differs else Outcome.Fine exact) }
 {
     if over {
         return Outcome::Refused(refusal::LENGTH_DIFFERS);
@@ -563,7 +563,7 @@ fn judged(over: bool, left: usize, exact: bool) -> Outcome
 
 // The forms whose results are judged to be exact.
 fn judges_exact(form: Form, delta: bool) -> bool
-    ensures { result ≡ judgesExact form delta }
+    ensures { result ≡ judges_exact form delta }
 {
     match form {
         Form::Plain(size) => match size {

@@ -2,10 +2,10 @@
 -- and no lemma stands here: the laws are in Laws/Reading.antt. Assumes nothing.
 use Rattle.std.specs.Prelude.{◌≡◌, Bool, true, cond, ◌&&◌, List, [], ◌∷◌, ◌++◌, ℕ, eqb, leb}
 use Prim.Native.String as Text
-use Rattle.refusal.specs.Table.{accepted, versionNot1, receiptMalformed}
+use Rattle.refusal.specs.Table.{accepted, version_not1, receipt_malformed}
 use Rattle.numbers.specs.Ranges.{within}
-use Rattle.fields.specs.Table.{fieldCount, requiredFields}
-use Rattle.counts.specs.Counts.{countLimit}
+use Rattle.fields.specs.Table.{field_count, required_fields}
+use Rattle.counts.specs.Counts.{count_limit}
 use Rattle.text.specs.Decimal.{decimal}
 use Rattle.text.specs.Ascii.{ascii}
 use Rattle.receipt.specs.declared.Receipt.{Receipt}
@@ -13,54 +13,54 @@ use Rattle.receipt.specs.declared.Reading.{Reading}
 use Rattle.receipt.specs.declared.Reading.TheVariants.{Numbers, Refused}
 
 -- the last station and job
-abbrev pub stationLimit : ℕ
-stationLimit = 99
+abbrev pub station_limit : ℕ
+station_limit = 99
 
-abbrev pub jobLimit : ℕ
-jobLimit = 999999
+abbrev pub job_limit : ℕ
+job_limit = 999999
 
 -- the last verdict on a file
-abbrev pub verdictLimit : ℕ
-verdictLimit = versionNot1
+abbrev pub verdict_limit : ℕ
+verdict_limit = version_not1
 
 -- the required fields are 16, the named ones 39
-abbrev pub fieldsLeast : ℕ
-fieldsLeast = requiredFields
+abbrev pub fields_least : ℕ
+fields_least = required_fields
 
-abbrev pub fieldsMost : ℕ
-fieldsMost = fieldCount
+abbrev pub fields_most : ℕ
+fields_most = field_count
 
 -- the most bytes of a receipt that keeps the rules, and the room of a page for ten lines with any numbers of 32 bits
-abbrev pub receiptLimit : ℕ
-receiptLimit = 128
+abbrev pub receipt_limit : ℕ
+receipt_limit = 128
 
-abbrev pub pageRoom : ℕ
-pageRoom = 176
+abbrev pub page_room : ℕ
+page_room = 176
 
 -- station 1 to 99, job 1 to 999,999
 abbrev pub numbered : ℕ → ℕ → Bool
-numbered station job = within 1 stationLimit station && within 1 jobLimit job
+numbered station job = within 1 station_limit station && within 1 job_limit job
 
 -- after a verdict of 0: counts up to the limit, as many fields as a file can have, and one unit
-abbrev pub acceptedRight : Receipt → Bool
-acceptedRight r =
-    (leb r.models countLimit && (leb r.chains countLimit && (leb r.groups countLimit && (leb r.atoms countLimit && leb r.bonds countLimit))))
-    && (within fieldsLeast fieldsMost r.fields && eqb r.units 1)
+abbrev pub accepted_right : Receipt → Bool
+accepted_right r =
+    (leb r.models count_limit && (leb r.chains count_limit && (leb r.groups count_limit && (leb r.atoms count_limit && leb r.bonds count_limit))))
+    && (within fields_least fields_most r.fields && eqb r.units 1)
 
 -- after any other verdict: zeros
-abbrev pub refusedRight : Receipt → Bool
-refusedRight r =
+abbrev pub refused_right : Receipt → Bool
+refused_right r =
     (eqb r.models 0 && (eqb r.chains 0 && (eqb r.groups 0 && (eqb r.atoms 0 && eqb r.bonds 0))))
     && (eqb r.fields 0 && eqb r.units 0)
 
 -- station and job are in range, the verdict is 0 to 24, and the lines after it are right
-unfoldable pub rulesKept : Receipt → Bool
-rulesKept r =
-    numbered r.station r.job && (leb r.verdict verdictLimit && cond (eqb r.verdict accepted) (acceptedRight r) (refusedRight r))
+unfoldable pub rules_kept : Receipt → Bool
+rules_kept r =
+    numbered r.station r.job && (leb r.verdict verdict_limit && cond (eqb r.verdict accepted) (accepted_right r) (refused_right r))
 
 -- the ten numbers in the order of the lines
-abbrev pub numbersOf : Receipt → List ℕ
-numbersOf r =
+abbrev pub numbers_of : Receipt → List ℕ
+numbers_of r =
     r.station ∷ r.job ∷ r.verdict ∷ r.models ∷ r.chains ∷ r.groups ∷ r.atoms ∷ r.bonds ∷ r.fields ∷ r.units ∷ []
 
 -- a line: a name, an equals sign, a number in decimal with the higher digits first and no leading zeros, and a line feed
@@ -68,29 +68,29 @@ unfoldable pub line : List ℕ → ℕ → List ℕ
 line name n = name ++ (0x3d ∷ decimal n ++ (0x0a ∷ []))
 
 -- a line by its name in ASCII
-abbrev pub namedLine : Text.String → ℕ → List ℕ
-namedLine name n = line (ascii name) n
+abbrev pub named_line : Text.String → ℕ → List ℕ
+named_line name n = line (ascii name) n
 
 -- the ten lines
 unfoldable pub written : Receipt → List ℕ
 written r =
-    namedLine "station" r.station
-    ++ namedLine "job" r.job
-    ++ namedLine "verdict" r.verdict
-    ++ namedLine "models" r.models
-    ++ namedLine "chains" r.chains
-    ++ namedLine "groups" r.groups
-    ++ namedLine "atoms" r.atoms
-    ++ namedLine "bonds" r.bonds
-    ++ namedLine "fields" r.fields
-    ++ namedLine "units" r.units
+    named_line "station" r.station
+    ++ named_line "job" r.job
+    ++ named_line "verdict" r.verdict
+    ++ named_line "models" r.models
+    ++ named_line "chains" r.chains
+    ++ named_line "groups" r.groups
+    ++ named_line "atoms" r.atoms
+    ++ named_line "bonds" r.bonds
+    ++ named_line "fields" r.fields
+    ++ named_line "units" r.units
 
 -- the bytes are the receipt r
 pub record IsReceipt (bytes : List ℕ) (r : Receipt) : Type 0 where
-  pub rules : rulesKept r ≡ true
+  pub rules : rules_kept r ≡ true
   pub text : bytes ≡ written r
 
 -- what reading answers: the numbers of the receipt that the bytes are; 29 where they are none
 pub data Reads (bytes : List ℕ) : Reading → Type 0 where
   is : {r : Receipt} → IsReceipt bytes r → Reads bytes (Numbers r)
-  none : ((r : Receipt) → IsReceipt bytes r → ⊥) → Reads bytes (Refused receiptMalformed)
+  none : ((r : Receipt) → IsReceipt bytes r → ⊥) → Reads bytes (Refused receipt_malformed)

@@ -3,12 +3,12 @@
 ghost use Rattle.std.specs.Prelude.{◌≡◌, ℕ, length, take, drop};
 ghost use Rattle.numbers.specs.Ranges.{within};
 ghost use Rattle.text.specs.Put.{Put};
-ghost use Rattle.receipt.specs.Receipt.{pageRoom, numbered, acceptedRight, refusedRight, line, written, rulesKept};
-ghost use Rattle.structure.specs.Summary.{summaryOf};
-ghost use Rattle.receipt.specs.File.{unitsOf, receiptBy, Receipted, receiptAnswer, receiptBuffer};
-ghost use Rattle.text.specs.Decimal.{isDigit};
+ghost use Rattle.receipt.specs.Receipt.{page_room, numbered, accepted_right, refused_right, line, written, rules_kept};
+ghost use Rattle.structure.specs.Summary.{summary_of};
+ghost use Rattle.receipt.specs.File.{units_of, receipt_by, Receipted, receipt_answer, receipt_buffer};
+ghost use Rattle.text.specs.Decimal.{is_digit};
 ghost use Rattle.receipt.specs.Reading.{reading_of, found_at};
-ghost use Rattle.receipt.specs.Steps.{countsLines, first_lines, lastLines, noLine, takesDigit, digitsAt, numberAt, line_at};
+ghost use Rattle.receipt.specs.Steps.{counts_lines, first_lines, last_lines, no_line, takes_digit, digits_at, number_at, line_at};
 
 use refusal::Answer;
 
@@ -70,8 +70,8 @@ pub struct Line {
 
 // Writes the receipt of a file into the buffer: 29 for a station or a job out of range, then 25. A refused file gets its receipt too.
 pub fn write(station: u32, job: u32, file: &[u8], buffer: &mut [u8]) -> Answer
-    ensures answer { result ≡ receiptAnswer station job file.now (length buffer.old) }
-    ensures buffer { buffer.new ≡ receiptBuffer station job file.now buffer.old }
+    ensures answer { result ≡ receipt_answer station job file.now (length buffer.old) }
+    ensures buffer { buffer.new ≡ receipt_buffer station job file.now buffer.old }
     ensures receipt { (n : ℕ) → result ≡ Answer.Count n → Receipted station job file.now (take n buffer.new) }
 {
     if !is_numbered(station, job) {
@@ -88,7 +88,7 @@ pub fn write(station: u32, job: u32, file: &[u8], buffer: &mut [u8]) -> Answer
 
 // The numbers of the receipt of a file.
 fn receipt_of(station: u32, job: u32, file: &[u8]) -> Receipt
-    ensures { result ≡ receiptBy station job (summaryOf file.now) }
+    ensures { result ≡ receipt_by station job (summary_of file.now) }
 {
     let summary = structure::summary_of(file);
     Receipt {
@@ -107,7 +107,7 @@ fn receipt_of(station: u32, job: u32, file: &[u8]) -> Receipt
 
 // One unit for an accepted file, none for a refused one.
 fn units_of(verdict: u8) -> u32
-    ensures { result ≡ unitsOf verdict }
+    ensures { result ≡ units_of verdict }
 {
     if verdict == refusal::ACCEPTED {
         return 1;
@@ -172,7 +172,7 @@ fn line_at(bytes: &[u8], at: usize, word: &[u8]) -> Line
 
 // The number in decimal at a place with a line feed after it, and the place after that.
 fn number_at(bytes: &[u8], at: usize) -> Line
-    ensures { result ≡ numberAt (drop at bytes.now) at }
+    ensures { result ≡ number_at (drop at bytes.now) at }
 {
     if bytes.len() <= at {
         return no_line();
@@ -187,7 +187,7 @@ fn number_at(bytes: &[u8], at: usize) -> Line
 // The number that goes on at a place after digits that say `number`: further digits up to a line feed. There is none after a leading zero, and none
 // of more than nine digits.
 fn digits_at(bytes: &[u8], at: usize, number: u32) -> Line
-    ensures { result ≡ digitsAt (drop at bytes.now) number at }
+    ensures { result ≡ digits_at (drop at bytes.now) number at }
 {
     let mut said = number;
     let mut i = at;
@@ -210,7 +210,7 @@ fn digits_at(bytes: &[u8], at: usize, number: u32) -> Line
 
 // What stands for a line that is not there.
 fn no_line() -> Line
-    ensures { result ≡ noLine }
+    ensures { result ≡ no_line }
 {
     Line {
         number: u32::MAX,
@@ -220,21 +220,21 @@ fn no_line() -> Line
 
 // Whether a byte is a digit that can follow those of a number.
 fn takes_digit(number: u32, byte: u8) -> bool
-    ensures { result ≡ takesDigit number byte }
+    ensures { result ≡ takes_digit number byte }
 {
     numbers::both(is_digit(byte), is_within(1, 99_999_999, number))
 }
 
 // Whether a byte is a decimal digit.
 fn is_digit(byte: u8) -> bool
-    ensures { result ≡ isDigit byte }
+    ensures { result ≡ is_digit byte }
 {
     numbers::both(b'0' <= byte, byte <= b'9')
 }
 
 // Whether the numbers are those of a receipt.
 fn is_allowed(receipt: Receipt) -> bool
-    ensures { result ≡ rulesKept receipt }
+    ensures { result ≡ rules_kept receipt }
 {
     if !is_numbered(receipt.station, receipt.job) {
         return false;
@@ -260,7 +260,7 @@ fn is_numbered(station: u32, job: u32) -> bool
 
 // Whether the seven lines after a verdict 0 are right: counts, fields and one unit.
 fn is_accepted(receipt: Receipt) -> bool
-    ensures { result ≡ acceptedRight receipt }
+    ensures { result ≡ accepted_right receipt }
 {
     let inner = numbers::both(receipt.atoms <= COUNT_LIMIT, receipt.bonds <= COUNT_LIMIT);
     let middle = numbers::both(receipt.groups <= COUNT_LIMIT, inner);
@@ -272,7 +272,7 @@ fn is_accepted(receipt: Receipt) -> bool
 
 // Whether the seven lines after another verdict are right: all 0.
 fn is_refused(receipt: Receipt) -> bool
-    ensures { result ≡ refusedRight receipt }
+    ensures { result ≡ refused_right receipt }
 {
     let inner = numbers::both(receipt.atoms == 0, receipt.bonds == 0);
     let middle = numbers::both(receipt.groups == 0, inner);
@@ -293,7 +293,7 @@ fn is_within(low: u32, high: u32, number: u32) -> bool
 
 // A page with nothing on it.
 fn blank() -> [u8; ROOM]
-    ensures { length result ≡ pageRoom }
+    ensures { length result ≡ page_room }
 {
     [0u8; ROOM]
 }
@@ -318,7 +318,7 @@ fn put_first(page: &mut [u8], receipt: Receipt) -> usize
 
 // Puts the lines of the five counts.
 fn put_counts(page: &mut [u8], at: usize, receipt: Receipt) -> usize
-    ensures { Put page.old at (countsLines receipt) page.new result }
+    ensures { Put page.old at (counts_lines receipt) page.new result }
 {
     let chains = put_line(page, at, b"models", receipt.models);
     let groups = put_line(page, chains, b"chains", receipt.chains);
@@ -329,7 +329,7 @@ fn put_counts(page: &mut [u8], at: usize, receipt: Receipt) -> usize
 
 // Puts the lines of fields and units.
 fn put_last(page: &mut [u8], at: usize, receipt: Receipt) -> usize
-    ensures { Put page.old at (lastLines receipt) page.new result }
+    ensures { Put page.old at (last_lines receipt) page.new result }
 {
     let units = put_line(page, at, b"fields", receipt.fields);
     put_line(page, units, b"units", receipt.units)

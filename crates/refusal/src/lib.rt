@@ -2,7 +2,7 @@
 // name and not by place, so that a new row moves no other. Numbers of rules are joined in their order, and a call that fills a lent buffer
 // answers a count or a number.
 ghost use Rattle.std.specs.Prelude.{◌≡◌};
-ghost use Rattle.refusal.specs.Table.{refusalNumber};
+ghost use Rattle.refusal.specs.Table.{refusal_number};
 ghost use Rattle.refusal.specs.First.{unless as numberUnless};
 
 // accepted
@@ -113,7 +113,7 @@ pub enum Answer {
 
 // The number of a meaning.
 pub fn number(refusal: Refusal) -> u8
-    ensures { result ≡ refusalNumber refusal }
+    ensures { result ≡ refusal_number refusal }
 {
     match refusal {
         Refusal::Accepted => ACCEPTED,

@@ -3,7 +3,7 @@
 use Rattle.std.specs.Prelude.{cond, List, [], ◌∷◌, ◌++◌, ℕ, eqb, length}
 use Rattle.text.specs.Ascii.{ascii}
 use Rattle.text.specs.Decimal.{decimal}
-use Rattle.meanings.specs.Meanings.{Meaning, says, textIn}
+use Rattle.meanings.specs.Meanings.{Meaning, says, text_in}
 
 -- the errors that have words here
 unfoldable pub reasons : List Meaning
@@ -31,9 +31,9 @@ reasons =
     ∷ []
 
 -- an error that has no words here, by its number
-abbrev pub errorText : ℕ → List ℕ
-errorText n = ascii "error " ++ decimal n
+abbrev pub error_text : ℕ → List ℕ
+error_text n = ascii "error " ++ decimal n
 
 -- the words of an error
-abbrev pub reasonText : ℕ → List ℕ
-reasonText n = cond (eqb (length (textIn reasons n)) 0) (errorText n) (textIn reasons n)
+abbrev pub reason_text : ℕ → List ℕ
+reason_text n = cond (eqb (length (text_in reasons n)) 0) (error_text n) (text_in reasons n)

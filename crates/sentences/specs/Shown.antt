@@ -15,13 +15,13 @@ abbrev pub printing : ℕ → Bool
 printing b = cond (ltb b 32) false (cond (eqb b 127) false true)
 
 -- a byte as it is shown: one that does not print as \x and two digits in base 16
-abbrev pub shownByte : ℕ → List ℕ
-shownByte b = cond (printing b) (b ∷ []) (ascii "\\x" ++ (glyph (b / 16) ∷ glyph (b % 16) ∷ []))
+abbrev pub shown_byte : ℕ → List ℕ
+shown_byte b = cond (printing b) (b ∷ []) (ascii "\\x" ++ (glyph (b / 16) ∷ glyph (b % 16) ∷ []))
 
 -- a word as it is shown
 abbrev pub shown : List ℕ → List ℕ
-shown word = replaced shownByte word
+shown word = replaced shown_byte word
 
 -- a file as it is named in a sentence: `-` is standard input, in the letters that are given, and an empty name stands in quotation marks
-abbrev pub fileName : List ℕ → List ℕ → List ℕ
-fileName input file = cond (equal file (ascii "-")) input (cond (eqb (length file) 0) (ascii "\"\"") (shown file))
+abbrev pub file_name : List ℕ → List ℕ → List ℕ
+file_name input file = cond (equal file (ascii "-")) input (cond (eqb (length file) 0) (ascii "\"\"") (shown file))

@@ -3,11 +3,11 @@
 ghost use Rattle.std.specs.Prelude.{◌≡◌};
 ghost use Rattle.text.specs.Put.{Put};
 ghost use Rattle.text.specs.Ascii.{ascii};
-ghost use Rattle.meanings.specs.Meanings.{textIn};
-ghost use Rattle.sentences.specs.Shown.{replaced, printing, shownByte, shown, fileName};
-ghost use Rattle.sentences.specs.Reasons.{errorText, reasonText};
-ghost use Rattle.sentences.specs.Sentences.{isGzip, adviceOf, refusalOf, reasonOf, receiptOf, markText, sentenceText};
-ghost use Rattle.sentences.specs.Steps.{forms, verdictRow, billRow, row_of};
+ghost use Rattle.meanings.specs.Meanings.{text_in};
+ghost use Rattle.sentences.specs.Shown.{replaced, printing, shown_byte, shown, file_name};
+ghost use Rattle.sentences.specs.Reasons.{error_text, reason_text};
+ghost use Rattle.sentences.specs.Sentences.{is_gzip, advice_of, refusal_of, reason_of, receipt_of, mark_text, sentence_text};
+ghost use Rattle.sentences.specs.Steps.{forms, verdict_row, bill_row, row_of};
 
 // What a person can do about a refused file.
 #[derive(Drop)]
@@ -57,7 +57,7 @@ pub enum Sentence {
 
 // What to do about a file with a refusal number.
 pub fn advice_of(file: &[u8], number: u8) -> Advice
-    ensures { result ≡ adviceOf file.now number }
+    ensures { result ≡ advice_of file.now number }
 {
     if is_gzip(file) {
         return Advice::Gzip;
@@ -70,7 +70,7 @@ pub fn advice_of(file: &[u8], number: u8) -> Advice
 
 // Whether a file begins as gzip writes it.
 fn is_gzip(file: &[u8]) -> bool
-    ensures { result ≡ isGzip file.now }
+    ensures { result ≡ is_gzip file.now }
 {
     if file.len() < 2 {
         return false;
@@ -80,7 +80,7 @@ fn is_gzip(file: &[u8]) -> bool
 
 // Puts a sentence about a subject, a file or a word, at the start of a buffer, and gives its end. A part of a file has a name.
 pub fn put_sentence(buffer: &mut [u8], subject: &[u8], name: &[u8], sentence: Sentence) -> usize
-    ensures { Put buffer.old 0 (sentenceText subject.now name.now sentence) buffer.new result }
+    ensures { Put buffer.old 0 (sentence_text subject.now name.now sentence) buffer.new result }
 {
     let row = row_of(sentence);
     let refusal = refusal_of(sentence);
@@ -120,7 +120,7 @@ fn row_of(sentence: Sentence) -> u32
 
 // The row of the verdict on a file.
 fn verdict_row(number: u8, advice: Advice) -> u32
-    ensures { result ≡ verdictRow number advice }
+    ensures { result ≡ verdict_row number advice }
 {
     if number == refusal::ACCEPTED {
         return 1;
@@ -134,7 +134,7 @@ fn verdict_row(number: u8, advice: Advice) -> u32
 
 // The row of receipts that are refused.
 fn bill_row(number: u8) -> u32
-    ensures { result ≡ billRow number }
+    ensures { result ≡ bill_row number }
 {
     if number == refusal::FILE_OVER_LIMIT {
         return 16;
@@ -147,7 +147,7 @@ fn bill_row(number: u8) -> u32
 
 // The number of the refusal that a sentence says, or 0.
 fn refusal_of(sentence: Sentence) -> u8
-    ensures { result ≡ refusalOf sentence }
+    ensures { result ≡ refusal_of sentence }
 {
     match sentence {
         Sentence::Verdict(number, _) => number,
@@ -168,7 +168,7 @@ fn refusal_of(sentence: Sentence) -> u8
 
 // The number of the system's error that a sentence says, or 0.
 fn reason_of(sentence: Sentence) -> u32
-    ensures { result ≡ reasonOf sentence }
+    ensures { result ≡ reason_of sentence }
 {
     match sentence {
         Sentence::Verdict(_, _) => 0,
@@ -185,7 +185,7 @@ fn reason_of(sentence: Sentence) -> u32
 
 // The number of the receipt that a sentence says, or 0.
 fn receipt_of(sentence: Sentence) -> u32
-    ensures { result ≡ receiptOf sentence }
+    ensures { result ≡ receipt_of sentence }
 {
     match sentence {
         Sentence::Verdict(_, _) => 0,
@@ -208,7 +208,7 @@ fn put_form(
     reason: u32,
     receipt: u32,
 ) -> usize
-    ensures { Put buffer.old 0 (replaced (markText subject.now name.now refusal reason receipt) (textIn forms row)) buffer.new result }
+    ensures { Put buffer.old 0 (replaced (mark_text subject.now name.now refusal reason receipt) (text_in forms row)) buffer.new result }
 {
     let form = meanings::words_in(
         b"\x01@ is accepted.\n\
@@ -245,7 +245,7 @@ fn put_replaced(
     reason: u32,
     receipt: u32,
 ) -> usize
-    ensures { Put buffer.old 0 (replaced (markText subject.now name.now refusal reason receipt) form.now) buffer.new result }
+    ensures { Put buffer.old 0 (replaced (mark_text subject.now name.now refusal reason receipt) form.now) buffer.new result }
 {
     let mut next: usize = 0;
     let mut i: usize = 0;
@@ -269,7 +269,7 @@ fn put_mark(
     reason: u32,
     receipt: u32,
 ) -> usize
-    ensures { Put buffer.old at (markText subject.now name.now refusal reason receipt mark) buffer.new result }
+    ensures { Put buffer.old at (mark_text subject.now name.now refusal reason receipt mark) buffer.new result }
 {
     match mark {
         b'@' => put_name(buffer, at, subject, b"Standard input"),
@@ -286,7 +286,7 @@ fn put_mark(
 
 // Puts the reason of a system's error in words, or its number. The table has for each error a byte with its number, the words, and a line feed.
 fn put_reason(buffer: &mut [u8], at: usize, reason: u32) -> usize
-    ensures { Put buffer.old at (reasonText reason) buffer.new result }
+    ensures { Put buffer.old at (reason_text reason) buffer.new result }
 {
     let words = meanings::words_in(
         b"\x02No such file or directory\n\
@@ -319,7 +319,7 @@ fn put_reason(buffer: &mut [u8], at: usize, reason: u32) -> usize
 
 // Puts the number of an error.
 fn put_error(buffer: &mut [u8], at: usize, reason: u32) -> usize
-    ensures { Put buffer.old at (errorText reason) buffer.new result }
+    ensures { Put buffer.old at (error_text reason) buffer.new result }
 {
     let digits = text::put(buffer, at, b"error ");
     text::put_decimal(buffer, digits, reason)
@@ -327,7 +327,7 @@ fn put_error(buffer: &mut [u8], at: usize, reason: u32) -> usize
 
 // Puts the name of a file; `input` is that of standard input, which the command names "-".
 fn put_name(buffer: &mut [u8], at: usize, file: &[u8], input: &[u8]) -> usize
-    ensures { Put buffer.old at (fileName input.now file.now) buffer.new result }
+    ensures { Put buffer.old at (file_name input.now file.now) buffer.new result }
 {
     if text::same_bytes(file, b"-") {
         return text::put(buffer, at, input);
@@ -353,7 +353,7 @@ fn put_shown(buffer: &mut [u8], at: usize, word: &[u8]) -> usize
 
 // Puts a byte of a word: one that does not print by its digits in base 16.
 fn put_shown_byte(buffer: &mut [u8], at: usize, byte: u8) -> usize
-    ensures { Put buffer.old at (shownByte byte) buffer.new result }
+    ensures { Put buffer.old at (shown_byte byte) buffer.new result }
 {
     if prints(byte) {
         return text::put_byte(buffer, at, byte);

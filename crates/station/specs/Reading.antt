@@ -19,10 +19,10 @@ Ended End.TooLong room = Unit {0}
 Ended (End.Failed reason) room = Unit {0}
 
 -- the bytes of an input that ended
-abbrev pub contentsOf : End → Contents
-contentsOf (End.After n) = Contents.Bytes n
-contentsOf End.TooLong = Contents.None
-contentsOf (End.Failed reason) = Contents.None
+abbrev pub contents_of : End → Contents
+contents_of (End.After n) = Contents.Bytes n
+contents_of End.TooLong = Contents.None
+contents_of (End.Failed reason) = Contents.None
 
 -- a decoder's count is within the room of its buffer
 abbrev pub AnswerWithin : Answer → ℕ → Type 0

@@ -1,7 +1,7 @@
 // The bill of the receipts in files. The files are read one after another, in pieces, and at most a buffer of their bytes is held at a time.
 ghost use Rattle.std.specs.Prelude.{◌≡◌, ◌+◌, ◌<◌, ◌≤◌, length, take, drop};
-ghost use Rattle.receipt.specs.Receipt.{stationLimit};
-ghost use Rattle.bill.specs.Answer.{billLimit};
+ghost use Rattle.receipt.specs.Receipt.{station_limit};
+ghost use Rattle.bill.specs.Answer.{bill_limit};
 ghost use Rattle.station.specs.Bills.{Holds, PieceHolds, ReachedHolds, FilesHold, files_of};
 
 use crate::files::Opened;
@@ -224,14 +224,14 @@ fn keep(buffer: &mut [u8], from: usize, count: usize)
 
 // A column of a ledger with nothing in it.
 fn no_jobs() -> [u32; bill::STATIONS]
-    ensures { length result ≡ stationLimit + 1 }
+    ensures { length result ≡ station_limit + 1 }
 {
     [0u32; bill::STATIONS]
 }
 
 // Room for a bill.
 fn no_bill() -> [u8; bill::ROOM]
-    ensures { length result ≡ billLimit }
+    ensures { length result ≡ bill_limit }
 {
     [0u8; bill::ROOM]
 }

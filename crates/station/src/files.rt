@@ -1,6 +1,6 @@
 // Reading a file by its name. The name - stands for standard input.
 ghost use Rattle.std.specs.Prelude.{◌≡◌, length};
-ghost use Rattle.station.specs.Reading.{Within, Ended, contentsOf};
+ghost use Rattle.station.specs.Reading.{Within, Ended, contents_of};
 
 use crate::say;
 use sentences::{OfFile, Sentence};
@@ -66,7 +66,7 @@ pub(crate) fn say_unreadable(path: &[u8], reason: u32) {
 
 // Says why a file was not read, if it was not.
 fn told(path: &[u8], end: End) -> Contents
-    ensures { result ≡ contentsOf end }
+    ensures { result ≡ contents_of end }
 {
     match end {
         End::After(n) => Contents::Bytes(n),

@@ -1,8 +1,8 @@
 // The fields of a file, a line each, on standard output.
 ghost use Rattle.std.specs.Prelude.{◌≡◌, length};
 ghost use Rattle.text.specs.Put.{Put};
-ghost use Rattle.messagepack.specs.Limits.{entryLimit};
-ghost use Rattle.commands.specs.Listing.{fieldLine};
+ghost use Rattle.messagepack.specs.Limits.{entry_limit};
+ghost use Rattle.commands.specs.Listing.{field_line};
 
 use crate::output;
 use refusal::Answer;
@@ -36,7 +36,7 @@ fn write_lines(file: &[u8], places: &[u32]) -> bool {
 
 // Puts the line of the field whose key stands at a place.
 fn put_field(buffer: &mut [u8], at: usize, file: &[u8], key: usize) -> usize
-    ensures { Put buffer.old at (fieldLine file.now key) buffer.new result }
+    ensures { Put buffer.old at (field_line file.now key) buffer.new result }
 {
     let what = commands::listing::what_at(file, views::plain::text_end(file, key));
     let name = views::plain::text_at(file, key);
@@ -48,7 +48,7 @@ fn put_field(buffer: &mut [u8], at: usize, file: &[u8], key: usize) -> usize
 
 // Room for the places of the outer keys.
 fn no_places() -> [u32; messagepack::ENTRY_LIMIT]
-    ensures { length result ≡ entryLimit }
+    ensures { length result ≡ entry_limit }
 {
     [0u32; messagepack::ENTRY_LIMIT]
 }

@@ -1,7 +1,7 @@
 // The receipt of a file, and the verdict that it has: the file is judged once.
 ghost use Rattle.std.specs.Prelude.{◌≡◌};
 ghost use Rattle.receipt.specs.Reading.{reading_of};
-ghost use Rattle.station.specs.Receipts.{verdictIn, MadeOf};
+ghost use Rattle.station.specs.Receipts.{verdict_in, MadeOf};
 
 use receipt::Reading;
 use refusal::Answer;
@@ -25,7 +25,7 @@ pub(crate) fn make(station: u32, job: u32, file: &[u8], buffer: &mut [u8]) -> Ma
 
 // The verdict in a receipt.
 fn verdict_in(bytes: &[u8]) -> u8
-    ensures { result ≡ verdictIn (reading_of bytes.now) }
+    ensures { result ≡ verdict_in (reading_of bytes.now) }
 {
     match receipt::read(bytes) {
         Reading::Refused(number) => number,

@@ -10,43 +10,43 @@ use Rattle.steps.specs.declared.Range.{Range}
 use Rattle.steps.specs.declared.Range.TheVariants.{Int8, Int16, Int32, Ascii}
 use Rattle.steps.specs.declared.Form.{Form}
 use Rattle.steps.specs.declared.Form.TheVariants.{Plain, Packed, Runs, Names}
-use Rattle.steps.specs.Numbers.{numbersIn}
-use Rattle.steps.specs.RunLength.{expand, runsOf}
+use Rattle.steps.specs.Numbers.{numbers_in}
+use Rattle.steps.specs.RunLength.{expand, runs_of}
 use Rattle.steps.specs.Packing.{unpack, pack}
 
 -- the size of a payload's numbers
-abbrev pub numberSize : Form → Size
-numberSize (Plain z) = z
-numberSize (Packed z) = z
-numberSize (Runs r) = Four
-numberSize Names = One
+abbrev pub number_size : Form → Size
+number_size (Plain z) = z
+number_size (Packed z) = z
+number_size (Runs r) = Four
+number_size Names = One
 
 -- the numbers that the writer puts into a payload for values
-unfoldable pub numbersFor : Form → List ℤ → List ℤ
-numbersFor (Plain z) xs = xs
-numbersFor (Packed z) xs = pack z xs
-numbersFor (Runs r) xs = runsOf xs
-numbersFor Names xs = xs
+unfoldable pub numbers_for : Form → List ℤ → List ℤ
+numbers_for (Plain z) xs = xs
+numbers_for (Packed z) xs = pack z xs
+numbers_for (Runs r) xs = runs_of xs
+numbers_for Names xs = xs
 
 -- the smallest and the largest number of a range
-abbrev pub leastIn : Range → ℤ
-leastIn Int8 = negsuc 127
-leastIn Int16 = negsuc 32767
-leastIn Int32 = negsuc 2147483647
-leastIn Ascii = pos 0
+abbrev pub least_in : Range → ℤ
+least_in Int8 = negsuc 127
+least_in Int16 = negsuc 32767
+least_in Int32 = negsuc 2147483647
+least_in Ascii = pos 0
 
-abbrev pub mostIn : Range → ℤ
-mostIn Int8 = pos 127
-mostIn Int16 = pos 32767
-mostIn Int32 = pos 2147483647
-mostIn Ascii = pos 127
+abbrev pub most_in : Range → ℤ
+most_in Int8 = pos 127
+most_in Int16 = pos 32767
+most_in Int32 = pos 2147483647
+most_in Ascii = pos 127
 
 abbrev pub in_range : Range → ℤ → Bool
-in_range r x = int_le (leastIn r) x && int_le x (mostIn r)
+in_range r x = int_le (least_in r) x && int_le x (most_in r)
 
-unfoldable pub allIn : Range → List ℤ → Bool
-allIn r [] = true
-allIn r (x ∷ xs) = in_range r x && allIn r xs
+unfoldable pub all_in : Range → List ℤ → Bool
+all_in r [] = true
+all_in r (x ∷ xs) = in_range r x && all_in r xs
 
 -- the range of a form's values
 abbrev pub range_of : Form → Range
@@ -58,20 +58,20 @@ range_of (Runs r) = r
 range_of Names = Ascii
 
 -- Names of m bytes each, one after the other: in a name no byte but 0 follows a 0. i is the place of the next byte, a the byte before.
-unfoldable pub paddedFrom : ℕ → ℕ → ℤ → List ℤ → Bool
-paddedFrom m i a [] = true
-paddedFrom m i a (b ∷ bs) = (i % m == 0 || not (of_z w32 a == 0) || of_z w32 b == 0) && paddedFrom m (suc i) b bs
+unfoldable pub padded_from : ℕ → ℕ → ℤ → List ℤ → Bool
+padded_from m i a [] = true
+padded_from m i a (b ∷ bs) = (i % m == 0 || not (of_z w32 a == 0) || of_z w32 b == 0) && padded_from m (suc i) b bs
 
 -- whether names are padded; other forms have no names
 abbrev pub padded : Form → ℕ → List ℤ → Bool
-padded Names m xs = paddedFrom m 0 (pos 0) xs
+padded Names m xs = padded_from m 0 (pos 0) xs
 padded (Plain z) m xs = true
 padded (Packed z) m xs = true
 padded (Runs r) m xs = true
 
 -- the values that a form may hold, with the header's parameter m: what is not allowed is 18
 abbrev pub allowed : Form → ℕ → List ℤ → Bool
-allowed f m xs = allIn (range_of f) xs && padded f m xs
+allowed f m xs = all_in (range_of f) xs && padded f m xs
 
 -- values that pass a test; else none
 abbrev pub only_if : (List ℤ → Bool) → Option (List ℤ) → Option (List ℤ)
@@ -79,17 +79,17 @@ only_if test none = none
 only_if test (some l) = cond (test l) (some l) none
 
 -- values that are all of a range; else none
-abbrev pub onlyIn : Range → Option (List ℤ) → Option (List ℤ)
-onlyIn r o = only_if (allIn r) o
+abbrev pub only_in : Range → Option (List ℤ) → Option (List ℤ)
+only_in r o = only_if (all_in r) o
 
 -- The values of a payload, before delta; none where a count is below 1, a result is unfinished or outside 32 bits, or a value is not of the
 -- form's range. Plain numbers have the range of their width by themselves, and packed results that of 32 bits.
-unfoldable pub readIn : Form → List ℕ → Option (List ℤ)
-readIn (Plain z) s = some (numbersIn z s)
-readIn (Packed z) s = unpack z (numbersIn z s)
-readIn (Runs r) s = onlyIn r (expand (numbersIn Four s))
-readIn Names s = onlyIn Ascii (some (numbersIn One s))
+unfoldable pub read_in : Form → List ℕ → Option (List ℤ)
+read_in (Plain z) s = some (numbers_in z s)
+read_in (Packed z) s = unpack z (numbers_in z s)
+read_in (Runs r) s = only_in r (expand (numbers_in Four s))
+read_in Names s = only_in Ascii (some (numbers_in One s))
 
--- what a payload holds: its values, where names are padded too. None is 18, and whatever is held is `allowed` (the law `heldIn-allowed`).
-unfoldable pub heldIn : Form → ℕ → List ℕ → Option (List ℤ)
-heldIn f m s = only_if (padded f m) (readIn f s)
+-- what a payload holds: its values, where names are padded too. None is 18, and whatever is held is `allowed` (the law `held_in-allowed`).
+unfoldable pub held_in : Form → ℕ → List ℕ → Option (List ℤ)
+held_in f m s = only_if (padded f m) (read_in f s)

@@ -16,11 +16,11 @@ abbrev pub same : ℤ → ℤ → Bool
 same x v = of_z w32 x == of_z w32 v
 
 -- the longest runs of cells of which the first n are v
-unfoldable pub runsFrom : ℤ → ℕ → List ℤ → List ℤ
-runsFrom v n [] = v ∷ (pos n ∷ [])
-runsFrom v n (x ∷ xs) = cond (same x v) (runsFrom v (suc n) xs) (v ∷ (pos n ∷ runsFrom x 1 xs))
+unfoldable pub runs_from : ℤ → ℕ → List ℤ → List ℤ
+runs_from v n [] = v ∷ (pos n ∷ [])
+runs_from v n (x ∷ xs) = cond (same x v) (runs_from v (suc n) xs) (v ∷ (pos n ∷ runs_from x 1 xs))
 
 -- the longest runs of cells: the writer's form
-unfoldable pub runsOf : List ℤ → List ℤ
-runsOf [] = []
-runsOf (x ∷ xs) = runsFrom x 1 xs
+unfoldable pub runs_of : List ℤ → List ℤ
+runs_of [] = []
+runs_of (x ∷ xs) = runs_from x 1 xs

@@ -4,12 +4,12 @@
 ghost use Rattle.std.specs.Prelude.{◌≡◌, ◌+◌, ◌<◌, ◌≤◌, true, ◌&&◌, map, length, take, drop, pos, nat_le};
 ghost use Rattle.std.specs.Int.{w8};
 ghost use Rattle.std.proofs.Common.{to_z};
-ghost use Rattle.numbers.specs.BigEndian.{signedAt};
+ghost use Rattle.numbers.specs.BigEndian.{signed_at};
 ghost use Rattle.steps.specs.Width.{width_of, size_of, upper, lower};
-ghost use Rattle.steps.specs.Delta.{plusDelta, minusDelta};
-ghost use Rattle.steps.specs.Packing.{isLimit};
-ghost use Rattle.steps.specs.Payload.{leastIn, mostIn, in_range, allIn, paddedFrom, allowed};
-ghost use Rattle.steps.specs.Steps.{turn_of, oneName, word_of, zerosLast};
+ghost use Rattle.steps.specs.Delta.{plus_delta, minus_delta};
+ghost use Rattle.steps.specs.Packing.{is_limit};
+ghost use Rattle.steps.specs.Payload.{least_in, most_in, in_range, all_in, padded_from, allowed};
+ghost use Rattle.steps.specs.Steps.{turn_of, one_name, word_of, zeros_last};
 
 // The size of a number, in bytes.
 #[derive(Drop)]
@@ -58,7 +58,7 @@ pub fn bytes(size: Size) -> usize
 
 // The number at a place; 0 where its bytes are not all inside.
 pub fn number_at(payload: &[u8], at: usize, size: Size) -> i32
-    ensures { result ≡ signedAt (width_of size) payload.now at }
+    ensures { result ≡ signed_at (width_of size) payload.now at }
 {
     match size {
         Size::One => numbers::i8_to_i32(read_i8(payload, at)),
@@ -79,14 +79,14 @@ pub fn is_in(value: i32, range: Range) -> bool
 
 // a + d, modulo 2^32 into the signed range.
 pub fn add_delta(a: i32, d: i32) -> i32
-    ensures { result ≡ plusDelta a d }
+    ensures { result ≡ plus_delta a d }
 {
     numbers::to_i32(std::num::wrapping_add_u32(numbers::to_u32(a), numbers::to_u32(d)))
 }
 
 // x - a, modulo 2^32 into the signed range.
 pub fn delta_of(x: i32, a: i32) -> i32
-    ensures { result ≡ minusDelta x a }
+    ensures { result ≡ minus_delta x a }
 {
     numbers::to_i32(std::num::wrapping_sub_u32(numbers::to_u32(x), numbers::to_u32(a)))
 }
@@ -110,7 +110,7 @@ pub fn unpack_one(sum: i32, number: i32, size: Size) -> Turn
 
 // Whether a number is a limit of its size.
 pub fn is_limit(number: i32, size: Size) -> bool
-    ensures { result ≡ isLimit (upper size) (lower size) number }
+    ensures { result ≡ is_limit (upper size) (lower size) number }
 {
     match size {
         Size::One => {
@@ -155,7 +155,7 @@ pub fn are_names(names: &[u8], size: usize) -> bool
 // Whether every byte is ASCII, by the highest of them. One loop goes through both halves at once, and a last odd byte is looked at after it:
 // with more bytes in a turn, it matters less where the linker puts the loop.
 fn are_ascii(bytes: &[u8]) -> bool
-    ensures { result ≡ allIn Range.Ascii (map pos bytes.now) }
+    ensures { result ≡ all_in Range.Ascii (map pos bytes.now) }
 {
     let half = bytes.len() / 2;
     let mut highest: u8 = 0;
@@ -180,8 +180,8 @@ fn higher(a: u8, b: u8) -> u8
 
 // Whether names of a size are padded: each whole one, and what is left after them.
 fn are_padded(names: &[u8], size: usize) -> bool
-    requires { (0 < size) × (allIn Range.Ascii (map pos names.now) ≡ true) }
-    ensures { result ≡ paddedFrom size 0 (pos 0) (map pos names.now) }
+    requires { (0 < size) × (all_in Range.Ascii (map pos names.now) ≡ true) }
+    ensures { result ≡ padded_from size 0 (pos 0) (map pos names.now) }
 {
     let n = names.len() / size;
     let mut ok = true;
@@ -196,8 +196,8 @@ fn are_padded(names: &[u8], size: usize) -> bool
 
 // Whether the name at a place is padded. One of four bytes is tested as one number.
 fn is_name(names: &[u8], at: usize, size: usize) -> bool
-    requires { (at + size ≤ length names.now) × (allIn Range.Ascii (map pos names.now) ≡ true) }
-    ensures { result ≡ oneName (take size (drop at names.now)) }
+    requires { (at + size ≤ length names.now) × (all_in Range.Ascii (map pos names.now) ≡ true) }
+    ensures { result ≡ one_name (take size (drop at names.now)) }
 {
     match size {
         4 => zeros_last(word_of(names[at], names[at + 1], names[at + 2], names[at + 3])),
@@ -210,7 +210,7 @@ fn is_name(names: &[u8], at: usize, size: usize) -> bool
 
 // Whether one name is padded: after a 0 there are only zeros.
 fn is_padded(name: &[u8]) -> bool
-    ensures { result ≡ oneName name.now }
+    ensures { result ≡ one_name name.now }
 {
     let mut ok = true;
     let mut i: usize = 1;
@@ -231,7 +231,7 @@ fn word_of(a: u8, b: u8, c: u8, d: u8) -> u32
 
 // Whether the bytes of a word that are 0 are its last. A byte below 128 that is not 0 has its highest bit set once 127 is added.
 fn zeros_last(word: u32) -> bool
-    ensures { result ≡ zerosLast word }
+    ensures { result ≡ zeros_last word }
 {
     let marks = std::num::wrapping_add_u32(word, 0x7f7f_7f7f) & 0x8080_8080;
     (marks == 0)
@@ -242,7 +242,7 @@ fn zeros_last(word: u32) -> bool
 }
 
 fn least(range: Range) -> i32
-    ensures { result ≡ leastIn range }
+    ensures { result ≡ least_in range }
 {
     match range {
         Range::Int8 => -128,
@@ -253,7 +253,7 @@ fn least(range: Range) -> i32
 }
 
 fn most(range: Range) -> i32
-    ensures { result ≡ mostIn range }
+    ensures { result ≡ most_in range }
 {
     match range {
         Range::Int8 => 127,
@@ -264,7 +264,7 @@ fn most(range: Range) -> i32
 }
 
 fn read_i8(payload: &[u8], at: usize) -> i8
-    ensures { result ≡ signedAt w8 payload.now at }
+    ensures { result ≡ signed_at w8 payload.now at }
 {
     if at < payload.len() {
         to_i8(payload[at])

@@ -13,8 +13,8 @@ abbrev pub WalkedNotes : List ℕ → List ℕ → Fields → (Entries → Type 
 WalkedNotes leads file noted P = Short file → WalkedBy leads (λ es. Noted file es noted) P
 
 -- what is said of an accepted file with these counts and this set of fields
-abbrev pub acceptedWith : Counts → ℕ → Summary
-acceptedWith c presence =
+abbrev pub accepted_with : Counts → ℕ → Summary
+accepted_with c presence =
     record {
       verdict = accepted;
       models = c.models;

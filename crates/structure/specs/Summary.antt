@@ -3,24 +3,24 @@
 use Rattle.std.specs.Prelude.{cond, List, ℕ, eqb, nat_abs}
 use Rattle.refusal.specs.Table.{accepted}
 use Rattle.messagepack.specs.Document.{Entries}
-use Rattle.messagepack.specs.Read.{documentOf}
-use Rattle.values.specs.Parts.{entriesOf}
-use Rattle.fields.specs.Fields.{presenceOf}
-use Rattle.counts.specs.Counts.{countedOf}
-use Rattle.structure.specs.Accepted.{verdictOf}
+use Rattle.messagepack.specs.Read.{document_of}
+use Rattle.values.specs.Parts.{entries_of}
+use Rattle.fields.specs.Fields.{presence_of}
+use Rattle.counts.specs.Counts.{counted_of}
+use Rattle.structure.specs.Accepted.{verdict_of}
 use Rattle.structure.specs.declared.Summary.{Summary}
 
 -- of an accepted file, by the entries of its document
-abbrev pub acceptedSummary : Entries → Summary
-acceptedSummary es =
+abbrev pub accepted_summary : Entries → Summary
+accepted_summary es =
     record {
       verdict = accepted;
-      models = nat_abs (countedOf es).numModels;
-      chains = nat_abs (countedOf es).numChains;
-      groups = nat_abs (countedOf es).numGroups;
-      atoms = nat_abs (countedOf es).numAtoms;
-      bonds = nat_abs (countedOf es).numBonds;
-      presence = presenceOf es;
+      models = nat_abs (counted_of es).numModels;
+      chains = nat_abs (counted_of es).numChains;
+      groups = nat_abs (counted_of es).numGroups;
+      atoms = nat_abs (counted_of es).numAtoms;
+      bonds = nat_abs (counted_of es).numBonds;
+      presence = presence_of es;
     }
 
 -- of a refused file, by its number
@@ -29,8 +29,8 @@ refused n = record { verdict = n; models = 0; chains = 0; groups = 0; atoms = 0;
 
 -- by a file's number and the entries of its document
 abbrev pub said : ℕ → Entries → Summary
-said n es = cond (eqb n accepted) (acceptedSummary es) (refused n)
+said n es = cond (eqb n accepted) (accepted_summary es) (refused n)
 
 -- of any file
-unfoldable pub summaryOf : List ℕ → Summary
-summaryOf file = said (verdictOf file) (entriesOf (documentOf file))
+unfoldable pub summary_of : List ℕ → Summary
+summary_of file = said (verdict_of file) (entries_of (document_of file))

@@ -3,9 +3,9 @@
 // column, and the rules of counts.
 ghost use Rattle.std.specs.Prelude.{◌≡◌, ◌↔◌};
 ghost use Rattle.counts.specs.Steps.{Small};
-ghost use Rattle.structure.specs.Accepted.{Accepted, entriesNumber, verdictOf};
-ghost use Rattle.structure.specs.Summary.{refused, said, summaryOf};
-ghost use Rattle.structure.specs.Steps.{WalkedNotes, acceptedWith};
+ghost use Rattle.structure.specs.Accepted.{Accepted, entries_number, verdict_of};
+ghost use Rattle.structure.specs.Summary.{refused, said, summary_of};
+ghost use Rattle.structure.specs.Steps.{WalkedNotes, accepted_with};
 
 use counts::Counts;
 use fields::Fields;
@@ -25,7 +25,7 @@ pub struct Summary {
 
 // The verdict on a file.
 pub fn verdict(file: &[u8]) -> u8
-    ensures number { result ≡ verdictOf file.now }
+    ensures number { result ≡ verdict_of file.now }
     ensures exactly { (result ≡ 0) ↔ Accepted file.now }
 {
     summary_of(file).verdict
@@ -33,7 +33,7 @@ pub fn verdict(file: &[u8]) -> u8
 
 // What a receipt says of a file.
 pub fn summary_of(file: &[u8]) -> Summary
-    ensures { result ≡ summaryOf file.now }
+    ensures { result ≡ summary_of file.now }
 {
     let number = messagepack::container(file);
     if number != refusal::ACCEPTED {
@@ -47,7 +47,7 @@ pub fn summary_of(file: &[u8]) -> Summary
 
 // What is said of a container by what is noted of its fields.
 fn document_summary(leads: &[u8; 256], file: &[u8], noted: Fields) -> Summary
-    ensures { WalkedNotes leads.now file.now noted (λ es. result ≡ said (entriesNumber es) es) }
+    ensures { WalkedNotes leads.now file.now noted (λ es. result ≡ said (entries_number es) es) }
 {
     let number = document_refusal(leads, file, noted);
     if number != refusal::ACCEPTED {
@@ -76,7 +76,7 @@ fn refused_with(number: u8) -> Summary
 // What is said of an accepted file: its counts and its fields.
 fn accepted_with(counts: Counts, presence: u64) -> Summary
     requires { Small counts }
-    ensures { result ≡ acceptedWith counts presence }
+    ensures { result ≡ accepted_with counts presence }
 {
     Summary {
         verdict: refusal::ACCEPTED,
@@ -91,7 +91,7 @@ fn accepted_with(counts: Counts, presence: u64) -> Summary
 
 // The refusal of a container's document by what is noted of its fields: 12 to 24, or 0.
 pub fn document_refusal(leads: &[u8; 256], file: &[u8], noted: Fields) -> u8
-    ensures { WalkedNotes leads.now file.now noted (λ es. result ≡ entriesNumber es) }
+    ensures { WalkedNotes leads.now file.now noted (λ es. result ≡ entries_number es) }
 {
     let number = fields::refusal_of(leads, file, noted);
     if number != refusal::ACCEPTED {

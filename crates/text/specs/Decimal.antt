@@ -8,36 +8,36 @@ abbrev pub glyph : ℕ → ℕ
 glyph n = cond (ltb (n % 16) 10) (48 + n % 16) (87 + n % 16)
 
 -- the digits of n in ASCII, the higher ones first and with no leading zeros, where n has at most k + 1 of them; of a longer n its last k + 1
-unfoldable pub decimalIn : ℕ → ℕ → List ℕ
-decimalIn zero n = (48 + n % 10) ∷ []
-decimalIn (suc k) n = cond (ltb n 10) ((48 + n) ∷ []) (decimalIn k (n / 10) ++ ((48 + n % 10) ∷ []))
+unfoldable pub decimal_in : ℕ → ℕ → List ℕ
+decimal_in zero n = (48 + n % 10) ∷ []
+decimal_in (suc k) n = cond (ltb n 10) ((48 + n) ∷ []) (decimal_in k (n / 10) ++ ((48 + n % 10) ∷ []))
 
 -- a number below 10 ^ 10, as each of 32 bits is, in decimal
 unfoldable pub decimal : ℕ → List ℕ
-decimal n = decimalIn 9 n
+decimal n = decimal_in 9 n
 
 -- whether a byte is a decimal digit, and whether all are
-abbrev pub isDigit : ℕ → Bool
-isDigit b = leb 48 b && leb b 57
+abbrev pub is_digit : ℕ → Bool
+is_digit b = leb 48 b && leb b 57
 
-unfoldable pub allDigits : List ℕ → Bool
-allDigits [] = true
-allDigits (b ∷ s) = isDigit b && allDigits s
+unfoldable pub all_digits : List ℕ → Bool
+all_digits [] = true
+all_digits (b ∷ s) = is_digit b && all_digits s
 
 -- the number that digits say after those that say n
-unfoldable pub valueFrom : ℕ → List ℕ → ℕ
-valueFrom n [] = n
-valueFrom n (b ∷ s) = valueFrom (n * 10 + (b - 48)) s
+unfoldable pub value_from : ℕ → List ℕ → ℕ
+value_from n [] = n
+value_from n (b ∷ s) = value_from (n * 10 + (b - 48)) s
 
 -- the largest number of 32 bits in the place of a larger one
 abbrev pub most : ℕ → ℕ
 most n = min n 4294967295
 
 -- a number with one digit more
-abbrev pub withDigit : ℕ → ℕ → ℕ
-withDigit n digit = most (n * 10 + digit)
+abbrev pub with_digit : ℕ → ℕ → ℕ
+with_digit n digit = most (n * 10 + digit)
 
 -- the number that a word says: one digit at least, and nothing but digits
 unfoldable pub number_in : List ℕ → Number
 number_in [] = None
-number_in (b ∷ s) = cond (allDigits (b ∷ s)) (Is (most (valueFrom 0 (b ∷ s)))) None
+number_in (b ∷ s) = cond (all_digits (b ∷ s)) (Is (most (value_from 0 (b ∷ s)))) None

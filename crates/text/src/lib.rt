@@ -3,7 +3,7 @@
 ghost use Rattle.std.specs.Prelude.{◌≡◌, [], ◌∷◌, length, drop};
 ghost use Rattle.text.specs.Equal.{equal, begins};
 ghost use Rattle.text.specs.Put.{Put};
-ghost use Rattle.text.specs.Decimal.{glyph, decimal, withDigit, number_in};
+ghost use Rattle.text.specs.Decimal.{glyph, decimal, with_digit, number_in};
 
 // The number that a word says, or that it is none.
 #[derive(Drop)]
@@ -124,7 +124,7 @@ pub fn number_of(word: &[u8]) -> Number
 
 // A number with a digit more; the largest of 32 bits where that is larger.
 pub fn with_digit(number: u32, digit: u8) -> u32
-    ensures { result ≡ withDigit number digit }
+    ensures { result ≡ with_digit number digit }
 {
     let sum = (number as u64) * 10 + (digit as u64);
     if sum <= 4294967295 {

@@ -6,8 +6,8 @@ ghost use Rattle.messagepack.specs.Document.{count};
 ghost use Rattle.values.specs.Parts.{bits_of, items_of};
 ghost use Rattle.values.specs.Walked.{Walked, WalkedAll};
 ghost use Rattle.fields.specs.Tests.{typed};
-ghost use Rattle.transforms.specs.Matrix.{nth, assembliesType, matrixNumber, floatsOf, zeros, matrixFloats, rows_of, matrixOf};
-ghost use Rattle.transforms.specs.Steps.{FoundSays, WalkedPast, refusedBy, answer_of};
+ghost use Rattle.transforms.specs.Matrix.{nth, assemblies_type, matrix_number, floats_of, zeros, matrix_floats, rows_of, matrix_of};
+ghost use Rattle.transforms.specs.Steps.{FoundSays, WalkedPast, refused_by, answer_of};
 
 use heads::{Head, Kind};
 
@@ -27,7 +27,7 @@ pub enum Found {
 
 // The matrix of a transform, four rows of four; all zero on refusal.
 pub fn matrix(file: &[u8], assembly: u64, transform: u64) -> [[f32; 4]; 4]
-    ensures { result ≡ matrixOf file.now assembly transform }
+    ensures { result ≡ matrix_of file.now assembly transform }
 {
     let found = find(file, assembly, transform);
     let floats = found.floats;
@@ -36,15 +36,15 @@ pub fn matrix(file: &[u8], assembly: u64, transform: u64) -> [[f32; 4]; 4]
 
 // The refusal of a transform's matrix, 1 to 11, 26, 13 or 28, or 0.
 pub fn matrix_refusal(file: &[u8], assembly: u64, transform: u64) -> u8
-    ensures { result ≡ matrixNumber file.now assembly transform }
+    ensures { result ≡ matrix_number file.now assembly transform }
 {
     find(file, assembly, transform).refusal
 }
 
 // The refusal and the floats of a transform's matrix, from one reading of the file.
 pub fn find(file: &[u8], assembly: u64, transform: u64) -> Transform
-    ensures number { result.refusal ≡ matrixNumber file.now assembly transform }
-    ensures floats { result.floats ≡ matrixFloats file.now assembly transform }
+    ensures number { result.refusal ≡ matrix_number file.now assembly transform }
+    ensures floats { result.floats ≡ matrix_floats file.now assembly transform }
 {
     let number = messagepack::container(file);
     if number != refusal::ACCEPTED {
@@ -82,7 +82,7 @@ fn row(floats: [f32; 16], i: usize) -> [f32; 4]
 
 // A refusal.
 fn refused(number: u8) -> Transform
-    ensures { result ≡ refusedBy number }
+    ensures { result ≡ refused_by number }
 {
     let floats = no_floats();
     Transform {
@@ -106,7 +106,7 @@ fn transform_in(
     assembly: u64,
     transform: u64,
 ) -> Transform
-    ensures { Walked leads.now file.now at (λ x e. typed assembliesType x ≡ true → result ≡ answer_of assembly transform (some x)) }
+    ensures { Walked leads.now file.now at (λ x e. typed assemblies_type x ≡ true → result ≡ answer_of assembly transform (some x)) }
 {
     let Found::At(a) = item(leads, file, at, assembly) else {
         return refused(refusal::NO_SUCH_ENTRY);
@@ -149,7 +149,7 @@ fn past(leads: &[u8; 256], file: &[u8], at: usize, n: usize) -> usize
 
 // The floats of the array at a place that has sixteen values.
 fn floats_at(leads: &[u8; 256], file: &[u8], at: usize) -> [f32; 16]
-    ensures { Walked leads.now file.now at (λ x e. count (items_of x) ≡ 16 → result ≡ floatsOf (items_of x)) }
+    ensures { Walked leads.now file.now at (λ x e. count (items_of x) ≡ 16 → result ≡ floats_of (items_of x)) }
 {
     let part = values::items_at(leads, file, at);
     floats_from(leads, file, part.at)
@@ -157,7 +157,7 @@ fn floats_at(leads: &[u8; 256], file: &[u8], at: usize) -> [f32; 16]
 
 // The floats of sixteen values from a place on.
 fn floats_from(leads: &[u8; 256], file: &[u8], at: usize) -> [f32; 16]
-    ensures { WalkedAll leads.now file.now 16 at (λ ds e. result ≡ floatsOf ds) }
+    ensures { WalkedAll leads.now file.now 16 at (λ ds e. result ≡ floats_of ds) }
 {
     let mut floats = no_floats();
     let mut i: usize = 0;

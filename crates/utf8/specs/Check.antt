@@ -4,8 +4,8 @@ use Rattle.std.specs.Prelude.{Bool, true, cond, ◌&&◌, ◌||◌, List, [], �
 use Rattle.numbers.specs.Ranges.{within}
 
 -- a byte that starts a character
-unfoldable pub isLead : ℕ → Bool
-isLead b = ltb b 0x80 || within 0xc2 0xf4 b
+unfoldable pub is_lead : ℕ → Bool
+is_lead b = ltb b 0x80 || within 0xc2 0xf4 b
 
 -- how many bytes follow the lead byte b
 unfoldable pub following : ℕ → ℕ
@@ -22,14 +22,14 @@ highest b = cond (eqb b 0xed) 0x9f (cond (eqb b 0xf4) 0x8f 0xbf)
 -- the bytes are whole characters where k bytes of the one before are still due, the first of them within lo and hi
 unfoldable pub due : ℕ → ℕ → ℕ → List ℕ → Bool
 due k lo hi [] = eqb k 0
-due zero lo hi (b ∷ s) = isLead b && due (following b) (lowest b) (highest b) s
+due zero lo hi (b ∷ s) = is_lead b && due (following b) (lowest b) (highest b) s
 due (suc k) lo hi (b ∷ s) = within lo hi b && due k 0x80 0xbf s
 
 -- the bytes are UTF-8
-abbrev pub isUtf8 : List ℕ → Bool
-isUtf8 bytes = due 0 0x80 0xbf bytes
+abbrev pub is_utf8 : List ℕ → Bool
+is_utf8 bytes = due 0 0x80 0xbf bytes
 
--- every byte is below 80: such bytes are UTF-8 (`isAscii-isUtf8` of Laws/Check.antt)
-unfoldable pub isAscii : List ℕ → Bool
-isAscii [] = true
-isAscii (b ∷ s) = ltb b 0x80 && isAscii s
+-- every byte is below 80: such bytes are UTF-8 (`is_ascii-is_utf8` of Laws/Check.antt)
+unfoldable pub is_ascii : List ℕ → Bool
+is_ascii [] = true
+is_ascii (b ∷ s) = ltb b 0x80 && is_ascii s

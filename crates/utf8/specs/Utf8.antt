@@ -5,7 +5,7 @@ use Rattle.std.specs.Prelude.{◌≡◌, cond, List, [], ◌∷◌, ◌++◌, �
 -- a Unicode scalar value: at most 10FFFF, and not a surrogate, D800 to DFFF
 pub record Scalar (n : ℕ) : Type 0 where
   pub at_most : n ≤ 0x10ffff
-  pub noSurrogate : (n < 0xd800) ⊎ (0xdfff < n)
+  pub no_surrogate : (n < 0xd800) ⊎ (0xdfff < n)
 
 -- every element of the list is a scalar value
 abbrev pub Scalars : List ℕ → Type 0
@@ -25,12 +25,12 @@ encode n =
     ((0xf0 + n / 64 / 64 / 64) ∷ continuation (n / 64 / 64) ∷ continuation (n / 64) ∷ continuation n ∷ [])))
 
 -- the bytes of each in turn, one after another
-unfoldable pub encodeAll : List ℕ → List ℕ
-encodeAll [] = []
-encodeAll (n ∷ ns) = encode n ++ encodeAll ns
+unfoldable pub encode_all : List ℕ → List ℕ
+encode_all [] = []
+encode_all (n ∷ ns) = encode n ++ encode_all ns
 
 -- bytes are UTF-8 when they are the encodings of a list of scalar values
 pub record Utf8 (bytes : List ℕ) : Type 0 where
   pub scalars : List ℕ
   pub valid : Scalars scalars
-  pub encoded : bytes ≡ encodeAll scalars
+  pub encoded : bytes ≡ encode_all scalars

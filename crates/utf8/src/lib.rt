@@ -2,7 +2,7 @@
 // surrogates, each in its shortest form. The check goes a step at a time and refuses at the first fault.
 ghost use Rattle.std.specs.Prelude.{◌≡◌, true, ◌↔◌, ℕ, suc, ◌+◌, ◌<◌, ◌≤◌, length, drop, get_or};
 ghost use Rattle.utf8.specs.Utf8.{Utf8};
-ghost use Rattle.utf8.specs.Check.{isUtf8, due, following, isAscii};
+ghost use Rattle.utf8.specs.Check.{is_utf8, due, following, is_ascii};
 ghost use Rattle.utf8.specs.Check.{lowest as lowestOf, highest as highestOf};
 ghost use Rattle.utf8.specs.Step.{onward, Forward, LeadAt};
 
@@ -15,7 +15,7 @@ enum Step {
 
 // Whether `bytes` are UTF-8.
 pub fn is_utf8(bytes: &[u8]) -> bool
-    ensures value { result ≡ isUtf8 bytes.now }
+    ensures value { result ≡ is_utf8 bytes.now }
     ensures variant { (result ≡ true) ↔ Utf8 bytes.now }
 {
     let mut at: usize = 0;
@@ -30,7 +30,7 @@ pub fn is_utf8(bytes: &[u8]) -> bool
 
 // Whether every byte is below 80: a quick answer for short strings.
 pub fn is_ascii(bytes: &[u8]) -> bool
-    ensures { result ≡ isAscii bytes.now }
+    ensures { result ≡ is_ascii bytes.now }
 {
     let mut i: usize = 0;
     while i < bytes.len() {
@@ -45,7 +45,7 @@ pub fn is_ascii(bytes: &[u8]) -> bool
 // A step over the character at `at`, or over a run of characters of one byte each.
 fn advance(bytes: &[u8], at: usize) -> Step
     requires { at < length bytes.now }
-    ensures bytes_value { isUtf8 (drop at bytes.now) ≡ onward 0 bytes.now result }
+    ensures bytes_value { is_utf8 (drop at bytes.now) ≡ onward 0 bytes.now result }
     ensures forward { Forward at (length bytes.now) result }
 {
     let lead = bytes[at];
@@ -64,7 +64,7 @@ fn advance(bytes: &[u8], at: usize) -> Step
 // A step over the character of two bytes at `at`.
 fn two(bytes: &[u8], at: usize, lead: u8) -> Step
     requires { LeadAt bytes.now at lead 0x80 0xe0 }
-    ensures bytes_value { isUtf8 (drop at bytes.now) ≡ onward 0 bytes.now result }
+    ensures bytes_value { is_utf8 (drop at bytes.now) ≡ onward 0 bytes.now result }
     ensures forward { Forward at (length bytes.now) result }
 {
     if lead < 0xc2 {
@@ -76,7 +76,7 @@ fn two(bytes: &[u8], at: usize, lead: u8) -> Step
 // A step over the character of three bytes at `at`.
 fn three(bytes: &[u8], at: usize, lead: u8) -> Step
     requires { LeadAt bytes.now at lead 0xe0 0xf0 }
-    ensures bytes_value { isUtf8 (drop at bytes.now) ≡ onward 0 bytes.now result }
+    ensures bytes_value { is_utf8 (drop at bytes.now) ≡ onward 0 bytes.now result }
     ensures forward { Forward at (length bytes.now) result }
 {
     let Step::Next(third) = second(bytes, at, lead) else {
@@ -88,7 +88,7 @@ fn three(bytes: &[u8], at: usize, lead: u8) -> Step
 // A step over the character of four bytes at `at`.
 fn four(bytes: &[u8], at: usize, lead: u8) -> Step
     requires { LeadAt bytes.now at lead 0xf0 0x100 }
-    ensures bytes_value { isUtf8 (drop at bytes.now) ≡ onward 0 bytes.now result }
+    ensures bytes_value { is_utf8 (drop at bytes.now) ≡ onward 0 bytes.now result }
     ensures forward { Forward at (length bytes.now) result }
 {
     if 0xf4 < lead {
@@ -106,7 +106,7 @@ fn four(bytes: &[u8], at: usize, lead: u8) -> Step
 // A step over `lead`, the byte at `at`, and the byte after it.
 fn second(bytes: &[u8], at: usize, lead: u8) -> Step
     requires { LeadAt bytes.now at lead 0xc2 0xf5 }
-    ensures by_index { (k : ℕ) → following lead ≡ suc k → isUtf8 (drop at bytes.now) ≡ onward k bytes.now result }
+    ensures by_index { (k : ℕ) → following lead ≡ suc k → is_utf8 (drop at bytes.now) ≡ onward k bytes.now result }
     ensures forward { Forward at (length bytes.now) result }
 {
     let lo = lowest(lead);
@@ -162,7 +162,7 @@ fn highest(lead: u8) -> u8
 // for speed: with the width known, a block's loop becomes a few vector instructions.
 fn ascii(bytes: &[u8], at: usize) -> usize
     requires { (at < length bytes.now) × (get_or bytes.now at 0 < 0x80) }
-    ensures bytes_value { isUtf8 (drop at bytes.now) ≡ isUtf8 (drop result bytes.now) }
+    ensures bytes_value { is_utf8 (drop at bytes.now) ≡ is_utf8 (drop result bytes.now) }
     ensures lower_bound { (at < result) × (result ≤ length bytes.now) }
 {
     if at % 8 != 0 {
@@ -180,7 +180,7 @@ fn ascii(bytes: &[u8], at: usize) -> usize
 // The place after the blocks of `width` bytes below 80 from `from` on.
 fn blocks(bytes: &[u8], from: usize, width: usize) -> usize
     requires { (from ≤ length bytes.now) × (0 < width) }
-    ensures bytes_value { isUtf8 (drop from bytes.now) ≡ isUtf8 (drop result bytes.now) }
+    ensures bytes_value { is_utf8 (drop from bytes.now) ≡ is_utf8 (drop result bytes.now) }
     ensures lower_bound { (from ≤ result) × (result ≤ length bytes.now) }
 {
     let mut at = from;

@@ -3,30 +3,30 @@
 use Rattle.std.specs.Prelude.{Bool, true, false, cond, List, [], ◌∷◌, ℕ, ◌+◌, ℤ, pos, nat_abs}
 use Rattle.std.proofs.Math.Option.{Option, some, none as nothing}
 use Rattle.std.specs.Int.Signed.{le_z}
-use Rattle.numbers.specs.Ranges.{allPass}
+use Rattle.numbers.specs.Ranges.{all_pass}
 use Rattle.messagepack.specs.Document.{Document, Documents, none, item, count}
-use Rattle.values.specs.Parts.{integerOf, items_of}
+use Rattle.values.specs.Parts.{integer_of, items_of}
 use Rattle.values.specs.declared.lists.Sum.{Sum}
 use Rattle.values.specs.declared.lists.Length.{Length}
 
 -- the integers of an array's values
-unfoldable pub integersOf : Documents → List ℤ
-integersOf none = []
-integersOf (item d ds) = integerOf d ∷ integersOf ds
+unfoldable pub integers_of : Documents → List ℤ
+integers_of none = []
+integers_of (item d ds) = integer_of d ∷ integers_of ds
 
 -- the integers of an array, if there is one
-abbrev pub integersIn : Option Document → Option (List ℤ)
-integersIn (some x) = some (integersOf (items_of x))
-integersIn nothing = nothing
+abbrev pub integers_in : Option Document → Option (List ℤ)
+integers_in (some x) = some (integers_of (items_of x))
+integers_in nothing = nothing
 
 -- a list, if there is one
-abbrev pub listIn : Option (List ℤ) → List ℤ
-listIn (some xs) = xs
-listIn nothing = []
+abbrev pub list_in : Option (List ℤ) → List ℤ
+list_in (some xs) = xs
+list_in nothing = []
 
 -- is none of them negative?
-abbrev pub noneNegative : List ℤ → Bool
-noneNegative xs = allPass (le_z (pos 0)) xs
+abbrev pub none_negative : List ℤ → Bool
+none_negative xs = all_pass (le_z (pos 0)) xs
 
 -- the sum of integers of which none is negative
 unfoldable pub sum : List ℤ → ℕ
@@ -35,9 +35,9 @@ sum (x ∷ xs) = nat_abs x + sum xs
 
 -- the answer for a sum: that one is negative, or the sum
 abbrev pub summed : List ℤ → Sum
-summed xs = cond (noneNegative xs) (Sum.Is (sum xs)) Sum.Negative
+summed xs = cond (none_negative xs) (Sum.Is (sum xs)) Sum.Negative
 
 -- whether an array is there, and how many values it has, 0 where it is not
-abbrev pub arrayLength : Option Document → Length
-arrayLength (some x) = record { there = true; count = count (items_of x) }
-arrayLength nothing = record { there = false; count = 0 }
+abbrev pub array_length : Option Document → Length
+array_length (some x) = record { there = true; count = count (items_of x) }
+array_length nothing = record { there = false; count = 0 }

@@ -7,13 +7,13 @@ use Rattle.text.specs.Equal.{equal}
 use Rattle.messagepack.specs.Document.{Document, Documents, Entries, integer, float, string, binary, array, map, none, empty, entry}
 
 -- an integer, else 0
-abbrev pub integerOf : Document → ℤ
-integerOf (integer v) = v
-integerOf (float bits) = pos 0
-integerOf (string t) = pos 0
-integerOf (binary t) = pos 0
-integerOf (array ds) = pos 0
-integerOf (map es) = pos 0
+abbrev pub integer_of : Document → ℤ
+integer_of (integer v) = v
+integer_of (float bits) = pos 0
+integer_of (string t) = pos 0
+integer_of (binary t) = pos 0
+integer_of (array ds) = pos 0
+integer_of (map es) = pos 0
 
 -- a float's bits, else 0
 abbrev pub bits_of : Document → ℕ
@@ -43,13 +43,13 @@ items_of (binary t) = none
 items_of (map es) = none
 
 -- the entries of a map, else none
-abbrev pub entriesOf : Document → Entries
-entriesOf (map es) = es
-entriesOf (integer v) = empty
-entriesOf (float bits) = empty
-entriesOf (string t) = empty
-entriesOf (binary t) = empty
-entriesOf (array ds) = empty
+abbrev pub entries_of : Document → Entries
+entries_of (map es) = es
+entries_of (integer v) = empty
+entries_of (float bits) = empty
+entries_of (string t) = empty
+entries_of (binary t) = empty
+entries_of (array ds) = empty
 
 -- the value under a key: the first, though by the rules of a container there is one at most
 unfoldable pub look : List ℕ → Entries → Option Document
@@ -58,7 +58,7 @@ look k (entry l x es) = cond (equal l k) (some x) (look k es)
 
 -- the value under a key of a map, by its name
 abbrev pub under : Text.String → Document → Option Document
-under name x = look (ascii name) (entriesOf x)
+under name x = look (ascii name) (entries_of x)
 
 -- the values of an array, if there is one
 abbrev pub items_in : Option Document → Documents

@@ -2,11 +2,11 @@
 -- acceptance is defined by it. No lemma stands here: the laws are in Laws/Places.antt. Assumes nothing.
 use Rattle.std.specs.Prelude.{◌≡◌, cond, List, ℕ, ◌+◌, ◌-◌, ◌<◌, eqb, leb, ltb, ℤ, pos, negsuc, take, drop}
 use Rattle.std.proofs.Math.Option.{Option, some, none as nothing}
-use Rattle.numbers.specs.Ranges.{integerLimit}
+use Rattle.numbers.specs.Ranges.{integer_limit}
 use Rattle.heads.specs.Span.{Span}
 use Rattle.messagepack.specs.Document.{Document, Documents, Entries, integer, float, string, binary, array, map, Writes, WritesAll, WritesEntries, count, size}
 use Rattle.messagepack.specs.Rules.{Keeps, KeepsAll, KeepsEntries, Distinct}
-use Rattle.values.specs.Parts.{text_of, items_of, entriesOf}
+use Rattle.values.specs.Parts.{text_of, items_of, entries_of}
 use Rattle.values.specs.declared.Part.{Part}
 
 -- a document that keeps the rules stands in s from p up to e
@@ -44,11 +44,11 @@ abbrev pub half_of : ℕ → ℕ
 half_of size = cond (eqb size 1) 0 (cond (eqb size 2) 128 (cond (eqb size 3) 32768 2147483648))
 
 -- the integer of an unsigned head that holds n, 0 where it is above the limit; and that of a signed head of a size
-abbrev pub unsignedBy : ℕ → ℤ
-unsignedBy n = cond (leb n integerLimit) (pos n) (pos 0)
+abbrev pub unsigned_by : ℕ → ℤ
+unsigned_by n = cond (leb n integer_limit) (pos n) (pos 0)
 
-abbrev pub signedBy : ℕ → ℕ → ℤ
-signedBy n size = cond (ltb n (half_of size)) (pos n) (negsuc (last_of size - n))
+abbrev pub signed_by : ℕ → ℕ → ℤ
+signed_by n size = cond (ltb n (half_of size)) (pos n) (negsuc (last_of size - n))
 
 -- a string or a binary ends with its body
 abbrev pub EndsWith : Document → ℕ → Part → Type 0
@@ -72,6 +72,6 @@ pub record ItemsAt (s : List ℕ) (x : Document) (r : Part) : Type 0 where
 
 -- a part is the entries of a map: how many, and where the first stands
 pub record EntriesAt (s : List ℕ) (x : Document) (r : Part) : Type 0 where
-  pub counts : size (entriesOf x) ≡ r.count
+  pub counts : size (entries_of x) ≡ r.count
   pub end : ℕ
-  pub all : AtEntries s r.at (entriesOf x) end
+  pub all : AtEntries s r.at (entries_of x) end

@@ -2,7 +2,7 @@
 -- in Laws/Standing.antt. Assumes nothing.
 use Rattle.std.specs.Prelude.{◌≡◌, cond, List, ℕ, zero, suc, ◌+◌, ◌≤◌, ◌<◌, leb, length, get_or}
 use Rattle.messagepack.specs.Document.{Document, Writes}
-use Rattle.heads.specs.Lead.{kind_of, moreOf}
+use Rattle.heads.specs.Lead.{kind_of, more_of}
 use Rattle.heads.specs.declared.Kind.{Kind}
 use Rattle.heads.specs.Span.{Span}
 use Rattle.values.specs.declared.Over.{Over}
@@ -13,12 +13,12 @@ Standing s zero p e = p ≡ e
 Standing s (suc n) p e = record { x : Document; w : List ℕ; q : ℕ; writes : Writes x w; span : Span s p q w; rest : Standing s n q e }
 
 -- a step over n bytes from p on in a file of some length
-abbrev pub pastOver : ℕ → ℕ → ℕ → Over
-pastOver size n p = cond (leb (p + n) size) (Over.On (p + n) 0) Over.Stop
+abbrev pub past_over : ℕ → ℕ → ℕ → Over
+past_over size n p = cond (leb (p + n) size) (Over.On (p + n) 0) Over.Stop
 
 -- a step to n keys and their values
-abbrev pub pairsOver : ℕ → ℕ → ℕ → Over
-pairsOver size n p = cond (leb (p + (n + n)) size) (Over.On p (n + n)) Over.Stop
+abbrev pub pairs_over : ℕ → ℕ → ℕ → Over
+pairs_over size n p = cond (leb (p + (n + n)) size) (Over.On p (n + n)) Over.Stop
 
 -- the n values from a place on are integers in their lead bytes
 pub record LowRun (s : List ℕ) (at n : ℕ) : Type 0 where
@@ -28,7 +28,7 @@ pub record LowRun (s : List ℕ) (at n : ℕ) : Type 0 where
 -- unsigned integers with a lead byte have a size, which is more than that byte
 pub record Sized (lead size : ℕ) : Type 0 where
   pub kind : kind_of lead ≡ Kind.Unsigned
-  pub is : size ≡ moreOf lead + 1
+  pub is : size ≡ more_of lead + 1
   pub more : 1 < size
 
 -- a step to n values, or over all of them, or to those that are left after some at the start

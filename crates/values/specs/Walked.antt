@@ -34,31 +34,31 @@
 -- No lemma stands here. Assumes nothing.
 use Rattle.std.specs.Prelude.{◌≡◌, List, ℕ, ◌≤◌, length}
 use Rattle.std.proofs.Math.Option.{Option}
-use Rattle.heads.specs.Table.{leadTable}
+use Rattle.heads.specs.Table.{lead_table}
 use Rattle.messagepack.specs.Document.{Document, Documents, Entries, count, size}
-use Rattle.messagepack.specs.Limits.{fileLimit}
+use Rattle.messagepack.specs.Limits.{file_limit}
 use Rattle.values.specs.Places.{At, AtAll, AtEntries, PlaceSays}
 use Rattle.values.specs.Standing.{Standing}
 
 -- a file is within the limit, as every file is that has been walked from its first byte
 abbrev pub Short : List ℕ → Type 0
-Short file = length file ≤ fileLimit
+Short file = length file ≤ file_limit
 
 -- a promise on a file that has been walked, by the document at a place and where it ends
 abbrev pub Walked : List ℕ → List ℕ → ℕ → (Document → ℕ → Type 0) → Type 0
-Walked leads file at P = leads ≡ leadTable → (x : Document) (e : ℕ) → At file at x e → P x e
+Walked leads file at P = leads ≡ lead_table → (x : Document) (e : ℕ) → At file at x e → P x e
 
 -- a promise on a walked file, by the n values of an array that stand from a place on, and where they end
 abbrev pub WalkedAll : List ℕ → List ℕ → ℕ → ℕ → (Documents → ℕ → Type 0) → Type 0
-WalkedAll leads file n at P = leads ≡ leadTable → (ds : Documents) (e : ℕ) → AtAll file at ds e → count ds ≡ n → P ds e
+WalkedAll leads file n at P = leads ≡ lead_table → (ds : Documents) (e : ℕ) → AtAll file at ds e → count ds ≡ n → P ds e
 
 -- a promise on a walked file, by the n entries of a map that stand from a place on, and where they end
 abbrev pub WalkedEntries : List ℕ → List ℕ → ℕ → ℕ → (Entries → ℕ → Type 0) → Type 0
-WalkedEntries leads file n at P = leads ≡ leadTable → (es : Entries) (e : ℕ) → AtEntries file at es e → size es ≡ n → P es e
+WalkedEntries leads file n at P = leads ≡ lead_table → (es : Entries) (e : ℕ) → AtEntries file at es e → size es ≡ n → P es e
 
 -- a promise on a walked file, by whatever is known to stand in it
 abbrev pub WalkedBy : {A : Type 0} → List ℕ → (A → Type 0) → (A → Type 0) → Type 0
-WalkedBy {A} leads Stands P = leads ≡ leadTable → (a : A) → Stands a → P a
+WalkedBy {A} leads Stands P = leads ≡ lead_table → (a : A) → Stands a → P a
 
 -- a promise on a walked file, by the document at a place, or that there is none where the place is 0
 abbrev pub WalkedPlace : List ℕ → List ℕ → ℕ → (Option Document → Type 0) → Type 0
@@ -66,4 +66,4 @@ WalkedPlace leads file at P = WalkedBy leads (PlaceSays file at) P
 
 -- a promise on a walked file, by the end of the value at a place, whatever its strings and keys are
 abbrev pub WalkedOver : List ℕ → List ℕ → ℕ → (ℕ → Type 0) → Type 0
-WalkedOver leads file at P = leads ≡ leadTable → (e : ℕ) → Standing file 1 at e → P e
+WalkedOver leads file at P = leads ≡ lead_table → (e : ℕ) → Standing file 1 at e → P e

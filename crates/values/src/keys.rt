@@ -1,12 +1,12 @@
 // The value under a key of a map, by its place in a file. Any bytes and any place are taken, and a meaning is promised for a file that has been
 // walked (`Walked.antt` of values).
-ghost use Rattle.values.specs.Parts.{entriesOf, look};
+ghost use Rattle.values.specs.Parts.{entries_of, look};
 ghost use Rattle.values.specs.Places.{PlaceSays};
 ghost use Rattle.values.specs.Walked.{Walked, WalkedEntries};
 
 // The place of the value under a name in the map at a place; 0 where there is none.
 pub fn find(leads: &[u8; 256], file: &[u8], at: usize, name: &[u8]) -> usize
-    ensures { Walked leads.now file.now at (λ x e. PlaceSays file.now result (look name.now (entriesOf x))) }
+    ensures { Walked leads.now file.now at (λ x e. PlaceSays file.now result (look name.now (entries_of x))) }
 {
     let part = crate::entries_at(leads, file, at);
     find_from(leads, file, part.count, part.at, name)

@@ -6,11 +6,11 @@ pub mod keys;
 pub mod lists;
 
 ghost use Rattle.std.specs.Prelude.{◌≡◌, ◌↔◌, true, ℕ, ◌+◌, ◌-◌, ◌≤◌, ◌<◌, length};
-ghost use Rattle.heads.specs.Table.{leadTable};
-ghost use Rattle.values.specs.Parts.{integerOf};
-ghost use Rattle.values.specs.Places.{TextAt, ItemsAt, EntriesAt, last_of, half_of, unsignedBy, signedBy};
-ghost use Rattle.values.specs.Heads.{bodyPart, itemsPart, integerBy, textBy, textByTable, itemsBy, entriesBy};
-ghost use Rattle.values.specs.Standing.{pastOver, pairsOver, LowRun, Sized, ItemsOver, Stepped};
+ghost use Rattle.heads.specs.Table.{lead_table};
+ghost use Rattle.values.specs.Parts.{integer_of};
+ghost use Rattle.values.specs.Places.{TextAt, ItemsAt, EntriesAt, last_of, half_of, unsigned_by, signed_by};
+ghost use Rattle.values.specs.Heads.{body_part, items_part, integer_by, text_by, text_by_table, items_by, entries_by};
+ghost use Rattle.values.specs.Standing.{past_over, pairs_over, LowRun, Sized, ItemsOver, Stepped};
 ghost use Rattle.values.specs.Walked.{Walked, WalkedOver};
 
 use heads::{Head, Kind};
@@ -86,7 +86,7 @@ fn larger(a: u8, b: u8) -> u8
 
 // A step over the value at a place: the commonest, floats, and integers and strings whose head is their lead byte, are found with no table.
 fn step_over(leads: &[u8; 256], file: &[u8], at: usize) -> Over
-    ensures { leads.now ≡ leadTable → Stepped file.now at result }
+    ensures { leads.now ≡ lead_table → Stepped file.now at result }
 {
     if at < file.len() {
         let b = file[at];
@@ -108,7 +108,7 @@ fn step_over(leads: &[u8; 256], file: &[u8], at: usize) -> Over
 
 // A step over the head of the value at a place, and the body of a string or a binary, by the table of lead bytes.
 fn step_by_table(leads: &[u8; 256], file: &[u8], at: usize) -> Over
-    ensures { leads.now ≡ leadTable → Stepped file.now at result }
+    ensures { leads.now ≡ lead_table → Stepped file.now at result }
 {
     let Head::At(n, p) = heads::head_at(leads, file, at) else {
         return Over::Stop;
@@ -128,7 +128,7 @@ fn step_by_table(leads: &[u8; 256], file: &[u8], at: usize) -> Over
 
 // A step over n bytes.
 fn past(file: &[u8], n: usize, p: usize) -> Over
-    ensures { result ≡ pastOver (length file.now) n p }
+    ensures { result ≡ past_over (length file.now) n p }
 {
     if file.len() < p {
         return Over::Stop;
@@ -191,7 +191,7 @@ fn over_run(file: &[u8], n: usize, p: usize, lead: u8, size: usize) -> Over
 
 // A step to n keys and their values.
 fn pairs(file: &[u8], n: usize, p: usize) -> Over
-    ensures { result ≡ pairsOver (length file.now) n p }
+    ensures { result ≡ pairs_over (length file.now) n p }
 {
     if file.len() < p {
         return Over::Stop;
@@ -204,8 +204,8 @@ fn pairs(file: &[u8], n: usize, p: usize) -> Over
 
 // The integer at a place; of another value 0.
 pub fn integer_at(leads: &[u8; 256], file: &[u8], at: usize) -> i32
-    ensures table { result ≡ integerBy leads.now file.now at }
-    ensures says { Walked leads.now file.now at (λ x e. result ≡ integerOf x) }
+    ensures table { result ≡ integer_by leads.now file.now at }
+    ensures says { Walked leads.now file.now at (λ x e. result ≡ integer_of x) }
 {
     let Head::At(n, p) = heads::head_at(leads, file, at) else {
         return 0;
@@ -219,7 +219,7 @@ pub fn integer_at(leads: &[u8; 256], file: &[u8], at: usize) -> i32
 
 // The integer of an unsigned head.
 fn unsigned(n: usize) -> i32
-    ensures { result ≡ unsignedBy n }
+    ensures { result ≡ unsigned_by n }
 {
     if n <= numbers::INTEGER_LIMIT {
         return n as i32;
@@ -229,7 +229,7 @@ fn unsigned(n: usize) -> i32
 
 // The integer of a signed head of a size, lead byte included.
 fn signed(n: usize, size: usize) -> i32
-    ensures { result ≡ signedBy n size }
+    ensures { result ≡ signed_by n size }
 {
     if n < half(size) {
         return n as i32;
@@ -280,7 +280,7 @@ fn less(a: usize, b: usize) -> usize
 // with no table.
 pub fn text_at(leads: &[u8; 256], file: &[u8], at: usize) -> Part
     ensures inside { result.at + result.count ≤ length file.now }
-    ensures table { result ≡ textBy leads.now file.now at }
+    ensures table { result ≡ text_by leads.now file.now at }
     ensures says { Walked leads.now file.now at (λ x e. TextAt file.now x e result) }
 {
     if at < file.len() {
@@ -298,7 +298,7 @@ pub fn text_at(leads: &[u8; 256], file: &[u8], at: usize) -> Part
 // The bytes of the string or the binary at a place, as `text_at` has them: a loop over keys finds short ones with no call.
 pub fn key_at(leads: &[u8; 256], file: &[u8], at: usize) -> Part
     ensures inside { result.at + result.count ≤ length file.now }
-    ensures table { result ≡ textBy leads.now file.now at }
+    ensures table { result ≡ text_by leads.now file.now at }
     ensures says { Walked leads.now file.now at (λ x e. TextAt file.now x e result) }
 {
     if at < file.len() {
@@ -321,7 +321,7 @@ pub fn key_at(leads: &[u8; 256], file: &[u8], at: usize) -> Part
 // The bytes of the string or the binary at a place, by the table of lead bytes.
 fn text_by_table(leads: &[u8; 256], file: &[u8], at: usize) -> Part
     ensures inside { result.at + result.count ≤ length file.now }
-    ensures table { result ≡ textByTable leads.now file.now at }
+    ensures table { result ≡ text_by_table leads.now file.now at }
     ensures says { Walked leads.now file.now at (λ x e. TextAt file.now x e result) }
 {
     let Head::At(n, p) = heads::head_at(leads, file, at) else {
@@ -336,7 +336,7 @@ fn text_by_table(leads: &[u8; 256], file: &[u8], at: usize) -> Part
 
 // The n bytes from p on, or none where they are not all inside.
 fn body(file: &[u8], n: usize, p: usize) -> Part
-    ensures { result ≡ bodyPart (length file.now) n p }
+    ensures { result ≡ body_part (length file.now) n p }
 {
     if file.len() < p {
         return Part { at: 0, count: 0 };
@@ -350,7 +350,7 @@ fn body(file: &[u8], n: usize, p: usize) -> Part
 // The values of the array at a place; of another value none.
 pub fn items_at(leads: &[u8; 256], file: &[u8], at: usize) -> Part
     ensures inside { result.count ≤ length file.now }
-    ensures table { result ≡ itemsBy leads.now file.now at }
+    ensures table { result ≡ items_by leads.now file.now at }
     ensures says { Walked leads.now file.now at (λ x e. ItemsAt file.now x result) }
 {
     let Head::At(n, p) = heads::head_at(leads, file, at) else {
@@ -364,7 +364,7 @@ pub fn items_at(leads: &[u8; 256], file: &[u8], at: usize) -> Part
 
 // The n values from p on, or none where they cannot be inside.
 fn values_from(file: &[u8], n: usize, p: usize) -> Part
-    ensures { result ≡ itemsPart (length file.now) n p }
+    ensures { result ≡ items_part (length file.now) n p }
 {
     if file.len() < n {
         return Part { at: 0, count: 0 };
@@ -374,7 +374,7 @@ fn values_from(file: &[u8], n: usize, p: usize) -> Part
 
 // The entries of the map at a place; of another value none.
 pub fn entries_at(leads: &[u8; 256], file: &[u8], at: usize) -> Part
-    ensures table { result ≡ entriesBy leads.now file.now at }
+    ensures table { result ≡ entries_by leads.now file.now at }
     ensures says { Walked leads.now file.now at (λ x e. EntriesAt file.now x result) }
 {
     let Head::At(n, p) = heads::head_at(leads, file, at) else {

@@ -1,10 +1,10 @@
 // Arrays of integers at places of a file: their sum, how many they are, and whether they lie between two numbers or inside a table. Each function takes any bytes and any place, and
 // promises a meaning for a file that has been walked; a document that is no array has no integers.
 ghost use Rattle.std.specs.Prelude.{◌≡◌, true, ℕ, ◌+◌, ◌≤◌, ◌<◌, pos, length, get_or};
-ghost use Rattle.numbers.specs.Ranges.{between, allBetween, all_below};
-ghost use Rattle.values.specs.Parts.{integerOf, items_of};
+ghost use Rattle.numbers.specs.Ranges.{between, all_between, all_below};
+ghost use Rattle.values.specs.Parts.{integer_of, items_of};
 ghost use Rattle.values.specs.Walked.{Short, Walked, WalkedAll, WalkedPlace};
-ghost use Rattle.values.specs.Integers.{integersOf, integersIn, listIn, summed, arrayLength};
+ghost use Rattle.values.specs.Integers.{integers_of, integers_in, list_in, summed, array_length};
 
 // The sum of integers, or that one of them is negative.
 #[derive(Drop)]
@@ -29,7 +29,7 @@ pub struct Length {
 
 // The sum of the integers of the array at a place.
 pub fn sum_at(leads: &[u8; 256], file: &[u8], at: usize) -> Sum
-    ensures { Short file.now → Walked leads.now file.now at (λ x e. result ≡ summed (integersOf (items_of x))) }
+    ensures { Short file.now → Walked leads.now file.now at (λ x e. result ≡ summed (integers_of (items_of x))) }
 {
     let part = crate::items_at(leads, file, at);
     sum_from(leads, file, part.count, part.at)
@@ -37,7 +37,7 @@ pub fn sum_at(leads: &[u8; 256], file: &[u8], at: usize) -> Sum
 
 // The sum of n integers from a place on. A file has no more values than bytes.
 fn sum_from(leads: &[u8; 256], file: &[u8], n: usize, at: usize) -> Sum
-    ensures { Short file.now → WalkedAll leads.now file.now n at (λ ds e. result ≡ summed (integersOf ds)) }
+    ensures { Short file.now → WalkedAll leads.now file.now n at (λ ds e. result ≡ summed (integers_of ds)) }
 {
     if messagepack::FILE_LIMIT < n {
         return Sum::Negative;
@@ -61,7 +61,7 @@ fn sum_from(leads: &[u8; 256], file: &[u8], n: usize, at: usize) -> Sum
 // The integer at a place, as `crate::integer_at` has it, and where the value ends. The commonest, those in their lead byte and
 // those of two bytes after it, are found first.
 fn next_integer(leads: &[u8; 256], file: &[u8], at: usize) -> Integer
-    ensures { Walked leads.now file.now at (λ x e. (result.value ≡ integerOf x) × (result.end ≡ e)) }
+    ensures { Walked leads.now file.now at (λ x e. (result.value ≡ integer_of x) × (result.end ≡ e)) }
 {
     if at < file.len() {
         let b = file[at];
@@ -89,7 +89,7 @@ fn next_integer(leads: &[u8; 256], file: &[u8], at: usize) -> Integer
 
 // Whether the integers of the array at a place lie between two numbers.
 pub fn all_between(leads: &[u8; 256], file: &[u8], at: usize, low: i32, high: i32) -> bool
-    ensures { Walked leads.now file.now at (λ x e. result ≡ allBetween low high (integersOf (items_of x))) }
+    ensures { Walked leads.now file.now at (λ x e. result ≡ all_between low high (integers_of (items_of x))) }
 {
     let part = crate::items_at(leads, file, at);
     let n = part.count;
@@ -119,7 +119,7 @@ fn low_between(file: &[u8], at: usize, n: usize, low: i32, high: i32) -> bool
 
 // Whether n integers from a place on lie between two numbers.
 fn between_from(leads: &[u8; 256], file: &[u8], n: usize, at: usize, low: i32, high: i32) -> bool
-    ensures { WalkedAll leads.now file.now n at (λ ds e. result ≡ allBetween low high (integersOf ds)) }
+    ensures { WalkedAll leads.now file.now n at (λ ds e. result ≡ all_between low high (integers_of ds)) }
 {
     let mut left = n;
     let mut p = at;
@@ -137,7 +137,7 @@ fn between_from(leads: &[u8; 256], file: &[u8], n: usize, at: usize, low: i32, h
 
 // Whether the integers of the array at a place are indices of a table of n entries; a place 0 has none.
 pub fn inside(leads: &[u8; 256], file: &[u8], at: usize, n: usize) -> bool
-    ensures { WalkedPlace leads.now file.now at (λ o. result ≡ all_below n (listIn (integersIn o))) }
+    ensures { WalkedPlace leads.now file.now at (λ o. result ≡ all_below n (list_in (integers_in o))) }
 {
     if at == 0 {
         return true;
@@ -148,7 +148,7 @@ pub fn inside(leads: &[u8; 256], file: &[u8], at: usize, n: usize) -> bool
 // How many values the array at a place has; a place 0 has none.
 pub fn length_at(leads: &[u8; 256], file: &[u8], at: usize) -> Length
     ensures few { result.count ≤ length file.now }
-    ensures is { WalkedPlace leads.now file.now at (λ o. result ≡ arrayLength o) }
+    ensures is { WalkedPlace leads.now file.now at (λ o. result ≡ array_length o) }
 {
     if at == 0 {
         return Length {

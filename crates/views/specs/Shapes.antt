@@ -4,9 +4,9 @@ use Rattle.std.proofs.Math.Option.{Option, some, none as nothing}
 use Rattle.refusal.specs.Table.{accepted}
 use Rattle.heads.specs.declared.Kind.{Kind}
 use Rattle.messagepack.specs.Document.{Document, Documents, integer, float, string, binary, array, map, none, item}
-use Rattle.messagepack.specs.Walk.{containerNumber}
-use Rattle.messagepack.specs.Read.{documentOf}
-use Rattle.values.specs.Parts.{entriesOf, look}
+use Rattle.messagepack.specs.Walk.{container_number}
+use Rattle.messagepack.specs.Read.{document_of}
+use Rattle.values.specs.Parts.{entries_of, look}
 use Rattle.views.specs.declared.shapes.Shape.{Shape}
 
 -- is a document an integer, a float or a string?
@@ -19,9 +19,9 @@ plain (array ds) = false
 plain (map es) = false
 
 -- are all values of an array?
-unfoldable pub allPlain : Documents → Bool
-allPlain none = true
-allPlain (item d ds) = plain d && allPlain ds
+unfoldable pub all_plain : Documents → Bool
+all_plain none = true
+all_plain (item d ds) = plain d && all_plain ds
 
 -- the shape of a document
 abbrev pub shape_of : Document → Shape
@@ -29,17 +29,17 @@ shape_of (integer v) = Shape.Integer
 shape_of (float bits) = Shape.Float
 shape_of (string t) = Shape.String
 shape_of (binary t) = Shape.Binary
-shape_of (array ds) = cond (allPlain ds) Shape.Flat Shape.Nested
+shape_of (array ds) = cond (all_plain ds) Shape.Flat Shape.Nested
 shape_of (map es) = Shape.Nested
 
 -- the shape of a value that is there, or not
-abbrev pub shapeIn : Option Document → Shape
-shapeIn (some x) = shape_of x
-shapeIn nothing = Shape.Missing
+abbrev pub shape_in : Option Document → Shape
+shape_in (some x) = shape_of x
+shape_in nothing = Shape.Missing
 
 -- the shape of the value under an outer key of a container
-unfoldable pub shapeUnder : List ℕ → List ℕ → Shape
-shapeUnder file name = cond (eqb (containerNumber file) accepted) (shapeIn (look name (entriesOf (documentOf file)))) Shape.Missing
+unfoldable pub shape_under : List ℕ → List ℕ → Shape
+shape_under file name = cond (eqb (container_number file) accepted) (shape_in (look name (entries_of (document_of file)))) Shape.Missing
 
 -- For the code inside: the same by the kind of a value's head, and by whether the values of an array are all plain.
 
@@ -54,13 +54,13 @@ is_plain Kind.Map = false
 is_plain Kind.Outside = false
 is_plain Kind.Missing = false
 
-abbrev pub kindShape : Kind → Bool → Shape
-kindShape Kind.Unsigned flat = Shape.Integer
-kindShape Kind.Signed flat = Shape.Integer
-kindShape Kind.Float flat = Shape.Float
-kindShape Kind.Str flat = Shape.String
-kindShape Kind.Bin flat = Shape.Binary
-kindShape Kind.Array flat = cond flat Shape.Flat Shape.Nested
-kindShape Kind.Map flat = Shape.Nested
-kindShape Kind.Outside flat = Shape.Missing
-kindShape Kind.Missing flat = Shape.Missing
+abbrev pub kind_shape : Kind → Bool → Shape
+kind_shape Kind.Unsigned flat = Shape.Integer
+kind_shape Kind.Signed flat = Shape.Integer
+kind_shape Kind.Float flat = Shape.Float
+kind_shape Kind.Str flat = Shape.String
+kind_shape Kind.Bin flat = Shape.Binary
+kind_shape Kind.Array flat = cond flat Shape.Flat Shape.Nested
+kind_shape Kind.Map flat = Shape.Nested
+kind_shape Kind.Outside flat = Shape.Missing
+kind_shape Kind.Missing flat = Shape.Missing

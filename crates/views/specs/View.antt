@@ -3,15 +3,15 @@
 -- definitions of Place.antt. No lemma stands here. Assumes nothing.
 use Rattle.std.specs.Prelude.{◌≡◌, Bool, true, false, cond, ◌||◌, List, [], ◌++◌, ℕ, suc, ◌+◌, ◌-◌, ◌<◌, eqb, length}
 use Rattle.std.proofs.Math.Option.{Option, some, none}
-use Rattle.refusal.specs.Table.{accepted, noSuchField}
+use Rattle.refusal.specs.Table.{accepted, no_such_field}
 use Rattle.text.specs.Equal.{equal}
 use Rattle.heads.specs.Head.{HeadOf}
 use Rattle.heads.specs.declared.Kind.{Kind}
 use Rattle.messagepack.specs.Document.{Document, Entries, integer, float, string, binary, array, map, empty, entry, size, TextOf, Writes, WritesEntries}
 use Rattle.messagepack.specs.Rules.{Container}
-use Rattle.messagepack.specs.Walk.{containerNumber}
-use Rattle.messagepack.specs.Read.{documentOf}
-use Rattle.values.specs.Parts.{entriesOf, look}
+use Rattle.messagepack.specs.Walk.{container_number}
+use Rattle.messagepack.specs.Read.{document_of}
+use Rattle.values.specs.Parts.{entries_of, look}
 use Rattle.views.specs.declared.Place.{Place}
 
 -- in the file, which is a map's writing, the value x of the outer key name is written w
@@ -56,28 +56,28 @@ has_key name empty = false
 has_key name (entry k x es) = equal k name || has_key name es
 
 -- the refusal: the container's, else 26 where there is no such key
-unfoldable pub viewNumber : List ℕ → List ℕ → ℕ
-viewNumber file name =
-    cond (eqb (containerNumber file) accepted) (cond (has_key name (entriesOf (documentOf file))) accepted noSuchField) (containerNumber file)
+unfoldable pub view_number : List ℕ → List ℕ → ℕ
+view_number file name =
+    cond (eqb (container_number file) accepted) (cond (has_key name (entries_of (document_of file))) accepted no_such_field) (container_number file)
 
 -- is a value there, and a binary?
-abbrev pub isBinaryValue : Option Document → Bool
-isBinaryValue (some (binary t)) = true
-isBinaryValue (some (integer v)) = false
-isBinaryValue (some (float bits)) = false
-isBinaryValue (some (string t)) = false
-isBinaryValue (some (array ds)) = false
-isBinaryValue (some (map es)) = false
-isBinaryValue none = false
+abbrev pub is_binary_value : Option Document → Bool
+is_binary_value (some (binary t)) = true
+is_binary_value (some (integer v)) = false
+is_binary_value (some (float bits)) = false
+is_binary_value (some (string t)) = false
+is_binary_value (some (array ds)) = false
+is_binary_value (some (map es)) = false
+is_binary_value none = false
 
 -- is the value under an outer key of a container a binary?
-unfoldable pub binaryUnder : List ℕ → List ℕ → Bool
-binaryUnder file name = cond (eqb (containerNumber file) accepted) (isBinaryValue (look name (entriesOf (documentOf file)))) false
+unfoldable pub binary_under : List ℕ → List ℕ → Bool
+binary_under file name = cond (eqb (container_number file) accepted) (is_binary_value (look name (entries_of (document_of file)))) false
 
 -- the place of the part, or the refusal where there is none
 pub data Placed (file name : List ℕ) : Place → Type 0 where
   placed : (v : Viewable file name) → Placed file name (Place.At (start_of v) (length (shown v.x v.w)))
-  refused : {n : ℕ} → 0 < n → n ≡ viewNumber file name → (Viewable file name → ⊥) → Placed file name (Place.Refused n)
+  refused : {n : ℕ} → 0 < n → n ≡ view_number file name → (Viewable file name → ⊥) → Placed file name (Place.Refused n)
 
 -- the part: what is shown of the value, or nothing
 pub data Viewed (file name : List ℕ) : List ℕ → Type 0 where

@@ -4,12 +4,12 @@ pub mod plain;
 pub mod shapes;
 
 ghost use Rattle.std.specs.Prelude.{◌≡◌, ◌↔◌, ℕ, ◌-◌, length};
-ghost use Rattle.heads.specs.Table.{leadTable};
-ghost use Rattle.heads.specs.Head.{headAt};
-ghost use Rattle.messagepack.specs.Limits.{entryLimit};
+ghost use Rattle.heads.specs.Table.{lead_table};
+ghost use Rattle.heads.specs.Head.{head_at};
+ghost use Rattle.messagepack.specs.Limits.{entry_limit};
 ghost use Rattle.values.specs.Standing.{Standing};
-ghost use Rattle.views.specs.View.{Viewable, viewNumber, binaryUnder};
-ghost use Rattle.views.specs.Place.{isText, bodyPlace, place_of, part_of};
+ghost use Rattle.views.specs.View.{Viewable, view_number, binary_under};
+ghost use Rattle.views.specs.Place.{is_text, body_place, place_of, part_of};
 ghost use Rattle.views.specs.Shown.{ShowsAt, Keyed};
 ghost use Rattle.views.specs.declared.Place.{Place};
 
@@ -35,7 +35,7 @@ pub fn view<'a>(file: &'a [u8], name: &[u8]) -> &'a [u8]
 
 // The refusal of a view, 1 to 11 or 26, or 0.
 pub fn view_refusal(file: &[u8], name: &[u8]) -> u8
-    ensures number { result ≡ viewNumber file.now name.now }
+    ensures number { result ≡ view_number file.now name.now }
     ensures exactly { (result ≡ 0) ↔ Viewable file.now name.now }
 {
     match find(file, name) {
@@ -46,7 +46,7 @@ pub fn view_refusal(file: &[u8], name: &[u8]) -> u8
 
 // Whether the outer key's value is a binary, as that of a column is. It is not in a file that is no container or has no such key.
 pub fn is_binary(file: &[u8], name: &[u8]) -> bool
-    ensures { result ≡ binaryUnder file.now name.now }
+    ensures { result ≡ binary_under file.now name.now }
 {
     if messagepack::container(file) != refusal::ACCEPTED {
         return false;
@@ -76,7 +76,7 @@ pub fn find(file: &[u8], name: &[u8]) -> Place
 
 // The outer key with the name, by the places of all of them: the place of the part that shows its value.
 fn entry(leads: &[u8; 256], file: &[u8], name: &[u8], places: &[u32]) -> Place
-    requires { (leads.now ≡ leadTable) × Keyed file.now places.now }
+    requires { (leads.now ≡ lead_table) × Keyed file.now places.now }
     ensures { result ≡ place_of file.now name.now }
 {
     let mut i: usize = 0;
@@ -96,14 +96,14 @@ fn entry(leads: &[u8; 256], file: &[u8], name: &[u8], places: &[u32]) -> Place
 
 // Room for the places of the outer keys.
 fn no_places() -> [u32; messagepack::ENTRY_LIMIT]
-    ensures { length result ≡ entryLimit }
+    ensures { length result ≡ entry_limit }
 {
     [0u32; messagepack::ENTRY_LIMIT]
 }
 
 // The part that shows the value at a place.
 fn part(leads: &[u8; 256], file: &[u8], at: usize) -> Place
-    requires { leads.now ≡ leadTable }
+    requires { leads.now ≡ lead_table }
     ensures { ShowsAt file.now at result }
 {
     if is_text(heads::kind_at(leads, file, at)) {
@@ -114,7 +114,7 @@ fn part(leads: &[u8; 256], file: &[u8], at: usize) -> Place
 }
 
 fn is_text(kind: Kind) -> bool
-    ensures { result ≡ isText kind }
+    ensures { result ≡ is_text kind }
 {
     match kind {
         Kind::Str => true,
@@ -124,8 +124,8 @@ fn is_text(kind: Kind) -> bool
 }
 
 fn body(leads: &[u8; 256], file: &[u8], at: usize) -> Place
-    requires { leads.now ≡ leadTable }
-    ensures { result ≡ bodyPlace (headAt file.now at) }
+    requires { leads.now ≡ lead_table }
+    ensures { result ≡ body_place (head_at file.now at) }
 {
     match heads::head_at(leads, file, at) {
         Head::Cut => Place::Refused(refusal::NO_SUCH_FIELD),
@@ -134,7 +134,7 @@ fn body(leads: &[u8; 256], file: &[u8], at: usize) -> Place
 }
 
 fn whole(leads: &[u8; 256], file: &[u8], at: usize) -> Place
-    requires { leads.now ≡ leadTable }
+    requires { leads.now ≡ lead_table }
     ensures { (e : ℕ) → Standing file.now 1 at e → result ≡ Place.At at (e - at) }
 {
     let end = values::skip(leads, file, at);

@@ -1,7 +1,7 @@
 // What stands at a place of a file, by its head: each call takes any bytes and any place, and supposes nothing of them.
 ghost use Rattle.std.specs.Prelude.{◌≡◌};
 ghost use Rattle.heads.specs.Head.{kind_at};
-ghost use Rattle.views.specs.Plain.{numberAt, head_end, textAt, textEnd, integerAt, bitsAt};
+ghost use Rattle.views.specs.Plain.{number_at, head_end, text_at, text_end, integer_at, bits_at};
 
 use heads::{Head, Kind};
 
@@ -14,7 +14,7 @@ pub fn kind_at(file: &[u8], at: usize) -> Kind
 
 // The number of the head at a place: the bytes of a string or a binary, the values of an array, the entries of a map. 0 where it is cut short.
 pub fn number_at(file: &[u8], at: usize) -> usize
-    ensures { result ≡ numberAt file.now at }
+    ensures { result ≡ number_at file.now at }
 {
     match heads::head_at(&heads::leads(), file, at) {
         Head::At(n, _) => n,
@@ -34,7 +34,7 @@ pub fn head_end(file: &[u8], at: usize) -> usize
 
 // The bytes of the string or the binary at a place; none of another value, or of one that is cut short.
 pub fn text_at<'a>(file: &'a [u8], at: usize) -> &'a [u8]
-    ensures { result.now ≡ textAt file.now at }
+    ensures { result.now ≡ text_at file.now at }
 {
     let part = values::text_at(&heads::leads(), file, at);
     let start = part.at;
@@ -44,7 +44,7 @@ pub fn text_at<'a>(file: &'a [u8], at: usize) -> &'a [u8]
 
 // Where the string or the binary at a place ends, which for a key is where its value stands; 0 for another value, or for one that is cut short.
 pub fn text_end(file: &[u8], at: usize) -> usize
-    ensures { result ≡ textEnd file.now at }
+    ensures { result ≡ text_end file.now at }
 {
     let part = values::text_at(&heads::leads(), file, at);
     part.at + part.count
@@ -52,14 +52,14 @@ pub fn text_end(file: &[u8], at: usize) -> usize
 
 // The integer at a place; 0 for another value, for one above 2,147,483,647 and for one that is cut short.
 pub fn integer_at(file: &[u8], at: usize) -> i32
-    ensures { result ≡ integerAt file.now at }
+    ensures { result ≡ integer_at file.now at }
 {
     values::integer_at(&heads::leads(), file, at)
 }
 
 // The bits of the float at a place; of another value 0.
 pub fn bits_at(file: &[u8], at: usize) -> u32
-    ensures { result ≡ bitsAt file.now at }
+    ensures { result ≡ bits_at file.now at }
 {
     let leads = heads::leads();
     let Head::At(n, _) = heads::head_at(&leads, file, at) else {

@@ -2,7 +2,7 @@
 ghost use Rattle.std.specs.Prelude.{◌≡◌};
 ghost use Rattle.values.specs.Walked.{Walked, WalkedAll};
 ghost use Rattle.values.specs.Parts.{items_of};
-ghost use Rattle.views.specs.Shapes.{is_plain, allPlain, kindShape, shape_of, shapeUnder};
+ghost use Rattle.views.specs.Shapes.{is_plain, all_plain, kind_shape, shape_of, shape_under};
 
 use heads::Kind;
 
@@ -21,7 +21,7 @@ pub enum Shape {
 
 // The shape of the value under an outer key.
 pub fn shape_of(file: &[u8], name: &[u8]) -> Shape
-    ensures { result ≡ shapeUnder file.now name.now }
+    ensures { result ≡ shape_under file.now name.now }
 {
     if messagepack::container(file) != refusal::ACCEPTED {
         return Shape::Missing;
@@ -45,7 +45,7 @@ fn shape_at(leads: &[u8; 256], file: &[u8], at: usize) -> Shape
 
 // The shape of a value by its kind, and by whether the values of an array are all plain.
 fn by_kind(kind: Kind, flat: bool) -> Shape
-    ensures { result ≡ kindShape kind flat }
+    ensures { result ≡ kind_shape kind flat }
 {
     match kind {
         Kind::Unsigned => Shape::Integer,
@@ -62,7 +62,7 @@ fn by_kind(kind: Kind, flat: bool) -> Shape
 
 // Whether the n values from a place on are plain.
 fn all_plain(leads: &[u8; 256], file: &[u8], n: usize, at: usize) -> bool
-    ensures { WalkedAll leads.now file.now n at (λ ds e. result ≡ allPlain ds) }
+    ensures { WalkedAll leads.now file.now n at (λ ds e. result ≡ all_plain ds) }
 {
     let mut left = n;
     let mut p = at;

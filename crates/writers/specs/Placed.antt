@@ -3,7 +3,7 @@
 use Rattle.std.specs.Prelude.{ℕ, ◌+◌, Bool, cond, List, ◌++◌, length, take, drop, ℤ, nat_le}
 use Rattle.steps.specs.declared.Form.{Form}
 use Rattle.steps.specs.Payload.{allowed}
-use Rattle.columns.specs.Encode.{payloadOf}
+use Rattle.columns.specs.Encode.{payload_of}
 use Rattle.writers.specs.declared.Placed.{Placed}
 use Rattle.writers.specs.declared.Placed.TheVariants.{Bytes, NotAllowed, NoRoom}
 
@@ -20,9 +20,9 @@ unfoldable pub laid : Bool → List ℕ → List ℕ → ℕ → List ℕ
 laid ok p s at = cond ok (cond (nat_le (at + length p) (length s)) (over s at p) s) s
 
 -- what a writer says of the cells xs, in the form f with the parameter m and with delta or without, for a buffer of n bytes from `at` on
-abbrev pub placedCells : Form → ℕ → Bool → List ℤ → ℕ → ℕ → Placed
-placedCells f m d xs n at = placed (allowed f m xs) (payloadOf f d xs) n at
+abbrev pub placed_cells : Form → ℕ → Bool → List ℤ → ℕ → ℕ → Placed
+placed_cells f m d xs n at = placed (allowed f m xs) (payload_of f d xs) n at
 
 -- what the buffer s holds after these cells
-abbrev pub laidCells : Form → ℕ → Bool → List ℤ → List ℕ → ℕ → List ℕ
-laidCells f m d xs s at = laid (allowed f m xs) (payloadOf f d xs) s at
+abbrev pub laid_cells : Form → ℕ → Bool → List ℤ → List ℕ → ℕ → List ℕ
+laid_cells f m d xs s at = laid (allowed f m xs) (payload_of f d xs) s at

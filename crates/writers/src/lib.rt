@@ -7,8 +7,8 @@ pub mod runs;
 
 ghost use Rattle.std.specs.Prelude.{◌≡◌, ◌+◌, ◌≤◌, map, length, pos, nat_le};
 ghost use Rattle.numbers.specs.BigEndian.{bytes_of};
-ghost use Rattle.steps.specs.Delta.{deltaIf};
-ghost use Rattle.steps.specs.Payload.{allIn};
+ghost use Rattle.steps.specs.Delta.{delta_if};
+ghost use Rattle.steps.specs.Payload.{all_in};
 ghost use Rattle.writers.specs.Bits.{Swapped};
 ghost use Rattle.writers.specs.Placed.{over};
 
@@ -34,7 +34,7 @@ fn fits(n: usize, length: usize, at: usize) -> bool
 
 // Whether every value is of a range.
 fn all_in(values: &[i32], range: Range) -> bool
-    ensures { result ≡ allIn range values.now }
+    ensures { result ≡ all_in range values.now }
 {
     match range {
         Range::Int8 => each_in(values, Range::Int8),
@@ -46,7 +46,7 @@ fn all_in(values: &[i32], range: Range) -> bool
 
 // Whether all numbers are of a range; `all_in` calls it with each range as a constant, so that each has a loop of its own.
 fn each_in(values: &[i32], range: Range) -> bool
-    ensures { result ≡ allIn range values.now }
+    ensures { result ≡ all_in range values.now }
 {
     let mut ok = true;
     let mut i: usize = 0;
@@ -59,7 +59,7 @@ fn each_in(values: &[i32], range: Range) -> bool
 
 // Whether every byte is ASCII.
 fn all_ascii(values: &[u8]) -> bool
-    ensures { result ≡ allIn Range.Ascii (map pos values.now) }
+    ensures { result ≡ all_in Range.Ascii (map pos values.now) }
 {
     let mut ok = true;
     let mut i: usize = 0;
@@ -73,7 +73,7 @@ fn all_ascii(values: &[u8]) -> bool
 
 // What a payload holds for a cell, by the cell before it.
 fn delta_if(before: i32, x: i32, delta: bool) -> i32
-    ensures { result ≡ deltaIf delta before x }
+    ensures { result ≡ delta_if delta before x }
 {
     if delta { steps::delta_of(x, before) } else { x }
 }

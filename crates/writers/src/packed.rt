@@ -2,11 +2,11 @@
 ghost use Rattle.std.specs.Prelude.{◌≡◌, ◌+◌, ◌-◌, ◌%◌, ◌<◌, ◌≤◌, [], ◌∷◌, ◌++◌, length, replicate, nat_lt};
 ghost use Rattle.numbers.specs.BigEndian.{bytes_of};
 ghost use Rattle.steps.specs.Width.{upper, lower, size_of};
-ghost use Rattle.steps.specs.Numbers.{bytesFor};
-ghost use Rattle.steps.specs.Delta.{deltasIf};
-ghost use Rattle.steps.specs.Packing.{packOne, pack};
-ghost use Rattle.writers.specs.Placed.{over, placedCells, laidCells};
-ghost use Rattle.writers.specs.Bits.{bitsFor, up_to, toWrite, GoesOn};
+ghost use Rattle.steps.specs.Numbers.{bytes_for};
+ghost use Rattle.steps.specs.Delta.{deltas_if};
+ghost use Rattle.steps.specs.Packing.{pack_one, pack};
+ghost use Rattle.writers.specs.Placed.{over, placed_cells, laid_cells};
+ghost use Rattle.writers.specs.Bits.{bits_for, up_to, to_write, GoesOn};
 
 use crate::Placed;
 use steps::{Form, Range, Size};
@@ -27,8 +27,8 @@ pub fn place_numbers(
     buffer: &mut [u8],
     start: usize,
 ) -> Placed
-    ensures answer { result ≡ placedCells (Form.Packed size) 0 delta values.now (length buffer.old) start }
-    ensures buffer { buffer.new ≡ laidCells (Form.Packed size) 0 delta values.now buffer.old start }
+    ensures answer { result ≡ placed_cells (Form.Packed size) 0 delta values.now (length buffer.old) start }
+    ensures buffer { buffer.new ≡ laid_cells (Form.Packed size) 0 delta values.now buffer.old start }
 {
     if !crate::all_in(values, Range::Int32) {
         return Placed::NotAllowed;
@@ -48,7 +48,7 @@ pub fn place_numbers(
 // How many bytes packed numbers have; where they are more than the room, one more than it. Each value is one number, and a few are more.
 fn count_numbers(values: &[i32], size: Size, delta: bool, room: usize) -> usize
     requires { room < 9223372036854775808 }
-    ensures { result ≡ up_to room (length (bytesFor size (pack size (deltasIf delta values.now)))) }
+    ensures { result ≡ up_to room (length (bytes_for size (pack size (deltas_if delta values.now)))) }
 {
     let k = steps::bytes(size);
     let fit = room / k;
@@ -76,7 +76,7 @@ fn count_numbers(values: &[i32], size: Size, delta: bool, room: usize) -> usize
 // How many limits of the width one packed value has, before the rest.
 fn limits_of(x: i32, size: Size, low: u32, span: u32) -> usize
     requires { (low ≡ lower size - 1) × (span ≡ upper size + low) }
-    ensures { (result + 1 ≡ length (packOne (upper size) (lower size) x)) × (result < 4294967296) }
+    ensures { (result + 1 ≡ length (pack_one (upper size) (lower size) x)) × (result < 4294967296) }
 {
     if is_short(numbers::to_u32(x), low, span) {
         return 0;
@@ -87,7 +87,7 @@ fn limits_of(x: i32, size: Size, low: u32, span: u32) -> usize
 // How many limits a value of any size takes: one for each time that it reaches the limit. Both signs are divided before the sign is
 // asked for: it is hard to foretell, and a division by a constant costs less than a wrong guess.
 fn limits_of_long(x: i32, size: Size) -> usize
-    ensures { (result + 1 ≡ length (packOne (upper size) (lower size) x)) × (result < 4294967296) }
+    ensures { (result + 1 ≡ length (pack_one (upper size) (lower size) x)) × (result < 4294967296) }
 {
     let bits = numbers::to_u32(x);
     let above = bits / upper(size);
@@ -100,8 +100,8 @@ fn limits_of_long(x: i32, size: Size) -> usize
 
 // Packed numbers from `start` on: short values by a loop of their own, up to the next that is not.
 fn write_numbers(values: &[i32], size: Size, delta: bool, buffer: &mut [u8], start: usize)
-    requires { start + length (bytesFor size (pack size (deltasIf delta values.now))) ≤ length buffer.old }
-    ensures { buffer.new ≡ over buffer.old start (bytesFor size (pack size (deltasIf delta values.now))) }
+    requires { start + length (bytes_for size (pack size (deltas_if delta values.now))) ≤ length buffer.old }
+    ensures { buffer.new ≡ over buffer.old start (bytes_for size (pack size (deltas_if delta values.now))) }
 {
     let mut spot = Spot {
         next: 0,
@@ -131,8 +131,8 @@ fn write_numbers(values: &[i32], size: Size, delta: bool, buffer: &mut [u8], sta
 
 // Writes the values from a spot on that are one number each, and gives the spot of the first that is more.
 fn write_short(values: &[i32], size: Size, delta: bool, buffer: &mut [u8], from: Spot) -> Spot
-    requires { from.at + length (toWrite size delta values.now from) ≤ length buffer.old }
-    ensures room { result.at + length (toWrite size delta values.now result) ≤ length buffer.old }
+    requires { from.at + length (to_write size delta values.now from) ≤ length buffer.old }
+    ensures room { result.at + length (to_write size delta values.now result) ≤ length buffer.old }
     ensures buffer { GoesOn size delta values.now buffer.old from buffer.new result }
     ensures order { from.next ≤ result.next }
 {
@@ -166,9 +166,9 @@ fn write_short(values: &[i32], size: Size, delta: bool, buffer: &mut [u8], from:
 
 // One packed value from `at` on; gives the place after it.
 fn write_long(x: i32, size: Size, buffer: &mut [u8], at: usize) -> usize
-    requires { at + length (bytesFor size (packOne (upper size) (lower size) x)) ≤ length buffer.old }
-    ensures place { result ≡ at + length (bytesFor size (packOne (upper size) (lower size) x)) }
-    ensures buffer { buffer.new ≡ over buffer.old at (bytesFor size (packOne (upper size) (lower size) x)) }
+    requires { at + length (bytes_for size (pack_one (upper size) (lower size) x)) ≤ length buffer.old }
+    ensures place { result ≡ at + length (bytes_for size (pack_one (upper size) (lower size) x)) }
+    ensures buffer { buffer.new ≡ over buffer.old at (bytes_for size (pack_one (upper size) (lower size) x)) }
 {
     let bits = numbers::to_u32(x);
     if bits < 0x8000_0000 {
@@ -189,9 +189,9 @@ fn write_parts(
     buffer: &mut [u8],
     start: usize,
 ) -> usize
-    requires { start + length (bitsFor size (replicate count limit ++ (rest ∷ []))) ≤ length buffer.old }
-    ensures place { result ≡ start + length (bitsFor size (replicate count limit ++ (rest ∷ []))) }
-    ensures buffer { buffer.new ≡ over buffer.old start (bitsFor size (replicate count limit ++ (rest ∷ []))) }
+    requires { start + length (bits_for size (replicate count limit ++ (rest ∷ []))) ≤ length buffer.old }
+    ensures place { result ≡ start + length (bits_for size (replicate count limit ++ (rest ∷ []))) }
+    ensures buffer { buffer.new ≡ over buffer.old start (bits_for size (replicate count limit ++ (rest ∷ []))) }
 {
     let k = steps::bytes(size);
     let mut at = start;

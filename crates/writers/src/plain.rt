@@ -4,18 +4,18 @@ ghost use Rattle.std.specs.Prelude.{◌≡◌, ◌+◌, ◌≤◌, true, false, 
 ghost use Rattle.std.specs.Int.{w32};
 ghost use Rattle.std.proofs.Common.{to_z};
 ghost use Rattle.numbers.specs.BigEndian.{bytes_of};
-ghost use Rattle.steps.specs.Numbers.{bytesFor};
-ghost use Rattle.steps.specs.Payload.{range_of, allIn};
+ghost use Rattle.steps.specs.Numbers.{bytes_for};
+ghost use Rattle.steps.specs.Payload.{range_of, all_in};
 ghost use Rattle.steps.specs.Width.{size_of};
-ghost use Rattle.writers.specs.Placed.{over, placedCells, laidCells};
+ghost use Rattle.writers.specs.Placed.{over, placed_cells, laid_cells};
 
 use crate::Placed;
 use steps::{Form, Range, Size};
 
 // The payload of plain numbers.
 pub fn place_numbers(values: &[i32], size: Size, buffer: &mut [u8], at: usize) -> Placed
-    ensures answer { result ≡ placedCells (Form.Plain size) 0 false values.now (length buffer.old) at }
-    ensures buffer { buffer.new ≡ laidCells (Form.Plain size) 0 false values.now buffer.old at }
+    ensures answer { result ≡ placed_cells (Form.Plain size) 0 false values.now (length buffer.old) at }
+    ensures buffer { buffer.new ≡ laid_cells (Form.Plain size) 0 false values.now buffer.old at }
 {
     match size {
         Size::One => place_sized(values, Size::One, buffer, at),
@@ -26,8 +26,8 @@ pub fn place_numbers(values: &[i32], size: Size, buffer: &mut [u8], at: usize) -
 
 // The payload of names of `size` bytes each.
 pub fn place_names(names: &[u8], size: usize, buffer: &mut [u8], at: usize) -> Placed
-    ensures answer { result ≡ placedCells Form.Names size false (map pos names.now) (length buffer.old) at }
-    ensures buffer { buffer.new ≡ laidCells Form.Names size false (map pos names.now) buffer.old at }
+    ensures answer { result ≡ placed_cells Form.Names size false (map pos names.now) (length buffer.old) at }
+    ensures buffer { buffer.new ≡ laid_cells Form.Names size false (map pos names.now) buffer.old at }
 {
     if !steps::are_names(names, size) {
         return Placed::NotAllowed;
@@ -42,8 +42,8 @@ pub fn place_names(names: &[u8], size: usize, buffer: &mut [u8], at: usize) -> P
 
 // The payload of floats, by their bits.
 pub fn place_floats(bits: &[u32], buffer: &mut [u8], at: usize) -> Placed
-    ensures answer { result ≡ placedCells (Form.Plain Size.Four) 0 false (map (to_z w32) bits.now) (length buffer.old) at }
-    ensures buffer { buffer.new ≡ laidCells (Form.Plain Size.Four) 0 false (map (to_z w32) bits.now) buffer.old at }
+    ensures answer { result ≡ placed_cells (Form.Plain Size.Four) 0 false (map (to_z w32) bits.now) (length buffer.old) at }
+    ensures buffer { buffer.new ≡ laid_cells (Form.Plain Size.Four) 0 false (map (to_z w32) bits.now) buffer.old at }
 {
     let n = bits.len() * 4;
     if !crate::fits(n, buffer.len(), at) {
@@ -55,8 +55,8 @@ pub fn place_floats(bits: &[u32], buffer: &mut [u8], at: usize) -> Placed
 
 // Places numbers of one size; `place_numbers` calls it with each size as a constant, so that each has a loop of its own.
 fn place_sized(values: &[i32], size: Size, buffer: &mut [u8], start: usize) -> Placed
-    ensures answer { result ≡ placedCells (Form.Plain size) 0 false values.now (length buffer.old) start }
-    ensures buffer { buffer.new ≡ laidCells (Form.Plain size) 0 false values.now buffer.old start }
+    ensures answer { result ≡ placed_cells (Form.Plain size) 0 false values.now (length buffer.old) start }
+    ensures buffer { buffer.new ≡ laid_cells (Form.Plain size) 0 false values.now buffer.old start }
 {
     if !crate::all_in(values, range_of(size)) {
         return Placed::NotAllowed;
@@ -82,8 +82,8 @@ fn range_of(size: Size) -> Range
 
 // Plain numbers from `start` on.
 fn write_numbers(values: &[i32], size: Size, buffer: &mut [u8], start: usize)
-    requires { (allIn (range_of (Form.Plain size)) values.now ≡ true) × (start + length (bytesFor size values.now) ≤ length buffer.old) }
-    ensures { buffer.new ≡ over buffer.old start (bytesFor size values.now) }
+    requires { (all_in (range_of (Form.Plain size)) values.now ≡ true) × (start + length (bytes_for size values.now) ≤ length buffer.old) }
+    ensures { buffer.new ≡ over buffer.old start (bytes_for size values.now) }
 {
     let mut at = start;
     let mut i: usize = 0;
@@ -96,8 +96,8 @@ fn write_numbers(values: &[i32], size: Size, buffer: &mut [u8], start: usize)
 
 // Names from `start` on.
 fn write_names(names: &[u8], buffer: &mut [u8], start: usize)
-    requires { start + length (bytesFor Size.One (map pos names.now)) ≤ length buffer.old }
-    ensures { buffer.new ≡ over buffer.old start (bytesFor Size.One (map pos names.now)) }
+    requires { start + length (bytes_for Size.One (map pos names.now)) ≤ length buffer.old }
+    ensures { buffer.new ≡ over buffer.old start (bytes_for Size.One (map pos names.now)) }
 {
     let mut at = start;
     let mut i: usize = 0;
@@ -110,8 +110,8 @@ fn write_names(names: &[u8], buffer: &mut [u8], start: usize)
 
 // Floats from `start` on.
 fn write_floats(bits: &[u32], buffer: &mut [u8], start: usize)
-    requires { start + length (bytesFor Size.Four (map (to_z w32) bits.now)) ≤ length buffer.old }
-    ensures { buffer.new ≡ over buffer.old start (bytesFor Size.Four (map (to_z w32) bits.now)) }
+    requires { start + length (bytes_for Size.Four (map (to_z w32) bits.now)) ≤ length buffer.old }
+    ensures { buffer.new ≡ over buffer.old start (bytes_for Size.Four (map (to_z w32) bits.now)) }
 {
     let mut at = start;
     let mut i: usize = 0;

@@ -1,10 +1,10 @@
 // The writers of runs, of numbers and of characters. Every call is total, and where it refuses it changes nothing.
 ghost use Rattle.std.specs.Prelude.{◌≡◌, ◌+◌, ◌*◌, ◌%◌, ◌<◌, ◌≤◌, false, ◌++◌, map, length, pos, if◌then◌else◌, nat_eq, nat_le};
 ghost use Rattle.numbers.specs.BigEndian.{bytes_of};
-ghost use Rattle.steps.specs.Numbers.{bytesFor};
-ghost use Rattle.steps.specs.Delta.{deltasIf};
-ghost use Rattle.steps.specs.RunLength.{runsOf};
-ghost use Rattle.writers.specs.Placed.{over, placedCells, laidCells};
+ghost use Rattle.steps.specs.Numbers.{bytes_for};
+ghost use Rattle.steps.specs.Delta.{deltas_if};
+ghost use Rattle.steps.specs.RunLength.{runs_of};
+ghost use Rattle.writers.specs.Placed.{over, placed_cells, laid_cells};
 ghost use Rattle.writers.specs.Bits.{CellAfter, BegunIn};
 
 use crate::Placed;
@@ -18,8 +18,8 @@ pub fn place_numbers(
     buffer: &mut [u8],
     at: usize,
 ) -> Placed
-    ensures answer { result ≡ placedCells (Form.Runs range) 0 delta values.now (length buffer.old) at }
-    ensures buffer { buffer.new ≡ laidCells (Form.Runs range) 0 delta values.now buffer.old at }
+    ensures answer { result ≡ placed_cells (Form.Runs range) 0 delta values.now (length buffer.old) at }
+    ensures buffer { buffer.new ≡ laid_cells (Form.Runs range) 0 delta values.now buffer.old at }
 {
     if !crate::all_in(values, range) {
         return Placed::NotAllowed;
@@ -34,8 +34,8 @@ pub fn place_numbers(
 
 // The payload of runs of characters.
 pub fn place_chars(values: &[u8], buffer: &mut [u8], at: usize) -> Placed
-    ensures answer { result ≡ placedCells (Form.Runs Range.Ascii) 0 false (map pos values.now) (length buffer.old) at }
-    ensures buffer { buffer.new ≡ laidCells (Form.Runs Range.Ascii) 0 false (map pos values.now) buffer.old at }
+    ensures answer { result ≡ placed_cells (Form.Runs Range.Ascii) 0 false (map pos values.now) (length buffer.old) at }
+    ensures buffer { buffer.new ≡ laid_cells (Form.Runs Range.Ascii) 0 false (map pos values.now) buffer.old at }
 {
     if !crate::all_ascii(values) {
         return Placed::NotAllowed;
@@ -54,7 +54,7 @@ const BLOCK: usize = 65536;
 // How many runs there are: one, one more if the second cell begins another, and one more for each later cell that does. The later ones are
 // counted in blocks; `i` is two before the next cell to be counted.
 fn count_numbers(values: &[i32], delta: bool) -> usize
-    ensures { result * 2 ≡ length (runsOf (deltasIf delta values.now)) }
+    ensures { result * 2 ≡ length (runs_of (deltas_if delta values.now)) }
 {
     if values.len() == 0 {
         return 0;
@@ -102,8 +102,8 @@ fn cell_after(values: &[i32], delta: bool, i: usize) -> u32
 
 // The runs from `start` on.
 fn write_numbers(values: &[i32], delta: bool, buffer: &mut [u8], start: usize)
-    requires { start + length (bytesFor Size.Four (runsOf (deltasIf delta values.now))) ≤ length buffer.old }
-    ensures { buffer.new ≡ over buffer.old start (bytesFor Size.Four (runsOf (deltasIf delta values.now))) }
+    requires { start + length (bytes_for Size.Four (runs_of (deltas_if delta values.now))) ≤ length buffer.old }
+    ensures { buffer.new ≡ over buffer.old start (bytes_for Size.Four (runs_of (deltas_if delta values.now))) }
 {
     if values.len() == 0 {
         return;
@@ -132,7 +132,7 @@ fn write_numbers(values: &[i32], delta: bool, buffer: &mut [u8], start: usize)
 
 // How many runs of characters there are.
 fn count_chars(values: &[u8]) -> usize
-    ensures { result * 2 ≡ length (runsOf (map pos values.now)) }
+    ensures { result * 2 ≡ length (runs_of (map pos values.now)) }
 {
     if values.len() == 0 {
         return 0;
@@ -151,8 +151,8 @@ fn count_chars(values: &[u8]) -> usize
 
 // The runs of characters from `start` on.
 fn write_chars(values: &[u8], buffer: &mut [u8], start: usize)
-    requires { start + length (bytesFor Size.Four (runsOf (map pos values.now))) ≤ length buffer.old }
-    ensures { buffer.new ≡ over buffer.old start (bytesFor Size.Four (runsOf (map pos values.now))) }
+    requires { start + length (bytes_for Size.Four (runs_of (map pos values.now))) ≤ length buffer.old }
+    ensures { buffer.new ≡ over buffer.old start (bytes_for Size.Four (runs_of (map pos values.now))) }
 {
     if values.len() == 0 {
         return;

@@ -1,18 +1,18 @@
 -- What is added and what is left give the total. Assumes nothing.
 use Rattle.std.proofs.Common.{◌≡◌, ℕ, suc, ◌+◌, ◌-◌, ◌%◌, ◌<◌, ◌≤◌, sym, ap, ◌∙◌, subst, mod-lt, mod-eq_of_lt, arith, rules}
 use Rattle.bill.specs.Run.{stations}
-use Rattle.bill.specs.Ledger.{ledgerTotal}
-use Rattle.receipt.specs.Receipt.{stationLimit}
-use Rattle.bill.specs.Laws.Entries.{stationsLeft, total_first, total-next, total-none}
+use Rattle.bill.specs.Ledger.{ledger_total}
+use Rattle.receipt.specs.Receipt.{station_limit}
+use Rattle.bill.specs.Laws.Entries.{stations_left, total_first, total-next, total-none}
 use Rattle.bill.proofs.total_of.Statement.{statement}
 use Rattle.bill.proofs.total_of.Tie as tie
 
 abbrev invariant-loop : tie.invariant-loop
 invariant-loop accepted total₀ station₀ total station =
-    (station ≤ suc stationLimit) × (total < 4294967296) × ((total + ledgerTotal (stationsLeft station) accepted) % 4294967296 ≡ ledgerTotal stations accepted % 4294967296)
+    (station ≤ suc station_limit) × (total < 4294967296) × ((total + ledger_total (stations_left station) accepted) % 4294967296 ≡ ledger_total stations accepted % 4294967296)
 
 abbrev decreases-loop : tie.decreases-loop
-decreases-loop accepted total₀ station₀ total station = suc stationLimit - station
+decreases-loop accepted total₀ station₀ total station = suc station_limit - station
 
 loop-holds : tie.Need-loop-init invariant-loop decreases-loop
 loop-holds c = (omega arith, omega arith, ap (λ (n : ℕ). n % 4294967296) (omega (arith, total_first c.before.args.accepted.now)))
@@ -27,7 +27,7 @@ returns : tie.Need-returns invariant-loop decreases-loop
 returns c =
     let p = c.before.loop in
     let a = c.before.before.before.args.accepted.now in
-    let none : p.total + ledgerTotal (stationsLeft p.station) a ≡ p.total = omega (arith, total-none p.station a (omega arith)) in
+    let none : p.total + ledger_total (stations_left p.station) a ≡ p.total = omega (arith, total-none p.station a (omega arith)) in
     sym (mod-eq_of_lt p.invariant.1) ∙ ap (λ (n : ℕ). n % 4294967296) (sym none) ∙ p.invariant.2
 
 pub total-of-spec : {M : Type 1} → statement M

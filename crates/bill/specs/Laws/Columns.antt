@@ -5,10 +5,10 @@ use Rattle.std.proofs.Common.{sym, ◌∙◌, arith, mod-eq_of_lt, length-set, g
 use Rattle.std.proofs.lemmas.List.{length-replicate, get_or-replicate}
 use Rattle.std.proofs.lemmas.Bool.{eqb-false}
 use Rattle.receipt.specs.declared.Receipt.{Receipt}
-use Rattle.receipt.specs.Receipt.{stationLimit}
-use Rattle.bill.specs.Run.{allKept, stationsFrom, stations}
-use Rattle.bill.specs.Bill.{Entry, counted, is_of, isAccepted, acceptedOf, refusedOf, allAccepted, entriesIn, billOf}
-use Rattle.bill.specs.Ledger.{Ledger, raised, posted, postedAll, ledgerEntries, ledgerTotal, ledgerBill}
+use Rattle.receipt.specs.Receipt.{station_limit}
+use Rattle.bill.specs.Run.{all_kept, stations_from, stations}
+use Rattle.bill.specs.Bill.{Entry, counted, is_of, is_accepted, accepted_of, refused_of, all_accepted, entries_in, bill_of}
+use Rattle.bill.specs.Ledger.{Ledger, raised, posted, posted_all, ledger_entries, ledger_total, ledger_bill}
 use Rattle.bill.specs.Laws.Sums.{sum_of, counted-more, receipts-apart, total-accepted}
 use Rattle.bill.specs.Laws.Longest.{counted-most}
 use Rattle.bill.specs.Laws.Rising.{blank}
@@ -16,19 +16,19 @@ use Rattle.bill.specs.Laws.Rising.{blank}
 -- One column
 
 -- a column after receipts, raised for those that pass a test
-unfoldable pub columnAfter : (Receipt → Bool) → List ℕ → List Receipt → List ℕ
-columnAfter test column [] = column
-columnAfter test column (r ∷ rs) = columnAfter test (cond (test r) (raised column r.station) column) rs
+unfoldable pub column_after : (Receipt → Bool) → List ℕ → List Receipt → List ℕ
+column_after test column [] = column
+column_after test column (r ∷ rs) = column_after test (cond (test r) (raised column r.station) column) rs
 
-accepted-after : (rs : List Receipt) (l : Ledger) → (postedAll l rs).accepted ≡ columnAfter isAccepted l.accepted rs
-unfolding postedAll columnAfter
+accepted-after : (rs : List Receipt) (l : Ledger) → (posted_all l rs).accepted ≡ column_after is_accepted l.accepted rs
+unfolding posted_all column_after
 accepted-after [] l = refl
 accepted-after (r ∷ rs) l = accepted-after rs (posted l r)
 
-refused-after : (rs : List Receipt) (l : Ledger) → (postedAll l rs).refused ≡ columnAfter (λ (r : Receipt). not (isAccepted r)) l.refused rs
-unfolding postedAll columnAfter
+refused-after : (rs : List Receipt) (l : Ledger) → (posted_all l rs).refused ≡ column_after (λ (r : Receipt). not (is_accepted r)) l.refused rs
+unfolding posted_all column_after
 refused-after [] l = refl
-refused-after (r ∷ rs) l = refused-after rs (posted l r) ∙ ap (λ (c : List ℕ). columnAfter (λ (r : Receipt). not (isAccepted r)) c rs) (turned (isAccepted r))
+refused-after (r ∷ rs) l = refused-after rs (posted l r) ∙ ap (λ (c : List ℕ). column_after (λ (r : Receipt). not (is_accepted r)) c rs) (turned (is_accepted r))
   where
     turned : (t : Bool) → cond t l.refused (raised l.refused r.station) ≡ cond (not t) (raised l.refused r.station) l.refused
     turned true = refl
@@ -57,8 +57,8 @@ kept-length true column s = length-set column s _
 kept-length false column s = refl
 
 pub column-counts : (test : Receipt → Bool) (rs : List Receipt) (column : List ℕ) (s : ℕ) → s < length column → slice_index column s + length rs < 4294967296
-    → slice_index (columnAfter test column rs) s ≡ slice_index column s + counted (λ (r : Receipt). is_of s r && test r) rs
-unfolding columnAfter counted
+    → slice_index (column_after test column rs) s ≡ slice_index column s + counted (λ (r : Receipt). is_of s r && test r) rs
+unfolding column_after counted
 column-counts test [] column s h b = omega arith
 column-counts test (r ∷ rs) column s h b =
     let one = raised_at (test r) column r s h (omega arith) in
@@ -75,18 +75,18 @@ column-counts test (r ∷ rs) column s h b =
 -- Both columns
 
 module _ (rs : List Receipt) (few : length rs < 4294967296) where
-  pub column-accepted : (s : ℕ) → s ≤ stationLimit → slice_index (postedAll blank rs).accepted s ≡ acceptedOf s rs
+  pub column-accepted : (s : ℕ) → s ≤ station_limit → slice_index (posted_all blank rs).accepted s ≡ accepted_of s rs
   column-accepted s h =
-      let zero-there : slice_index_or blank.accepted s 0 ≡ 0 = get_or-replicate (suc stationLimit) s 0 0 (omega arith) in
-      let inside : s < length blank.accepted = omega (arith, length-replicate {A = ℕ} (suc stationLimit) 0) in
-      let counts = column-counts isAccepted rs blank.accepted s inside (omega arith) in
+      let zero-there : slice_index_or blank.accepted s 0 ≡ 0 = get_or-replicate (suc station_limit) s 0 0 (omega arith) in
+      let inside : s < length blank.accepted = omega (arith, length-replicate {A = ℕ} (suc station_limit) 0) in
+      let counts = column-counts is_accepted rs blank.accepted s inside (omega arith) in
       ap (λ (c : List ℕ). slice_index c s) (accepted-after rs blank) ∙ counts ∙ omega arith
 
-  pub column-refused : (s : ℕ) → s ≤ stationLimit → slice_index (postedAll blank rs).refused s ≡ refusedOf s rs
+  pub column-refused : (s : ℕ) → s ≤ station_limit → slice_index (posted_all blank rs).refused s ≡ refused_of s rs
   column-refused s h =
-      let zero-there : slice_index_or blank.refused s 0 ≡ 0 = get_or-replicate (suc stationLimit) s 0 0 (omega arith) in
-      let inside : s < length blank.refused = omega (arith, length-replicate {A = ℕ} (suc stationLimit) 0) in
-      let counts = column-counts (λ (r : Receipt). not (isAccepted r)) rs blank.refused s inside (omega arith) in
+      let zero-there : slice_index_or blank.refused s 0 ≡ 0 = get_or-replicate (suc station_limit) s 0 0 (omega arith) in
+      let inside : s < length blank.refused = omega (arith, length-replicate {A = ℕ} (suc station_limit) 0) in
+      let counts = column-counts (λ (r : Receipt). not (is_accepted r)) rs blank.refused s inside (omega arith) in
       ap (λ (c : List ℕ). slice_index c s) (refused-after rs blank) ∙ counts ∙ omega arith
 
 -- The bill
@@ -98,28 +98,28 @@ occurs-test {X} zero (suc b) x y = rw (ne_eqb (suc b) 0 (λ e. omega arith), lt-
 occurs-test {X} (suc a) b x y = rw (ne_eqb (suc a) 0 (λ e. omega arith), lt-ltb 0 (suc a + b) (omega arith))
 
 module _ (rs : List Receipt) (a r : List ℕ) where
-  entries-same : (f k : ℕ) → ((s : ℕ) → f ≤ s → s < f + k → slice_index a s ≡ acceptedOf s rs) → ((s : ℕ) → f ≤ s → s < f + k → slice_index r s ≡ refusedOf s rs)
-      → ledgerEntries (stationsFrom f k) a r ≡ entriesIn (stationsFrom f k) rs
-  unfolding ledgerEntries entriesIn stationsFrom
+  entries-same : (f k : ℕ) → ((s : ℕ) → f ≤ s → s < f + k → slice_index a s ≡ accepted_of s rs) → ((s : ℕ) → f ≤ s → s < f + k → slice_index r s ≡ refused_of s rs)
+      → ledger_entries (stations_from f k) a r ≡ entries_in (stations_from f k) rs
+  unfolding ledger_entries entries_in stations_from
   entries-same f zero p q = refl
   entries-same f (suc k) p q =
-      let x : slice_index_or a f 0 ≡ acceptedOf f rs = p f (omega arith) (omega arith) in
-      let y : slice_index_or r f 0 ≡ refusedOf f rs = q f (omega arith) (omega arith) in
+      let x : slice_index_or a f 0 ≡ accepted_of f rs = p f (omega arith) (omega arith) in
+      let y : slice_index_or r f 0 ≡ refused_of f rs = q f (omega arith) (omega arith) in
       let rest = entries-same (suc f) k (λ s i j. p s (omega arith) (omega arith)) (λ s i j. q s (omega arith) (omega arith)) in
-      rw (x, y, rest) (occurs-test (acceptedOf f rs) (refusedOf f rs) (entriesIn (stationsFrom (suc f) k) rs) (record { station = f; accepted = acceptedOf f rs; refused = refusedOf f rs } ∷ entriesIn (stationsFrom (suc f) k) rs)
-      ∙ ap (λ (n : ℕ). cond (nat_lt 0 n) (record { station = f; accepted = acceptedOf f rs; refused = refusedOf f rs } ∷ entriesIn (stationsFrom (suc f) k) rs) (entriesIn (stationsFrom (suc f) k) rs)) (sym (receipts-apart f rs)))
+      rw (x, y, rest) (occurs-test (accepted_of f rs) (refused_of f rs) (entries_in (stations_from (suc f) k) rs) (record { station = f; accepted = accepted_of f rs; refused = refused_of f rs } ∷ entries_in (stations_from (suc f) k) rs)
+      ∙ ap (λ (n : ℕ). cond (nat_lt 0 n) (record { station = f; accepted = accepted_of f rs; refused = refused_of f rs } ∷ entries_in (stations_from (suc f) k) rs) (entries_in (stations_from (suc f) k) rs)) (sym (receipts-apart f rs)))
 
-  total-same : (f k : ℕ) → ((s : ℕ) → f ≤ s → s < f + k → slice_index a s ≡ acceptedOf s rs) → ledgerTotal (stationsFrom f k) a ≡ sum_of (λ (s : ℕ). acceptedOf s rs) (stationsFrom f k)
-  unfolding ledgerTotal sum_of stationsFrom
+  total-same : (f k : ℕ) → ((s : ℕ) → f ≤ s → s < f + k → slice_index a s ≡ accepted_of s rs) → ledger_total (stations_from f k) a ≡ sum_of (λ (s : ℕ). accepted_of s rs) (stations_from f k)
+  unfolding ledger_total sum_of stations_from
   total-same f zero p = refl
   total-same f (suc k) p = ap₂ (λ (m n : ℕ). m + n) (p f (omega arith) (omega arith)) (total-same (suc f) k (λ s i j. p s (omega arith) (omega arith)))
 
-pub ledger-bill : (rs : List Receipt) → allKept rs ≡ true → length rs < 4294967296 → ledgerBill (postedAll blank rs).accepted (postedAll blank rs).refused ≡ billOf rs
+pub ledger-bill : (rs : List Receipt) → all_kept rs ≡ true → length rs < 4294967296 → ledger_bill (posted_all blank rs).accepted (posted_all blank rs).refused ≡ bill_of rs
 unfolding stations
 ledger-bill rs k few =
-    let a : List ℕ = (postedAll blank rs).accepted in
-    let b : List ℕ = (postedAll blank rs).refused in
-    let entries = entries-same rs (postedAll blank rs).accepted (postedAll blank rs).refused 1 stationLimit (λ s i j. column-accepted rs few s (omega arith)) (λ s i j. column-refused rs few s (omega arith)) in
-    let sum : ledgerTotal stations (postedAll blank rs).accepted ≡ allAccepted rs = total-same rs (postedAll blank rs).accepted (postedAll blank rs).refused 1 stationLimit (λ s i j. column-accepted rs few s (omega arith)) ∙ total-accepted rs k in
-    let small : allAccepted rs < 4294967296 = omega (arith, counted-most isAccepted rs) in
+    let a : List ℕ = (posted_all blank rs).accepted in
+    let b : List ℕ = (posted_all blank rs).refused in
+    let entries = entries-same rs (posted_all blank rs).accepted (posted_all blank rs).refused 1 station_limit (λ s i j. column-accepted rs few s (omega arith)) (λ s i j. column-refused rs few s (omega arith)) in
+    let sum : ledger_total stations (posted_all blank rs).accepted ≡ all_accepted rs = total-same rs (posted_all blank rs).accepted (posted_all blank rs).refused 1 station_limit (λ s i j. column-accepted rs few s (omega arith)) ∙ total-accepted rs k in
+    let small : all_accepted rs < 4294967296 = omega (arith, counted-most is_accepted rs) in
     ap₂ (λ (es : List Entry) (n : ℕ). record { entries = es; total = n }) entries (ap (λ (n : ℕ). n % 4294967296) sum ∙ mod-eq_of_lt small)

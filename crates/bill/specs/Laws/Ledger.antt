@@ -5,20 +5,20 @@ use Rattle.numbers.specs.Laws.Tests.{and_both}
 use Rattle.receipt.specs.declared.Receipt.{Receipt}
 use Rattle.receipt.specs.declared.Found.TheVariants.{At}
 use Rattle.receipt.specs.Receipt.{written}
-use Rattle.receipt.specs.Reading.{readFrom, hasFront, found_at}
+use Rattle.receipt.specs.Reading.{read_from, has_front, found_at}
 use Rattle.receipt.specs.Laws.Rules.{written-least}
 use Rattle.receipt.specs.Laws.Reading.{read-front, front_of}
 use Rattle.receipt.specs.Laws.Found.{found-stands}
-use Rattle.bill.specs.Run.{texts, allKept}
-use Rattle.bill.specs.Bill.{isAccepted}
-use Rattle.bill.specs.Ledger.{Ledger, raised, posted, postedAll, rises, allRise, least, Stops, falling, Enters}
+use Rattle.bill.specs.Run.{texts, all_kept}
+use Rattle.bill.specs.Bill.{is_accepted}
+use Rattle.bill.specs.Ledger.{Ledger, raised, posted, posted_all, rises, all_rise, least, Stops, falling, Enters}
 use Rattle.bill.specs.Steps.{ledger}
 use Rattle.bill.specs.Laws.Run.{texts-append, texts-one, texts-least, kept_append, kept-one}
 
--- postedAll, allRise
+-- posted_all, all_rise
 
-pub posted-append : (rs ts : List Receipt) (l : Ledger) → postedAll l (rs ++ ts) ≡ postedAll (postedAll l rs) ts
-unfolding postedAll
+pub posted-append : (rs ts : List Receipt) (l : Ledger) → posted_all l (rs ++ ts) ≡ posted_all (posted_all l rs) ts
+unfolding posted_all
 posted-append [] ts l = refl
 posted-append (r ∷ rs) ts l = posted-append rs ts (posted l r)
 
@@ -26,18 +26,18 @@ and_assoc : (a b c : Bool) → (a && b) && c ≡ a && (b && c)
 and_assoc true b c = refl
 and_assoc false b c = refl
 
-pub rise-append : (rs ts : List Receipt) (l : Ledger) → allRise l (rs ++ ts) ≡ allRise l rs && allRise (postedAll l rs) ts
-unfolding postedAll allRise
+pub rise-append : (rs ts : List Receipt) (l : Ledger) → all_rise l (rs ++ ts) ≡ all_rise l rs && all_rise (posted_all l rs) ts
+unfolding posted_all all_rise
 rise-append [] ts l = refl
 rise-append (r ∷ rs) ts l =
-    ap (λ (b : Bool). rises l r && b) (rise-append rs ts (posted l r)) ∙ sym (and_assoc (rises l r) (allRise (posted l r) rs) (allRise (postedAll (posted l r) rs) ts))
+    ap (λ (b : Bool). rises l r && b) (rise-append rs ts (posted l r)) ∙ sym (and_assoc (rises l r) (all_rise (posted l r) rs) (all_rise (posted_all (posted l r) rs) ts))
 
-pub posted-one : (r : Receipt) (l : Ledger) → postedAll l (r ∷ []) ≡ posted l r
-unfolding postedAll
+pub posted-one : (r : Receipt) (l : Ledger) → posted_all l (r ∷ []) ≡ posted l r
+unfolding posted_all
 posted-one r l = refl
 
-pub rise_one : (r : Receipt) (l : Ledger) → rises l r ≡ true → allRise l (r ∷ []) ≡ true
-unfolding allRise
+pub rise_one : (r : Receipt) (l : Ledger) → rises l r ≡ true → all_rise l (r ∷ []) ≡ true
+unfolding all_rise
 rise_one r l h = and_both (rises l r) true h refl
 
 -- the columns keep their lengths
@@ -45,8 +45,8 @@ rise_one r l h = and_both (rises l r) true h refl
 raised-length : (column : List ℕ) (s : ℕ) → length (raised column s) ≡ length column
 raised-length column s = length-set column s _
 
-jobs-length : (rs : List Receipt) (l : Ledger) → length (postedAll l rs).jobs ≡ length l.jobs
-unfolding postedAll
+jobs-length : (rs : List Receipt) (l : Ledger) → length (posted_all l rs).jobs ≡ length l.jobs
+unfolding posted_all
 jobs-length [] l = refl
 jobs-length (r ∷ rs) l = jobs-length rs (posted l r) ∙ length-set l.jobs r.station r.job
 
@@ -58,15 +58,15 @@ other_length : (t : Bool) (column : List ℕ) (s : ℕ) → length (cond t colum
 other_length true column s = refl
 other_length false column s = raised-length column s
 
-accepted-length : (rs : List Receipt) (l : Ledger) → length (postedAll l rs).accepted ≡ length l.accepted
-unfolding postedAll
+accepted-length : (rs : List Receipt) (l : Ledger) → length (posted_all l rs).accepted ≡ length l.accepted
+unfolding posted_all
 accepted-length [] l = refl
-accepted-length (r ∷ rs) l = accepted-length rs (posted l r) ∙ either-length (isAccepted r) l.accepted r.station
+accepted-length (r ∷ rs) l = accepted-length rs (posted l r) ∙ either-length (is_accepted r) l.accepted r.station
 
-refused-length : (rs : List Receipt) (l : Ledger) → length (postedAll l rs).refused ≡ length l.refused
-unfolding postedAll
+refused-length : (rs : List Receipt) (l : Ledger) → length (posted_all l rs).refused ≡ length l.refused
+unfolding posted_all
 refused-length [] l = refl
-refused-length (r ∷ rs) l = refused-length rs (posted l r) ∙ other_length (isAccepted r) l.refused r.station
+refused-length (r ∷ rs) l = refused-length rs (posted l r) ∙ other_length (is_accepted r) l.refused r.station
 
 -- a receipt posted in three columns
 pub posted-as : (jobs accepted refused jobs' accepted' refused' : List ℕ) (r : Receipt) (s : ℕ) → s ≡ r.station → jobs' ≡ slice_set jobs s r.job
@@ -88,16 +88,16 @@ enough-one (x ∷ rs) r (suc k) m left rest e g h l = enough-one rs r k m left r
 -- what is known after the receipts before a place are entered
 pub record Entering (bytes : List ℕ) (ends : Bool) (old new : Ledger) (at n : ℕ) : Type 0 where
   pub receipts : List Receipt
-  pub rules : allKept receipts ≡ true
+  pub rules : all_kept receipts ≡ true
   pub within : at ≤ length bytes
   pub text : bytes ≡ texts receipts ++ drop at bytes
   pub count : n ≡ length receipts
-  pub order : allRise old receipts ≡ true
+  pub order : all_rise old receipts ≡ true
   pub enough : (k : ℕ) → k < length receipts → least ends ≤ length (texts (drop k receipts)) + length (drop at bytes)
-  pub ledger : new ≡ postedAll old receipts
+  pub ledger : new ≡ posted_all old receipts
 
 pub entering-none : (bytes : List ℕ) (ends : Bool) (l : Ledger) → Entering bytes ends l l 0 0
-unfolding texts allKept allRise postedAll
+unfolding texts all_kept all_rise posted_all
 entering-none bytes ends l = record { receipts = []; rules = refl; within = omega arith; text = refl; count = refl; order = refl; enough = λ k h. absurd (omega arith); ledger = refl }
 
 module _ {bytes : List ℕ} {ends : Bool} {old new : Ledger} {at count : ℕ} (e : Entering bytes ends old new at count) where
@@ -151,15 +151,15 @@ module _ {bytes : List ℕ} {ends : Bool} {old new : Ledger} {at count : ℕ} (e
           text = e.text ∙ ap (λ (l : List ℕ). texts e.receipts ++ l) s.text ∙ sym (append_assoc (texts e.receipts) (written r) (drop end bytes))
               ∙ ap (λ (l : List ℕ). l ++ drop end bytes) (ap (λ (l : List ℕ). texts e.receipts ++ l) (sym (texts-one r)) ∙ sym (texts-append e.receipts (r ∷ [])));
           count = omega (arith, e.count, length-append e.receipts (r ∷ []));
-          order = rise-append e.receipts (r ∷ []) old ∙ and_both (allRise old e.receipts) (allRise (postedAll old e.receipts) (r ∷ [])) e.order (rise_one r (postedAll old e.receipts) (ap (λ (l : Ledger). rises l r) (sym e.ledger) ∙ h));
+          order = rise-append e.receipts (r ∷ []) old ∙ and_both (all_rise old e.receipts) (all_rise (posted_all old e.receipts) (r ∷ [])) e.order (rise_one r (posted_all old e.receipts) (ap (λ (l : Ledger). rises l r) (sym e.ledger) ∙ h));
           enough = λ k l. enough-one e.receipts r k (least ends) (length (drop at bytes)) (length (drop end bytes)) (omega (arith, ap length s.text, length-append (written r) (drop end bytes))) g e.enough l;
-          ledger = ap (λ (l : Ledger). posted l r) e.ledger ∙ sym (posted-one r (postedAll old e.receipts)) ∙ sym (posted-append e.receipts (r ∷ []) old);
+          ledger = ap (λ (l : Ledger). posted l r) e.ledger ∙ sym (posted-one r (posted_all old e.receipts)) ∙ sym (posted-append e.receipts (r ∷ []) old);
         }
 
     -- a receipt whose job does not rise
     pub stops-falling : least ends ≤ length (drop at bytes) → rises new r ≡ false → Stops ends new (drop at bytes) 30
     stops-falling l h =
         let s = found-stands bytes at r end q in
-        let front : hasFront (drop at bytes) ≡ true = ap hasFront s.text ∙ front_of r (drop end bytes) s.rules in
-        let same : readFrom (drop at bytes) ≡ r = ap readFrom s.text ∙ read-front r (drop end bytes) s.rules in
+        let front : has_front (drop at bytes) ≡ true = ap has_front s.text ∙ front_of r (drop end bytes) s.rules in
+        let same : read_from (drop at bytes) ≡ r = ap read_from s.text ∙ read-front r (drop end bytes) s.rules in
         falling l front (ap (rises new) same ∙ h)

@@ -9,13 +9,13 @@ use Rattle.std.proofs.lemmas.List.{drop-append-le, take-append-le}
 use Rattle.refusal.specs.Table.{accepted}
 use Rattle.numbers.specs.Laws.Tests.{clash, and_left, and_right, and_both}
 use Rattle.receipt.specs.declared.Receipt.{Receipt}
-use Rattle.receipt.specs.Receipt.{receiptLimit, written, rulesKept}
-use Rattle.receipt.specs.Reading.{readFrom, hasFront}
+use Rattle.receipt.specs.Receipt.{receipt_limit, written, rules_kept}
+use Rattle.receipt.specs.Reading.{read_from, has_front}
 use Rattle.receipt.specs.Laws.Rules.{receipt-most}
 use Rattle.receipt.specs.Laws.Reading.{read-front, front_of, front-rules, front-text, no_front}
 use Rattle.bill.specs.declared.Entered.{Entered}
-use Rattle.bill.specs.Run.{texts, allKept}
-use Rattle.bill.specs.Ledger.{Ledger, posted, postedAll, rises, allRise, least, Stops, few, malformed, falling, Enters}
+use Rattle.bill.specs.Run.{texts, all_kept}
+use Rattle.bill.specs.Ledger.{Ledger, posted, posted_all, rises, all_rise, least, Stops, few, malformed, falling, Enters}
 use Rattle.bill.specs.Laws.Run.{texts-append, kept_append, kept-first, kept-rest}
 use Rattle.bill.specs.Laws.Ledger.{posted-append, rise-append}
 
@@ -32,7 +32,7 @@ enough-append n (r ∷ rs) ts after h g zero b = omega (arith, h 0 (omega arith)
 enough-append n (r ∷ rs) ts after h g (suc k) b = enough-append n rs ts after (λ i c. h (suc i) (omega arith)) g k (omega arith)
 
 -- no more than the longest receipt is asked for
-least-most : (ends : Bool) → least ends ≤ receiptLimit
+least-most : (ends : Bool) → least ends ≤ receipt_limit
 least-most true = omega arith
 least-most false = omega arith
 
@@ -72,8 +72,8 @@ module _ {piece : List ℕ} (more : List ℕ) {ends : Bool} {l m n : Ledger} {r 
       e.enough)
 
   -- the jobs of all of them rise
-  order-both : allRise l (p.receipts ++ e.receipts) ≡ true
-  order-both = rise-append p.receipts e.receipts l ∙ and_both _ _ p.order (subst (λ (x : Ledger). allRise x e.receipts ≡ true) p.ledger e.order)
+  order-both : all_rise l (p.receipts ++ e.receipts) ≡ true
+  order-both = rise-append p.receipts e.receipts l ∙ and_both _ _ p.order (subst (λ (x : Ledger). all_rise x e.receipts ≡ true) p.ledger e.order)
 
   -- this is entering both at once
   pub pieces-joined : Enters (piece ++ more) ends l n (joined r q)
@@ -85,34 +85,34 @@ module _ {piece : List ℕ} (more : List ℕ) {ends : Bool} {l m n : Ledger} {r 
     enough = enough-both;
     count = omega (arith, p.count, e.count, length-append p.receipts e.receipts);
     order = order-both;
-    ledger = e.ledger ∙ ap (λ (x : Ledger). postedAll x e.receipts) p.ledger ∙ sym (posted-append p.receipts e.receipts l);
+    ledger = e.ledger ∙ ap (λ (x : Ledger). posted_all x e.receipts) p.ledger ∙ sym (posted-append p.receipts e.receipts l);
     stops = subst (λ (x : List ℕ). Stops ends n x q.refusal) (sym left) e.stops;
   }
 
 -- A piece that is refused
 
 -- a receipt at the front of bytes stands there with more bytes after them too
-front-more : (rest more : List ℕ) → hasFront rest ≡ true → (hasFront (rest ++ more) ≡ true) × (readFrom (rest ++ more) ≡ readFrom rest)
+front-more : (rest more : List ℕ) → has_front rest ≡ true → (has_front (rest ++ more) ≡ true) × (read_from (rest ++ more) ≡ read_from rest)
 front-more rest more h =
-    let left : List ℕ = drop (length (written (readFrom rest))) rest in
-    let whole : rest ++ more ≡ written (readFrom rest) ++ (left ++ more) = ap (λ (x : List ℕ). x ++ more) (front-text rest h) ∙ append_assoc (written (readFrom rest)) left more in
-    (ap hasFront whole ∙ front_of (readFrom rest) (left ++ more) (front-rules rest h), ap readFrom whole ∙ read-front (readFrom rest) (left ++ more) (front-rules rest h))
+    let left : List ℕ = drop (length (written (read_from rest))) rest in
+    let whole : rest ++ more ≡ written (read_from rest) ++ (left ++ more) = ap (λ (x : List ℕ). x ++ more) (front-text rest h) ∙ append_assoc (written (read_from rest)) left more in
+    (ap has_front whole ∙ front_of (read_from rest) (left ++ more) (front-rules rest h), ap read_from whole ∙ read-front (read_from rest) (left ++ more) (front-rules rest h))
 
 -- one at the front of bytes with more after them stands in the bytes alone, if these are as many as the longest receipt has
-front_less : (rest more : List ℕ) → receiptLimit ≤ length rest → hasFront (rest ++ more) ≡ true → hasFront rest ≡ true
+front_less : (rest more : List ℕ) → receipt_limit ≤ length rest → has_front (rest ++ more) ≡ true → has_front rest ≡ true
 front_less rest more l h =
-    let r : Receipt = readFrom (rest ++ more) in
+    let r : Receipt = read_from (rest ++ more) in
     let most = receipt-most r (front-rules (rest ++ more) h) in
     let size : ℕ = length (written r) in
     let begin : take size rest ≡ written r =
     sym (take-append-le size rest more (omega arith)) ∙ ap (take size) (front-text (rest ++ more) h) ∙ take_at (written r) (drop size (rest ++ more)) size refl in
-    ap hasFront (sym (take-append-drop size rest) ∙ ap (λ (x : List ℕ). x ++ drop size rest) begin) ∙ front_of r (drop size rest) (front-rules (rest ++ more) h)
+    ap has_front (sym (take-append-drop size rest) ∙ ap (λ (x : List ℕ). x ++ drop size rest) begin) ∙ front_of r (drop size rest) (front-rules (rest ++ more) h)
 
 -- where none stands in so many bytes, none stands with more after them
-front-none : (rest more : List ℕ) → receiptLimit ≤ length rest → hasFront rest ≡ false → hasFront (rest ++ more) ≡ false
-front-none rest more l h = go (hasFront (rest ++ more)) refl
+front-none : (rest more : List ℕ) → receipt_limit ≤ length rest → has_front rest ≡ false → has_front (rest ++ more) ≡ false
+front-none rest more l h = go (has_front (rest ++ more)) refl
   where
-    go : (t : Bool) → hasFront (rest ++ more) ≡ t → hasFront (rest ++ more) ≡ false
+    go : (t : Bool) → has_front (rest ++ more) ≡ t → has_front (rest ++ more) ≡ false
     go true e = clash (sym h ∙ front_less rest more l e)
     go false e = e
 
@@ -143,10 +143,10 @@ piece-refused {piece} more {ends} {l} {m} {r} h p =
 -- Entering is determined
 
 -- where a receipt with a rising job stands, and enough is left, entering does not stop
-no_stop : {ends : Bool} {l : Ledger} {rest : List ℕ} {u : ℕ} (t : Receipt) (after : List ℕ) → rulesKept t ≡ true → rises l t ≡ true → least ends ≤ length rest → rest ≡ written t ++ after → Stops ends l rest u → ⊥
+no_stop : {ends : Bool} {l : Ledger} {rest : List ℕ} {u : ℕ} (t : Receipt) (after : List ℕ) → rules_kept t ≡ true → rises l t ≡ true → least ends ≤ length rest → rest ≡ written t ++ after → Stops ends l rest u → ⊥
 no_stop t after k h l e (few f) = omega arith
 no_stop {rest = rest} t after k h l e (malformed g f) = no_front t rest after f k e
-no_stop {l = ledger} {rest} t after k h l e (falling g f d) = clash (sym d ∙ ap (rises ledger) (ap readFrom e ∙ read-front t after k) ∙ h)
+no_stop {l = ledger} {rest} t after k h l e (falling g f d) = clash (sym d ∙ ap (rises ledger) (ap read_from e ∙ read-front t after k) ∙ h)
 
 -- it stops in one way
 one-stop : {ends : Bool} {l : Ledger} {rest : List ℕ} {u v : ℕ} → Stops ends l rest u → Stops ends l rest v → u ≡ v
@@ -162,23 +162,23 @@ one-stop (falling g h d) (falling f k c) = refl
 
 -- receipts that are entered, and what is left where entering stops
 record Goes (ends : Bool) (l : Ledger) (rs : List Receipt) (left : List ℕ) (u : ℕ) : Type 0 where
-  rules : allKept rs ≡ true
-  order : allRise l rs ≡ true
+  rules : all_kept rs ≡ true
+  order : all_rise l rs ≡ true
   enough : Enough (least ends) rs (length left)
-  stops : Stops ends (postedAll l rs) left u
+  stops : Stops ends (posted_all l rs) left u
 
 module _ {ends : Bool} {l : Ledger} {r : Receipt} {rs : List Receipt} {left : List ℕ} {u : ℕ} (g : Goes ends l (r ∷ rs) left u) where
   -- the first of them rises
   goes-rises : rises l r ≡ true
-  unfolding allRise
-  goes-rises = and_left (rises l r) (allRise (posted l r) rs) g.order
+  unfolding all_rise
+  goes-rises = and_left (rises l r) (all_rise (posted l r) rs) g.order
 
   -- those after the first
   goes-rest : Goes ends (posted l r) rs left u
-  unfolding allRise postedAll
+  unfolding all_rise posted_all
   goes-rest = record {
     rules = kept-rest r rs g.rules;
-    order = and_right (rises l r) (allRise (posted l r) rs) g.order;
+    order = and_right (rises l r) (all_rise (posted l r) rs) g.order;
     enough = λ k h. g.enough (suc k) (omega arith);
     stops = g.stops;
   }
@@ -194,13 +194,13 @@ module _ {ends : Bool} {l : Ledger} {r : Receipt} {rs : List Receipt} {left : Li
 -- the same bytes are the same receipts and what is left
 one_list : {ends : Bool} {u v : ℕ} (l : Ledger) (rs ts : List Receipt) (x y : List ℕ) → Goes ends l rs x u → Goes ends l ts y v → texts rs ++ x ≡ texts ts ++ y
     → (rs ≡ ts) × (x ≡ y) × (u ≡ v)
-unfolding texts postedAll
+unfolding texts posted_all
 one_list {ends} {u} l [] [] x y g h e = (refl, e, one-stop (subst (λ (z : List ℕ). Stops ends l z u) e g.stops) h.stops)
 one_list l [] (t ∷ ts) x y g h e = absurd (goes_on h x e g.stops)
 one_list l (r ∷ rs) [] x y g h e = absurd (goes_on g y (sym e) h.stops)
 one_list {ends} {u} {v} l (r ∷ rs) (t ∷ ts) x y g h e =
     let whole : written r ++ (texts rs ++ x) ≡ written t ++ (texts ts ++ y) = sym (append_assoc (written r) (texts rs) x) ∙ e ∙ append_assoc (written t) (texts ts) y in
-    let same : r ≡ t = sym (read-front r (texts rs ++ x) (kept-first r rs g.rules)) ∙ ap readFrom whole ∙ read-front t (texts ts ++ y) (kept-first t ts h.rules) in
+    let same : r ≡ t = sym (read-front r (texts rs ++ x) (kept-first r rs g.rules)) ∙ ap read_from whole ∙ read-front t (texts ts ++ y) (kept-first t ts h.rules) in
     let size : length (written t) ≡ length (written r) = ap (λ (z : Receipt). length (written z)) (sym same) in
     let rest : texts rs ++ x ≡ texts ts ++ y =
     sym (drop_at (written r) (texts rs ++ x) (length (written r)) refl) ∙ ap (drop (length (written r))) whole ∙ drop_at (written t) (texts ts ++ y) (length (written r)) size in
@@ -214,7 +214,7 @@ one-entering {bytes} {ends} {l} {m} {n} {r} {q} p e =
     let left : length (drop r.bytes bytes) ≡ length (drop q.bytes bytes) = ap length same.1 in
     let size : r.bytes ≡ q.bytes = omega (arith, p.within, e.within, length-drop r.bytes bytes, length-drop q.bytes bytes) in
     let count : r.receipts ≡ q.receipts = p.count ∙ ap length same.0 ∙ sym e.count in
-    (p.ledger ∙ ap (postedAll l) same.0 ∙ sym e.ledger, λ i. record { refusal = same.2 i; bytes = size i; receipts = count i })
+    (p.ledger ∙ ap (posted_all l) same.0 ∙ sym e.ledger, λ i. record { refusal = same.2 i; bytes = size i; receipts = count i })
   where
     goes : {x : Ledger} {a : Entered} (i : Enters bytes ends l x a) → Goes ends l i.receipts (drop a.bytes bytes) a.refusal
     goes {a = a} i = record {

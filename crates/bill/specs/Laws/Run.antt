@@ -3,12 +3,12 @@ use Rattle.std.specs.Prelude.{◌≡◌, ℕ, zero, suc, ◌+◌, ◌-◌, ◌*�
 use Rattle.std.proofs.Common.{sym, ap, ap₂, ◌∙◌, append_assoc, append-nil, arith, length-append, drop_at}
 use Rattle.numbers.specs.Laws.Tests.{and_left, and_right, and_both}
 use Rattle.receipt.specs.declared.Receipt.{Receipt}
-use Rattle.receipt.specs.Receipt.{written, rulesKept}
-use Rattle.receipt.specs.Reading.{readFrom, hasFront}
+use Rattle.receipt.specs.Receipt.{written, rules_kept}
+use Rattle.receipt.specs.Reading.{read_from, has_front}
 use Rattle.receipt.specs.Laws.Rules.{written-least}
 use Rattle.receipt.specs.Laws.Reading.{read-front, front_of, front-rules, front-text}
-use Rattle.bill.specs.Run.{texts, allKept, IsRun}
-use Rattle.bill.specs.Answer.{receiptsIn, frontReceipts}
+use Rattle.bill.specs.Run.{texts, all_kept, IsRun}
+use Rattle.bill.specs.Answer.{receipts_in, front_receipts}
 
 -- texts
 
@@ -28,61 +28,61 @@ unfolding texts
 texts-least [] = omega arith
 texts-least (r ∷ rs) = omega (arith, texts-least rs, written-least r, length-append (written r) (texts rs))
 
--- allKept
+-- all_kept
 
-pub kept_append : (rs ts : List Receipt) → allKept rs ≡ true → allKept ts ≡ true → allKept (rs ++ ts) ≡ true
-unfolding allKept
+pub kept_append : (rs ts : List Receipt) → all_kept rs ≡ true → all_kept ts ≡ true → all_kept (rs ++ ts) ≡ true
+unfolding all_kept
 kept_append [] ts h k = k
-kept_append (r ∷ rs) ts h k = and_both (rulesKept r) (allKept (rs ++ ts)) (and_left (rulesKept r) (allKept rs) h) (kept_append rs ts (and_right (rulesKept r) (allKept rs) h) k)
+kept_append (r ∷ rs) ts h k = and_both (rules_kept r) (all_kept (rs ++ ts)) (and_left (rules_kept r) (all_kept rs) h) (kept_append rs ts (and_right (rules_kept r) (all_kept rs) h) k)
 
-pub kept-one : (r : Receipt) → rulesKept r ≡ true → allKept (r ∷ []) ≡ true
-unfolding allKept
-kept-one r h = and_both (rulesKept r) true h refl
+pub kept-one : (r : Receipt) → rules_kept r ≡ true → all_kept (r ∷ []) ≡ true
+unfolding all_kept
+kept-one r h = and_both (rules_kept r) true h refl
 
-pub kept-first : (r : Receipt) (rs : List Receipt) → allKept (r ∷ rs) ≡ true → rulesKept r ≡ true
-unfolding allKept
-kept-first r rs h = and_left (rulesKept r) (allKept rs) h
+pub kept-first : (r : Receipt) (rs : List Receipt) → all_kept (r ∷ rs) ≡ true → rules_kept r ≡ true
+unfolding all_kept
+kept-first r rs h = and_left (rules_kept r) (all_kept rs) h
 
-pub kept-rest : (r : Receipt) (rs : List Receipt) → allKept (r ∷ rs) ≡ true → allKept rs ≡ true
-unfolding allKept
-kept-rest r rs h = and_right (rulesKept r) (allKept rs) h
+pub kept-rest : (r : Receipt) (rs : List Receipt) → all_kept (r ∷ rs) ≡ true → all_kept rs ≡ true
+unfolding all_kept
+kept-rest r rs h = and_right (rules_kept r) (all_kept rs) h
 
--- receiptsIn
+-- receipts_in
 
 -- one that is written at the front, and those after it
-receipts-more : (r : Receipt) (rest : List ℕ) (k : ℕ) → rulesKept r ≡ true → receiptsIn (suc k) (written r ++ rest) ≡ r ∷ receiptsIn k rest
-unfolding receiptsIn
+receipts-more : (r : Receipt) (rest : List ℕ) (k : ℕ) → rules_kept r ≡ true → receipts_in (suc k) (written r ++ rest) ≡ r ∷ receipts_in k rest
+unfolding receipts_in
 receipts-more r rest k g = rw (front_of r rest g, read-front r rest g, drop_at (written r) rest (length (written r)) refl)
 
 -- those that are written at the front, and those after them
-pub receipts-texts : (rs : List Receipt) (rest : List ℕ) (k : ℕ) → allKept rs ≡ true → receiptsIn (length rs + k) (texts rs ++ rest) ≡ rs ++ receiptsIn k rest
+pub receipts-texts : (rs : List Receipt) (rest : List ℕ) (k : ℕ) → all_kept rs ≡ true → receipts_in (length rs + k) (texts rs ++ rest) ≡ rs ++ receipts_in k rest
 unfolding texts
-receipts-texts [] rest k h = let e : 0 + k ≡ k = omega arith in ap (λ (n : ℕ). receiptsIn n rest) e
+receipts-texts [] rest k h = let e : 0 + k ≡ k = omega arith in ap (λ (n : ℕ). receipts_in n rest) e
 receipts-texts (r ∷ rs) rest k h =
     let n : suc (length rs) + k ≡ suc (length rs + k) = omega arith in
     let e : (written r ++ texts rs) ++ rest ≡ written r ++ (texts rs ++ rest) = append_assoc (written r) (texts rs) rest in
-    ap₂ receiptsIn n e ∙ receipts-more r (texts rs ++ rest) (length rs + k) (kept-first r rs h) ∙ ap (λ (l : List Receipt). r ∷ l) (receipts-texts rs rest k (kept-rest r rs h))
+    ap₂ receipts_in n e ∙ receipts-more r (texts rs ++ rest) (length rs + k) (kept-first r rs h) ∙ ap (λ (l : List Receipt). r ∷ l) (receipts-texts rs rest k (kept-rest r rs h))
 
 -- none where no receipt stands at the front
-pub receipts-none : (k : ℕ) (bytes : List ℕ) → hasFront bytes ≡ false → receiptsIn k bytes ≡ []
-unfolding receiptsIn
+pub receipts-none : (k : ℕ) (bytes : List ℕ) → has_front bytes ≡ false → receipts_in k bytes ≡ []
+unfolding receipts_in
 receipts-none zero bytes h = refl
 receipts-none (suc k) bytes h = rw h
 
 -- the first, where one stands at the front
-pub receipts-some : (k : ℕ) (bytes : List ℕ) → hasFront bytes ≡ true → receiptsIn (suc k) bytes ≡ readFrom bytes ∷ receiptsIn k (drop (length (written (readFrom bytes))) bytes)
-unfolding receiptsIn
+pub receipts-some : (k : ℕ) (bytes : List ℕ) → has_front bytes ≡ true → receipts_in (suc k) bytes ≡ read_from bytes ∷ receipts_in k (drop (length (written (read_from bytes))) bytes)
+unfolding receipts_in
 receipts-some k bytes h = rw h
 
 -- all that stand at the front keep the rules
-pub receipts-kept : (k : ℕ) (bytes : List ℕ) → allKept (receiptsIn k bytes) ≡ true
-unfolding receiptsIn allKept
+pub receipts-kept : (k : ℕ) (bytes : List ℕ) → all_kept (receipts_in k bytes) ≡ true
+unfolding receipts_in all_kept
 receipts-kept zero bytes = refl
-receipts-kept (suc k) bytes = go (hasFront bytes) refl (receipts-kept k (drop (length (written (readFrom bytes))) bytes))
+receipts-kept (suc k) bytes = go (has_front bytes) refl (receipts-kept k (drop (length (written (read_from bytes))) bytes))
   where
-    go : (t : Bool) → hasFront bytes ≡ t → allKept (receiptsIn k (drop (length (written (readFrom bytes))) bytes)) ≡ true
-        → allKept (cond t (readFrom bytes ∷ receiptsIn k (drop (length (written (readFrom bytes))) bytes)) []) ≡ true
-    go true e h = and_both (rulesKept (readFrom bytes)) (allKept (receiptsIn k (drop (length (written (readFrom bytes))) bytes))) (front-rules bytes e) h
+    go : (t : Bool) → has_front bytes ≡ t → all_kept (receipts_in k (drop (length (written (read_from bytes))) bytes)) ≡ true
+        → all_kept (cond t (read_from bytes ∷ receipts_in k (drop (length (written (read_from bytes))) bytes)) []) ≡ true
+    go true e h = and_both (rules_kept (read_from bytes)) (all_kept (receipts_in k (drop (length (written (read_from bytes))) bytes))) (front-rules bytes e) h
     go false e h = refl
 
 -- there are no more receipts than bytes
@@ -90,25 +90,25 @@ few-receipts : (rs : List Receipt) (rest : List ℕ) → length rs ≤ length (t
 few-receipts rs rest = omega (arith, texts-least rs, length-append (texts rs) rest)
 
 -- the receipts at the front of bytes that begin with a run
-pub front-texts : (rs : List Receipt) (rest : List ℕ) → allKept rs ≡ true → frontReceipts (texts rs ++ rest) ≡ rs ++ receiptsIn (length (texts rs ++ rest) - length rs) rest
+pub front-texts : (rs : List Receipt) (rest : List ℕ) → all_kept rs ≡ true → front_receipts (texts rs ++ rest) ≡ rs ++ receipts_in (length (texts rs ++ rest) - length rs) rest
 front-texts rs rest h =
     let e : length (texts rs ++ rest) ≡ length rs + (length (texts rs ++ rest) - length rs) = omega (arith, few-receipts rs rest) in
-    ap (λ (n : ℕ). receiptsIn n (texts rs ++ rest)) e ∙ receipts-texts rs rest (length (texts rs ++ rest) - length rs) h
+    ap (λ (n : ℕ). receipts_in n (texts rs ++ rest)) e ∙ receipts-texts rs rest (length (texts rs ++ rest) - length rs) h
 
 -- the receipts at the front of a run are those of the run
-no_bytes : (k : ℕ) → receiptsIn k [] ≡ []
+no_bytes : (k : ℕ) → receipts_in k [] ≡ []
 no_bytes k = receipts-none k [] empty
   where
-    empty : hasFront [] ≡ false
-    empty = go (hasFront []) refl
+    empty : has_front [] ≡ false
+    empty = go (has_front []) refl
       where
-        go : (t : Bool) → hasFront [] ≡ t → hasFront [] ≡ false
-        go true e = absurd (omega (arith, written-least (readFrom []), ap length (front-text [] e), length-append (written (readFrom [])) (drop (length (written (readFrom []))) [])))
+        go : (t : Bool) → has_front [] ≡ t → has_front [] ≡ false
+        go true e = absurd (omega (arith, written-least (read_from []), ap length (front-text [] e), length-append (written (read_from [])) (drop (length (written (read_from []))) [])))
         go false e = e
 
-pub front-run : {bytes : List ℕ} {rs : List Receipt} → IsRun bytes rs → frontReceipts bytes ≡ rs
+pub front-run : {bytes : List ℕ} {rs : List Receipt} → IsRun bytes rs → front_receipts bytes ≡ rs
 front-run {bytes} {rs} i =
-    ap frontReceipts (i.text ∙ sym (append-nil (texts rs))) ∙ front-texts rs [] i.rules ∙ ap (λ (l : List Receipt). rs ++ l) (no_bytes (length (texts rs ++ []) - length rs)) ∙ append-nil rs
+    ap front_receipts (i.text ∙ sym (append-nil (texts rs))) ∙ front-texts rs [] i.rules ∙ ap (λ (l : List Receipt). rs ++ l) (no_bytes (length (texts rs ++ []) - length rs)) ∙ append-nil rs
 
 -- no bytes are runs of two lists
 pub one-run : {bytes : List ℕ} {rs ts : List Receipt} → IsRun bytes rs → IsRun bytes ts → rs ≡ ts

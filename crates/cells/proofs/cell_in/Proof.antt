@@ -5,7 +5,7 @@ use mir.Syntax.{w32}
 use mir.Facts.{to_z-of_z}
 use borrow.Author.Rules.{rules}
 use Rattle.columns.specs.declared.Header.TheVariants.{Good}
-use Rattle.columns.specs.Decode.{judgedPayload}
+use Rattle.columns.specs.Decode.{judged_payload}
 use Rattle.payloads.specs.Laws.Judged.{Holds, judged-refused, read-fine}
 use Rattle.cells.specs.Calls.{value_of}
 use Rattle.cells.specs.Laws.Table.{direct-other}
@@ -16,7 +16,7 @@ use Rattle.cells.proofs.cell_in.Tie as tie
 returns : tie.Need-returns
 returns c =
     let a = c.before.before.before.args in
-    cell-refused (judgedPayload (Good a.n a.m a.kind a.form a.delta) a.payload.now) c.before.refusal-of.result a.index
+    cell-refused (judged_payload (Good a.n a.m a.kind a.form a.delta) a.payload.now) c.before.refusal-of.result a.index
     (judged-refused a.n a.m a.kind a.form a.delta a.payload.now c.before.refusal-of.result c.before.refusal-of.ensures c.if1.true)
 
 -- the column that is not refused

@@ -13,18 +13,18 @@ use borrow.Author.Rules.{rules}
 use Rattle.steps.specs.declared.Form.{Form}
 use Rattle.steps.specs.declared.Form.TheVariants.{Packed}
 use Rattle.steps.specs.Width.{size_of}
-use Rattle.steps.specs.Delta.{sumsIf}
-use Rattle.steps.specs.Payload.{readIn}
+use Rattle.steps.specs.Delta.{sums_if}
+use Rattle.steps.specs.Payload.{read_in}
 use Rattle.steps.specs.Laws.Delta.{results-plain}
-use Rattle.cells.specs.Steps.{isDirect}
+use Rattle.cells.specs.Steps.{is_direct}
 use Rattle.cells.specs.Laws.Table.{direct-plain, direct-names}
 use Rattle.cells.specs.Laws.Found.{plain_here}
 use Rattle.cells.proofs.number_in.Statement.{statement}
 use Rattle.cells.proofs.number_in.Tie as tie
 
 -- what is read by the form that is told
-by_form : (c : tie.Start) {f : Form} {l : List ℤ} → c.args.form ≡ f → readIn c.args.form c.args.payload.now ≡ some l → readIn f c.args.payload.now ≡ some l
-by_form c e q = sym (ap (λ (g : Form). readIn g c.args.payload.now) e) ∙ q
+by_form : (c : tie.Start) {f : Form} {l : List ℤ} → c.args.form ≡ f → read_in c.args.form c.args.payload.now ≡ some l → read_in f c.args.payload.now ≡ some l
+by_form c e q = sym (ap (λ (g : Form). read_in g c.args.payload.now) e) ∙ q
 
 mul-number-at : tie.Need-overflow-mul-number-at
 mul-number-at c =
@@ -41,8 +41,8 @@ returns c =
     let a = c.before.before.before.before.before.before in
     let z = c.before.before.before.form.given.0.0 in
     let e = c.before.before.before.form.given.1 in
-    let d = direct-plain z a.args.delta (sym (ap (λ (f : Form). isDirect f a.args.delta) e) ∙ a.requires.1) in
-    to_z-of_z {w = w32} (record { sfits = c.number_at.type-inv }) ∙ (rw c.before.bytes.ensures at c.number_at.ensures) ∙ (plain_here z a.args.payload.now a.args.index l (by_form a e q) h).1 ∙ ap (λ (t : List ℤ). get_or t a.args.index (pos 0)) (sym (results-plain (pos 0) l)) ∙ ap (λ (t : Bool). get_or (sumsIf t l) a.args.index (pos 0)) (sym d)
+    let d = direct-plain z a.args.delta (sym (ap (λ (f : Form). is_direct f a.args.delta) e) ∙ a.requires.1) in
+    to_z-of_z {w = w32} (record { sfits = c.number_at.type-inv }) ∙ (rw c.before.bytes.ensures at c.number_at.ensures) ∙ (plain_here z a.args.payload.now a.args.index l (by_form a e q) h).1 ∙ ap (λ (t : List ℤ). get_or t a.args.index (pos 0)) (sym (results-plain (pos 0) l)) ∙ ap (λ (t : Bool). get_or (sums_if t l) a.args.index (pos 0)) (sym d)
 
 returns-2 : tie.Need-returns-2
 returns-2 c = λ l q h. to_z-of_z {w = w32} (record { sfits = c.packed-at.type-inv }) ∙ c.packed-at.ensures l (by_form c.before.before.before.before.before.before.before (c.before.before.before.before.form2.given.1 ∙ ap Packed c.before.enum_told.given.1) q) h

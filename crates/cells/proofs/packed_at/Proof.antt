@@ -11,13 +11,13 @@ use mir.Val.{to_z, of_z}
 use mir.Facts.{to_z-of_z}
 use borrow.Author.Rules.{rules}
 use borrow.Author.Tests.{not-true, not-false}
-use Rattle.numbers.specs.BigEndian.{signedAt}
+use Rattle.numbers.specs.BigEndian.{signed_at}
 use Rattle.steps.specs.declared.Form.TheVariants.{Packed}
 use Rattle.steps.specs.Width.{width_of, size_of, upper, lower}
-use Rattle.steps.specs.Delta.{plusDelta}
-use Rattle.steps.specs.Packing.{isLimit}
+use Rattle.steps.specs.Delta.{plus_delta}
+use Rattle.steps.specs.Packing.{is_limit}
 use Rattle.steps.specs.Laws.Numbers.{size-pos}
-use Rattle.steps.specs.Payload.{readIn}
+use Rattle.steps.specs.Payload.{read_in}
 use Rattle.payloads.specs.Laws.Plain.{number-part}
 use Rattle.cells.specs.Laws.Found.{Sought, sought-start, sought-end, sought-more, sought-done, sought-here}
 use Rattle.cells.proofs.packed_at.Statement.{statement}
@@ -25,7 +25,7 @@ use Rattle.cells.proofs.packed_at.Tie as tie
 
 abbrev invariant-loop : tie.invariant-loop
 invariant-loop payload size delta index k at₀ left₀ total₀ at left total =
-    (at ≤ length payload) × ((l : List ℤ) (e : readIn (Packed size) payload ≡ some l) → Sought size delta index payload l e at left (to_z w32 total))
+    (at ≤ length payload) × ((l : List ℤ) (e : read_in (Packed size) payload ≡ some l) → Sought size delta index payload l e at left (to_z w32 total))
 
 abbrev decreases-loop : tie.decreases-loop
 decreases-loop payload size delta index k at₀ left₀ total₀ at left total = length payload - at
@@ -38,19 +38,19 @@ room : (c : tie.After-is-limit invariant-loop decreases-loop) → c.before.befor
 room c = omega (arith, c.before.before.before.before.before.before.bytes.ensures)
 
 -- the number, whether it is a limit, and the total with it
-number : (c : tie.After-is-limit invariant-loop decreases-loop) → to_z w32 (of_z w32 c.before.before.number_at.result) ≡ signedAt (width_of c.before.before.before.before.before.before.before.before.args.size) c.before.before.before.before.before.before.before.before.args.payload.now c.before.before.before.before.before.loop.at
+number : (c : tie.After-is-limit invariant-loop decreases-loop) → to_z w32 (of_z w32 c.before.before.number_at.result) ≡ signed_at (width_of c.before.before.before.before.before.before.before.before.args.size) c.before.before.before.before.before.before.before.before.args.payload.now c.before.before.before.before.before.loop.at
 number c =
     let a = c.before.before.before.before.before.before.before.before.args in
     let p = c.before.before.before.before.before.loop in
     let k = c.before.before.before.before.before.before.bytes in
     let m : p.at + k.result - p.at ≡ size_of a.size = omega (arith, k.ensures) in
-    to_z-of_z {w = w32} (record { sfits = c.before.before.number_at.type-inv }) ∙ c.before.before.number_at.ensures ∙ ap (λ (i : ℕ). signedAt (width_of a.size) (take i (drop p.at a.payload.now)) 0) m ∙ number-part a.size a.payload.now p.at (room c)
+    to_z-of_z {w = w32} (record { sfits = c.before.before.number_at.type-inv }) ∙ c.before.before.number_at.ensures ∙ ap (λ (i : ℕ). signed_at (width_of a.size) (take i (drop p.at a.payload.now)) 0) m ∙ number-part a.size a.payload.now p.at (room c)
 
-limit : (c : tie.After-is-limit invariant-loop decreases-loop) → isLimit (upper c.before.before.before.before.before.before.before.before.args.size) (lower c.before.before.before.before.before.before.before.before.args.size) (signedAt (width_of c.before.before.before.before.before.before.before.before.args.size) c.before.before.before.before.before.before.before.before.args.payload.now c.before.before.before.before.before.loop.at) ≡ c.is-limit.result
-limit c = sym (c.is-limit.ensures ∙ ap (isLimit (upper c.before.before.before.before.before.before.before.before.args.size) (lower c.before.before.before.before.before.before.before.before.args.size)) (number c))
+limit : (c : tie.After-is-limit invariant-loop decreases-loop) → is_limit (upper c.before.before.before.before.before.before.before.before.args.size) (lower c.before.before.before.before.before.before.before.before.args.size) (signed_at (width_of c.before.before.before.before.before.before.before.before.args.size) c.before.before.before.before.before.before.before.before.args.payload.now c.before.before.before.before.before.loop.at) ≡ c.is-limit.result
+limit c = sym (c.is-limit.ensures ∙ ap (is_limit (upper c.before.before.before.before.before.before.before.before.args.size) (lower c.before.before.before.before.before.before.before.before.args.size)) (number c))
 
-total : (c : tie.After-is-limit invariant-loop decreases-loop) → to_z w32 (of_z w32 c.before.add-delta.result) ≡ plusDelta (to_z w32 c.before.before.before.before.before.loop.total) (signedAt (width_of c.before.before.before.before.before.before.before.before.args.size) c.before.before.before.before.before.before.before.before.args.payload.now c.before.before.before.before.before.loop.at)
-total c = to_z-of_z {w = w32} (record { sfits = c.before.add-delta.type-inv }) ∙ c.before.add-delta.ensures ∙ ap (plusDelta (to_z w32 c.before.before.before.before.before.loop.total)) (number c)
+total : (c : tie.After-is-limit invariant-loop decreases-loop) → to_z w32 (of_z w32 c.before.add-delta.result) ≡ plus_delta (to_z w32 c.before.before.before.before.before.loop.total) (signed_at (width_of c.before.before.before.before.before.before.before.before.args.size) c.before.before.before.before.before.before.before.before.args.payload.now c.before.before.before.before.before.loop.at)
+total c = to_z-of_z {w = w32} (record { sfits = c.before.add-delta.type-inv }) ∙ c.before.add-delta.ensures ∙ ap (plus_delta (to_z w32 c.before.before.before.before.before.loop.total)) (number c)
 
 sub-loop : tie.Need-overflow-sub-loop invariant-loop decreases-loop
 sub-loop c = omega arith

@@ -7,9 +7,9 @@ use mir.Val.{of_z}
 use mir.Facts.{to_z-of_z}
 use borrow.Author.Rules.{rules}
 use Rattle.columns.specs.declared.Kind.{Kind}
-use Rattle.decoding.specs.Calls.{asByte}
+use Rattle.decoding.specs.Calls.{as_byte}
 use Rattle.cells.specs.declared.Cell.TheVariants.{Int, Char, Float}
-use Rattle.cells.specs.Calls.{quotientCell, value_of}
+use Rattle.cells.specs.Calls.{quotient_cell, value_of}
 use Rattle.cells.proofs.value_of.Statement.{statement}
 use Rattle.cells.proofs.value_of.Tie as tie
 
@@ -21,7 +21,7 @@ returns c =
 returns-2 : tie.Need-returns-2
 returns-2 c =
     let a = c.before.before.before in
-    c.quotient-cell.ensures ∙ ap (quotientCell a.args.m) (to_z-of_z {w = w32} a.ranges.x) ∙ ap (λ (k : Kind). value_of k a.args.m a.args.x) (sym c.before.enum-told2.given.1)
+    c.quotient-cell.ensures ∙ ap (quotient_cell a.args.m) (to_z-of_z {w = w32} a.ranges.x) ∙ ap (λ (k : Kind). value_of k a.args.m a.args.x) (sym c.before.enum-told2.given.1)
 
 returns-3 : tie.Need-returns-3
 returns-3 c =
@@ -44,7 +44,7 @@ returns-6 c = let a = c.before.before in ap (λ (k : Kind). value_of k a.args.m 
 returns-7 : tie.Need-returns-7
 returns-7 c =
     let a = c.before.before.before.before in
-    ap Char (c.low_byte.ensures ∙ ap (λ (n : ℕ). n % 256) c.before.to-u322.ensures ∙ ap asByte (to_z-of_z {w = w32} a.ranges.x)) ∙ ap (λ (k : Kind). value_of k a.args.m a.args.x) (sym c.before.before.enum-told7.given.1)
+    ap Char (c.low_byte.ensures ∙ ap (λ (n : ℕ). n % 256) c.before.to-u322.ensures ∙ ap as_byte (to_z-of_z {w = w32} a.ranges.x)) ∙ ap (λ (k : Kind). value_of k a.args.m a.args.x) (sym c.before.before.enum-told7.given.1)
 
 pub value-of-spec : {M : Type 1} → statement M
 value-of-spec =

@@ -9,27 +9,27 @@ use Rattle.columns.specs.declared.Kind.{Kind}
 use Rattle.columns.specs.declared.Parameter.{Parameter}
 use Rattle.columns.specs.declared.Codec.{Codec}
 use Rattle.columns.specs.declared.Codec.TheVariants.{Known, Unknown}
-use Rattle.columns.specs.Table.{codecOf, isStrings, isNames}
+use Rattle.columns.specs.Table.{codec_of, is_strings, is_names}
 use Rattle.columns.specs.Laws.Rows.{every-codec}
-use Rattle.cells.specs.Steps.{isDirect}
+use Rattle.cells.specs.Steps.{is_direct}
 
 abbrev row_ok : Codec → Bool
 row_ok Unknown = true
-row_ok (Known k f d p) = isStrings k || isDirect f d
+row_ok (Known k f d p) = is_strings k || is_direct f d
 
 -- a kind that has cells
-pub cells-row : (c : ℕ) (k : Kind) (f : Form) (d : Bool) (p : Parameter) → codecOf c ≡ Known k f d p → isStrings k ≡ false → isDirect f d ≡ true
+pub cells-row : (c : ℕ) (k : Kind) (f : Form) (d : Bool) (p : Parameter) → codec_of c ≡ Known k f d p → is_strings k ≡ false → is_direct f d ≡ true
 cells-row c k f d p e h = rw h at (sym (ap row_ok e) ∙ every-codec row_ok refl refl c)
 
 -- plain numbers that are found at their place have no delta
-pub direct-plain : (z : Size) (d : Bool) → isDirect (Plain z) d ≡ true → d ≡ false
+pub direct-plain : (z : Size) (d : Bool) → is_direct (Plain z) d ≡ true → d ≡ false
 direct-plain z d e = not-true d e
 
-pub direct-names : {A : Type 0} (f : Form) (d : Bool) → f ≡ Names → isDirect f d ≡ true → A
-direct-names f d q e = let y : false ≡ true = ap (λ (g : Form). isDirect g d) (sym q) ∙ e in let x : ◌≡◌ {A = ℕ} 0 1 = cc in absurd (omega arith)
+pub direct-names : {A : Type 0} (f : Form) (d : Bool) → f ≡ Names → is_direct f d ≡ true → A
+direct-names f d q e = let y : false ≡ true = ap (λ (g : Form). is_direct g d) (sym q) ∙ e in let x : ◌≡◌ {A = ℕ} 0 1 = cc in absurd (omega arith)
 
 -- names are not walked to
-pub direct-other : (f : Form) (d : Bool) → isDirect f d ≡ true → isNames f ≡ false
+pub direct-other : (f : Form) (d : Bool) → is_direct f d ≡ true → is_names f ≡ false
 direct-other (Plain z) d e = refl
 direct-other (Packed z) d e = refl
 direct-other (Runs r) d e = refl

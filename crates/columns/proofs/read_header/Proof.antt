@@ -3,16 +3,16 @@ use mathlib.Core.Path.{◌∙◌}
 use lib.ListN.{length}
 use borrow.Author.Rules.{rules}
 use borrow.Author.Tests.{lt-ltb, le-ltb}
-use Rattle.columns.specs.Header.{headerOf}
+use Rattle.columns.specs.Header.{header_of}
 use Rattle.columns.proofs.read_header.Statement.{statement}
 use Rattle.columns.proofs.read_header.Tie as tie
 
 returns : tie.Need-returns
-unfolding headerOf
+unfolding header_of
 returns c = rw (lt-ltb _ _ c.if1.true)
 
 returns-2 : tie.Need-returns-2
-unfolding headerOf
+unfolding header_of
 returns-2 c =
     let a = c.before.before.before.before.before.before.before.args in
     c.judge.ensures

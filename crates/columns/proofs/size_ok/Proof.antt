@@ -9,7 +9,7 @@ use Rattle.steps.specs.declared.Size.{Size}
 use Rattle.steps.specs.declared.Size.TheVariants.{One, Two, Four}
 use Rattle.steps.specs.Width.{size_of}
 use Rattle.steps.specs.Laws.Numbers.{size-pos}
-use Rattle.columns.specs.Table.{sizeRight}
+use Rattle.columns.specs.Table.{size_right}
 use Rattle.columns.specs.Laws.Table.{product-fits}
 use Rattle.columns.proofs.size_ok.Statement.{statement}
 use Rattle.columns.proofs.size_ok.Tie as tie
@@ -35,22 +35,22 @@ mul-result-2 c =
 returns : tie.Need-returns
 returns c =
     let a = c.before.before.before.before.args in
-    ap (λ (k : ℕ). eqb a.bytes (a.length * k)) c.bytes.ensures ∙ ap (λ (f : Form). sizeRight f a.length a.parameter a.bytes) (sym c.before.before.form.given.1)
+    ap (λ (k : ℕ). eqb a.bytes (a.length * k)) c.bytes.ensures ∙ ap (λ (f : Form). size_right f a.length a.parameter a.bytes) (sym c.before.before.form.given.1)
 
 returns-2 : tie.Need-returns-2
 returns-2 c =
     let a = c.before.before.before.before.args in
-    ap (λ (k : ℕ). eqb (a.bytes % k) 0) c.bytes2.ensures ∙ ap (λ (f : Form). sizeRight f a.length a.parameter a.bytes) (sym c.before.before.form2.given.1)
+    ap (λ (k : ℕ). eqb (a.bytes % k) 0) c.bytes2.ensures ∙ ap (λ (f : Form). size_right f a.length a.parameter a.bytes) (sym c.before.before.form2.given.1)
 
 returns-3 : tie.Need-returns-3
 returns-3 c =
     let a = c.before.before.args in
-    ap (λ (f : Form). sizeRight f a.length a.parameter a.bytes) (sym c.enum_told.given.1)
+    ap (λ (f : Form). size_right f a.length a.parameter a.bytes) (sym c.enum_told.given.1)
 
 returns-4 : tie.Need-returns-4
 returns-4 c =
     let a = c.before.before.args in
-    ap (λ (f : Form). sizeRight f a.length a.parameter a.bytes) (sym c.enum-told2.given.1)
+    ap (λ (f : Form). size_right f a.length a.parameter a.bytes) (sym c.enum-told2.given.1)
 
 pub size-ok-spec : {M : Type 1} → statement M
 size-ok-spec =

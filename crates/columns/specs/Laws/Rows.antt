@@ -18,7 +18,7 @@ use Rattle.columns.specs.declared.Parameter.{Parameter}
 use Rattle.columns.specs.declared.Parameter.TheVariants.{Unused, Divisor, NameSize}
 use Rattle.columns.specs.declared.Codec.{Codec}
 use Rattle.columns.specs.declared.Codec.TheVariants.{Known, Unknown}
-use Rattle.columns.specs.Table.{table, codecOf, kindTag, isKind, isStrings, isNameSize, isNames}
+use Rattle.columns.specs.Table.{table, codec_of, kind_tag, is_kind, is_strings, is_name_size, is_names}
 
 -- Kinds
 
@@ -26,7 +26,7 @@ use Rattle.columns.specs.Table.{table, codecOf, kindTag, isKind, isStrings, isNa
 abbrev kinds : List Kind
 kinds = kind.Float32 ∷ kind.FixedPoint ∷ kind.Int8 ∷ kind.Int16 ∷ kind.Int32 ∷ kind.Strings ∷ kind.Chars ∷ []
 
-kind-at : (k : Kind) → get_or kinds (kindTag k) kind.Float32 ≡ k
+kind-at : (k : Kind) → get_or kinds (kind_tag k) kind.Float32 ≡ k
 kind-at kind.Float32 = refl
 kind-at kind.FixedPoint = refl
 kind-at kind.Int8 = refl
@@ -35,8 +35,8 @@ kind-at kind.Int32 = refl
 kind-at kind.Strings = refl
 kind-at kind.Chars = refl
 
-pub same_kind : (k j : Kind) → isKind k j ≡ true → k ≡ j
-same_kind k j e = sym (kind-at k) ∙ ap (λ (n : ℕ). get_or kinds n kind.Float32) (eqb-true (kindTag k) (kindTag j) e) ∙ kind-at j
+pub same_kind : (k j : Kind) → is_kind k j ≡ true → k ≡ j
+same_kind k j e = sym (kind-at k) ∙ ap (λ (n : ℕ). get_or kinds n kind.Float32) (eqb-true (kind_tag k) (kind_tag j) e) ∙ kind-at j
 
 -- What a row keeps
 
@@ -48,18 +48,18 @@ is_wide range.Int32 = true
 is_wide range.Ascii = false
 
 -- where delta follows, the values may be any 32-bit numbers
-abbrev pub deltaWide : Bool → Form → Bool
-deltaWide true f = is_wide (range_of f)
-deltaWide false f = true
+abbrev pub delta_wide : Bool → Form → Bool
+delta_wide true f = is_wide (range_of f)
+delta_wide false f = true
 
 -- names have a size
-abbrev pub namesSized : Form → Parameter → Bool
-namesSized Names NameSize = true
-namesSized Names Unused = false
-namesSized Names Divisor = false
-namesSized (Plain z) p = true
-namesSized (Packed z) p = true
-namesSized (Runs r) p = true
+abbrev pub names_sized : Form → Parameter → Bool
+names_sized Names NameSize = true
+names_sized Names Unused = false
+names_sized Names Divisor = false
+names_sized (Plain z) p = true
+names_sized (Packed z) p = true
+names_sized (Runs r) p = true
 
 pub wide-Int32 : (r : Range) → is_wide r ≡ true → r ≡ range.Int32
 wide-Int32 range.Int8 e = let y : ◌≡◌ {A = ℕ} 0 1 = cc in absurd (omega arith)
@@ -67,7 +67,7 @@ wide-Int32 range.Int16 e = let y : ◌≡◌ {A = ℕ} 0 1 = cc in absurd (omega
 wide-Int32 range.Int32 e = refl
 wide-Int32 range.Ascii e = let y : ◌≡◌ {A = ℕ} 0 1 = cc in absurd (omega arith)
 
-pub sized-NameSize : (p : Parameter) → namesSized Names p ≡ true → p ≡ NameSize
+pub sized-NameSize : (p : Parameter) → names_sized Names p ≡ true → p ≡ NameSize
 sized-NameSize Unused e = let y : ◌≡◌ {A = ℕ} 0 1 = cc in absurd (omega arith)
 sized-NameSize Divisor e = let y : ◌≡◌ {A = ℕ} 0 1 = cc in absurd (omega arith)
 sized-NameSize NameSize e = refl
@@ -79,8 +79,8 @@ all_rows test [] = true
 all_rows test (r ∷ rs) = test r && all_rows test rs
 
 -- a test that each row of the table passes is passed by every codec
-pub every-codec : (test : Codec → Bool) → test Unknown ≡ true → all_rows test table ≡ true → (c : ℕ) → test (codecOf c) ≡ true
-unfolding codecOf
+pub every-codec : (test : Codec → Bool) → test Unknown ≡ true → all_rows test table ≡ true → (c : ℕ) → test (codec_of c) ≡ true
+unfolding codec_of
 every-codec test u h c = at table h c
   where
     at : (rows : List Codec) → all_rows test rows ≡ true → (c : ℕ) → test (get_or rows c Unknown) ≡ true
@@ -91,37 +91,37 @@ every-codec test u h c = at table h c
 -- Strings, and they alone, are names, without delta and with their size. Where delta follows, the values may be any 32-bit numbers.
 abbrev row_ok : Codec → Bool
 row_ok Unknown = true
-row_ok (Known k f d p) = (deltaWide d f && namesSized f p) && (beq (isStrings k) (isNames f) && (not (isStrings k) || (not d && isNameSize p)))
+row_ok (Known k f d p) = (delta_wide d f && names_sized f p) && (beq (is_strings k) (is_names f) && (not (is_strings k) || (not d && is_name_size p)))
 
-module _ (c : ℕ) {k : Kind} {f : Form} {d : Bool} {p : Parameter} (e : codecOf c ≡ Known k f d p) where
+module _ (c : ℕ) {k : Kind} {f : Form} {d : Bool} {p : Parameter} (e : codec_of c ≡ Known k f d p) where
   row : row_ok (Known k f d p) ≡ true
   row = sym (ap row_ok e) ∙ every-codec row_ok refl refl c
 
-  row-ok : (deltaWide d f ≡ true) × (namesSized f p ≡ true)
-  row-ok = (and-eq-true_iff (deltaWide d f) (namesSized f p)).0 ((and-eq-true_iff (deltaWide d f && namesSized f p) (beq (isStrings k) (isNames f) && (not (isStrings k) || (not d && isNameSize p)))).0 row).0
+  row-ok : (delta_wide d f ≡ true) × (names_sized f p ≡ true)
+  row-ok = (and-eq-true_iff (delta_wide d f) (names_sized f p)).0 ((and-eq-true_iff (delta_wide d f && names_sized f p) (beq (is_strings k) (is_names f) && (not (is_strings k) || (not d && is_name_size p)))).0 row).0
 
-  row-strings : beq (isStrings k) (isNames f) && (not (isStrings k) || (not d && isNameSize p)) ≡ true
-  row-strings = ((and-eq-true_iff (deltaWide d f && namesSized f p) (beq (isStrings k) (isNames f) && (not (isStrings k) || (not d && isNameSize p)))).0 row).1
+  row-strings : beq (is_strings k) (is_names f) && (not (is_strings k) || (not d && is_name_size p)) ≡ true
+  row-strings = ((and-eq-true_iff (delta_wide d f && names_sized f p) (beq (is_strings k) (is_names f) && (not (is_strings k) || (not d && is_name_size p)))).0 row).1
 
-  pub row-wide : deltaWide d f ≡ true
+  pub row-wide : delta_wide d f ≡ true
   row-wide = row-ok.0
 
-  pub row_sized : namesSized f p ≡ true
+  pub row_sized : names_sized f p ≡ true
   row_sized = row-ok.1
 
   -- another kind than strings has no names
-  pub row_other : isStrings k ≡ false → isNames f ≡ false
-  row_other h = by (isNames f) (rw h at row-strings)
+  pub row_other : is_strings k ≡ false → is_names f ≡ false
+  row_other h = by (is_names f) (rw h at row-strings)
     where
       by : (b : Bool) → (beq false b && true) ≡ true → b ≡ false
       by false q = refl
       by true q = let y : ◌≡◌ {A = ℕ} 0 1 = cc in absurd (omega arith)
 
   -- strings have names, no delta, and a size
-  pub row-names : isStrings k ≡ true → (f ≡ Names) × (d ≡ false) × (isNameSize p ≡ true)
+  pub row-names : is_strings k ≡ true → (f ≡ Names) × (d ≡ false) × (is_name_size p ≡ true)
   row-names h = by f d (rw h at row-strings)
     where
-      by : (f : Form) (d : Bool) → (beq true (isNames f) && (not d && isNameSize p)) ≡ true → (f ≡ Names) × (d ≡ false) × (isNameSize p ≡ true)
+      by : (f : Form) (d : Bool) → (beq true (is_names f) && (not d && is_name_size p)) ≡ true → (f ≡ Names) × (d ≡ false) × (is_name_size p ≡ true)
       by (Plain z) d q = let y : ◌≡◌ {A = ℕ} 0 1 = cc in absurd (omega arith)
       by (Packed z) d q = let y : ◌≡◌ {A = ℕ} 0 1 = cc in absurd (omega arith)
       by (Runs r) d q = let y : ◌≡◌ {A = ℕ} 0 1 = cc in absurd (omega arith)
@@ -130,7 +130,7 @@ module _ (c : ℕ) {k : Kind} {f : Form} {d : Bool} {p : Parameter} (e : codecOf
 
   -- a known codec is one of the table's numbers
   pub row_small : c < 17
-  unfolding codecOf
+  unfolding codec_of
   row_small = by-test (ltb c 17) refl
     where
       by-test : (t : Bool) → ltb c 17 ≡ t → c < 17

@@ -4,7 +4,7 @@ use Prim.Native.Nat.{◌-◌}
 use borrow.Author.Tests.{not-true, not-false}
 use Rattle.text.specs.Equal.{equal}
 use Rattle.fields.specs.Table.{named}
-use Rattle.fields.specs.Fields.{field, findRow, isRequired}
+use Rattle.fields.specs.Fields.{field, find_row, is_required}
 use Rattle.counts.specs.Laws.Steps.{count-named, sum-named, items-integers, sum-negative, sum_is, chains-unfit, chains-groups, chains-models, chains-are}
 use borrow.Author.Rules.{rules}
 use Rattle.counts.proofs.chains_refusal.Statement.{statement}
@@ -14,14 +14,14 @@ returns : tie.Need-returns
 returns c = λ t es f k. chains-unfit k (sym c.before.counts-fit.ensures ∙ not-true _ c.if1.true)
 
 returns-2 : tie.Need-returns-2
-unfolding findRow isRequired equal named
+unfolding find_row is_required equal named
 returns-2 c =
     λ t es f k.
     let fit = sym c.before.before.before.before.before.counts-fit.ensures ∙ not-false _ c.before.before.before.before.if1.false in
     chains-groups k fit (sum-negative _ (sym c.enum_told.given.1 ∙ sum-named f "groupsPerChain" refl refl refl (λ l x e a. c.before.before.sum-at.ensures l t x e a)))
 
 returns-3 : tie.Need-returns-3
-unfolding findRow isRequired equal named
+unfolding find_row is_required equal named
 returns-3 c =
     λ t es f k.
     let fit = sym c.before.before.before.before.before.before.before.before.before.before.counts-fit.ensures ∙ not-false _ c.before.before.before.before.before.before.before.before.before.if1.false in
@@ -29,7 +29,7 @@ returns-3 c =
     chains-models k fit gs.0 (sum-negative _ (sym c.enum-told2.given.1 ∙ sum-named f "chainsPerModel" refl refl refl (λ l x e a. c.before.before.sum-at2.ensures l t x e a)))
 
 returns-4 : tie.Need-returns-4
-unfolding findRow isRequired equal named
+unfolding find_row is_required equal named
 returns-4 c =
     λ t es f k.
     let fit = sym c.before.before.before.before.before.before.before.before.before.before.before.before.before.before.before.before.before.counts-fit.ensures ∙ not-false _ c.before.before.before.before.before.before.before.before.before.before.before.before.before.before.before.before.if1.false in

@@ -3,14 +3,14 @@ use mathlib.Core.Path.{refl}
 use Prim.Native.Nat.{◌-◌}
 use Rattle.text.specs.Equal.{equal}
 use Rattle.fields.specs.Table.{named}
-use Rattle.fields.specs.Fields.{findRow, isRequired}
+use Rattle.fields.specs.Fields.{find_row, is_required}
 use Rattle.counts.specs.Laws.Steps.{integer-named}
 use borrow.Author.Rules.{rules}
 use Rattle.counts.proofs.counts_at.Statement.{statement}
 use Rattle.counts.proofs.counts_at.Tie as tie
 
 returns : tie.Need-returns
-unfolding findRow isRequired equal named
+unfolding find_row is_required equal named
 returns c = (
   record {
     bonds = c.before.before.before.before.before.before.before.before.count_at.ensures.0;

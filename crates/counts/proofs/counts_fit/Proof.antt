@@ -1,24 +1,24 @@
 -- Each count is compared with the limit.
 use Prim.Native.Nat.{◌-◌}
 use borrow.Author.Tests.{le-leb, lt-leb}
-use Rattle.counts.specs.Counts.{countLimit}
+use Rattle.counts.specs.Counts.{count_limit}
 use Rattle.counts.proofs.counts_fit.Statement.{statement}
 use Rattle.counts.proofs.counts_fit.Tie as tie
 
 returns : tie.Need-returns
-returns c = rw (lt-leb _ countLimit c.if1.true)
+returns c = rw (lt-leb _ count_limit c.if1.true)
 
 returns-2 : tie.Need-returns-2
-returns-2 c = rw (le-leb _ countLimit c.before.before.if1.false, lt-leb _ countLimit c.if2.true)
+returns-2 c = rw (le-leb _ count_limit c.before.before.if1.false, lt-leb _ count_limit c.if2.true)
 
 returns-3 : tie.Need-returns-3
-returns-3 c = rw (le-leb _ countLimit c.before.before.before.before.if1.false, le-leb _ countLimit c.before.before.if2.false, lt-leb _ countLimit c.if3.true)
+returns-3 c = rw (le-leb _ count_limit c.before.before.before.before.if1.false, le-leb _ count_limit c.before.before.if2.false, lt-leb _ count_limit c.if3.true)
 
 returns-4 : tie.Need-returns-4
-returns-4 c = rw (le-leb _ countLimit c.before.before.before.before.before.before.if1.false, le-leb _ countLimit c.before.before.before.before.if2.false, le-leb _ countLimit c.before.before.if3.false, lt-leb _ countLimit c.if4.true)
+returns-4 c = rw (le-leb _ count_limit c.before.before.before.before.before.before.if1.false, le-leb _ count_limit c.before.before.before.before.if2.false, le-leb _ count_limit c.before.before.if3.false, lt-leb _ count_limit c.if4.true)
 
 returns-5 : tie.Need-returns-5
-returns-5 c = rw (le-leb _ countLimit c.before.before.before.before.before.before.before.if1.false, le-leb _ countLimit c.before.before.before.before.before.if2.false, le-leb _ countLimit c.before.before.before.if3.false, le-leb _ countLimit c.before.if4.false)
+returns-5 c = rw (le-leb _ count_limit c.before.before.before.before.before.before.before.if1.false, le-leb _ count_limit c.before.before.before.before.before.if2.false, le-leb _ count_limit c.before.before.before.if3.false, le-leb _ count_limit c.before.if4.false)
 
 pub counts-fit-spec : {M : Type 1} → statement M
 counts-fit-spec =

@@ -3,14 +3,14 @@ use mathlib.Core.Path.{refl}
 use native.Mathlib.Omega.{arith}
 use Rattle.text.specs.Equal.{equal}
 use Rattle.fields.specs.Table.{named}
-use Rattle.fields.specs.Fields.{findRow, isRequired}
+use Rattle.fields.specs.Fields.{find_row, is_required}
 use Rattle.counts.specs.Laws.Steps.{count-named}
 use borrow.Author.Rules.{rules}
 use Rattle.counts.proofs.groups_refusal.Statement.{statement}
 use Rattle.counts.proofs.groups_refusal.Tie as tie
 
 returns : tie.Need-returns
-unfolding findRow isRequired equal named
+unfolding find_row is_required equal named
 returns c =
     λ t es f k few.
     let n = count-named f "groupList" refl refl (λ o p. c.before.before.before.before.before.before.before.before.length_at.ensures.1 t o p) in
@@ -18,7 +18,7 @@ returns c =
     c.before.before.types-refusal.ensures t es f k (omega (arith, n, l, c.before.before.before.before.before.before.few-entries.ensures), omega (arith, n, l, c.before.before.before.before.before.few-entries2.ensures))
 
 returns-2 : tie.Need-returns-2
-unfolding findRow isRequired equal named
+unfolding find_row is_required equal named
 returns-2 c =
     λ t es f k few.
     c.before.before.types-refusal2.ensures t es f k (omega (arith, c.before.before.before.before.before.before.no-entries.ensures, few), omega (arith, c.before.before.before.before.before.no-entries2.ensures, few))

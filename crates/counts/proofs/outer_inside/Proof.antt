@@ -5,12 +5,12 @@ use native.Mathlib.Omega.{arith}
 use lib.IntN.{ℤ, pos}
 use mir.Syntax.{w32}
 use mir.Facts.{to_z-of_z}
-use Rattle.numbers.specs.Ranges.{allBetween, lastIndex}
-use Rattle.values.specs.Integers.{listIn}
+use Rattle.numbers.specs.Ranges.{all_between, last_index}
+use Rattle.values.specs.Integers.{list_in}
 use Rattle.values.specs.Laws.Integers.{few-below}
 use Rattle.text.specs.Equal.{equal}
 use Rattle.fields.specs.Table.{named}
-use Rattle.fields.specs.Fields.{field, findRow}
+use Rattle.fields.specs.Fields.{field, find_row}
 use Rattle.columns.specs.declared.Kind.TheVariants.{Int32}
 use Rattle.columns.specs.declared.Wanted.TheVariants.{Only}
 use Rattle.file_columns.specs.Columns.{cells_in}
@@ -21,12 +21,12 @@ use Rattle.counts.proofs.outer_inside.Statement.{statement}
 use Rattle.counts.proofs.outer_inside.Tie as tie
 
 returns : tie.Need-returns
-unfolding findRow equal named
+unfolding find_row equal named
 returns c =
     λ t es f k.
-    let last = to_z-of_z {w = w32} (record { sfits = c.before.before.last-index.type-inv }) ∙ c.before.before.last-index.ensures ∙ ap lastIndex k.atoms in
+    let last = to_z-of_z {w = w32} (record { sfits = c.before.before.last-index.type-inv }) ∙ c.before.before.last-index.ensures ∙ ap last_index k.atoms in
     c.all-between.ensures t (field "bondAtomList" es) (says-named f "bondAtomList" refl refl) (right-named es f.right "bondAtomList" refl)
-    ∙ ap (λ (h : ℤ). allBetween (pos 0) h (listIn (cells_in (Only Int32) (field "bondAtomList" es)))) last
+    ∙ ap (λ (h : ℤ). all_between (pos 0) h (list_in (cells_in (Only Int32) (field "bondAtomList" es)))) last
     ∙ sym (few-below _ _ (omega (arith, k.few-atoms, k.atoms)))
 
 pub outer-inside-spec : {M : Type 1} → statement M

@@ -3,7 +3,7 @@ use mathlib.Core.Path.{refl, sym, ◌∙◌}
 use borrow.Author.Tests.{not-true, not-false}
 use Rattle.text.specs.Equal.{equal}
 use Rattle.fields.specs.Table.{named}
-use Rattle.fields.specs.Fields.{field, findRow}
+use Rattle.fields.specs.Fields.{field, find_row}
 use Rattle.file_columns.specs.Laws.Columns.{right-named}
 use Rattle.counts.specs.Laws.Steps.{says-named, and_first, and-true}
 use borrow.Author.Rules.{rules}
@@ -11,14 +11,14 @@ use Rattle.counts.proofs.values_right.Statement.{statement}
 use Rattle.counts.proofs.values_right.Tie as tie
 
 returns : tie.Need-returns
-unfolding findRow equal named
+unfolding find_row equal named
 returns c =
     λ t es f.
     let structures = c.before.all-between.ensures t (field "secStructList" es) (says-named f "secStructList" refl refl) (right-named es f.right "secStructList" refl) in
     sym (and_first _ _ (sym structures ∙ not-true _ c.if1.true))
 
 returns-2 : tie.Need-returns-2
-unfolding findRow equal named
+unfolding find_row equal named
 returns-2 c =
     λ t es f.
     let structures = c.before.before.before.all-between.ensures t (field "secStructList" es) (says-named f "secStructList" refl refl) (right-named es f.right "secStructList" refl) in

@@ -4,30 +4,30 @@ use Rattle.std.specs.Prelude.{◌≡◌, refl, Bool, true, false, ◌&&◌, List
 use Rattle.std.proofs.Common.{sym, ap, subst, ◌∙◌, arith, add-zero}
 use Rattle.std.proofs.Math.Option.{Option, some, none as nothing}
 use borrow.Author.Tests.{eq-eqb, ne_eqb}
-use Rattle.refusal.specs.Table.{accepted, countsDisagree, indexOutside, valueOutside}
-use Rattle.numbers.specs.Ranges.{allPass}
+use Rattle.refusal.specs.Table.{accepted, counts_disagree, index_outside, value_outside}
+use Rattle.numbers.specs.Ranges.{all_pass}
 use Rattle.numbers.specs.Laws.Tests.{clash}
 use Rattle.text.specs.Ascii.{ascii}
 use Rattle.messagepack.specs.Document.{Document, Entries, count, size, integer, float, string, binary, array, map, empty, entry, WritesEntries}
-use Rattle.values.specs.Parts.{items_of, entriesOf, under, items_in}
+use Rattle.values.specs.Parts.{items_of, entries_of, under, items_in}
 use Rattle.values.specs.Places.{At, AtEntries}
-use Rattle.values.specs.Heads.{isMap}
+use Rattle.values.specs.Heads.{is_map}
 use Rattle.values.specs.Laws.Places.{open-map, heads, read-heads, no-entries}
-use Rattle.heads.specs.Head.{kind_at, headAt}
+use Rattle.heads.specs.Head.{kind_at, head_at}
 use Rattle.heads.specs.declared.Kind.{Kind}
 use Rattle.heads.specs.declared.Head.{Head}
 use Rattle.values.specs.declared.Part.{Part}
-use Rattle.values.specs.Integers.{integersIn, arrayLength}
+use Rattle.values.specs.Integers.{integers_in, array_length}
 use Rattle.values.specs.Laws.Integers.{length-integers}
 use Rattle.values.specs.Seeking.{Seeking}
 use Rattle.values.specs.Laws.Seeking.{Turn, seeking-start, seeking-end, seeking-turn}
-use Rattle.counts.specs.Group.{bondsAgree, pairs, ordersRight, atomsOf, bondAtomsOf, bondOrdersOf, listsAgree, bondsInside, groupNumber}
-use Rattle.counts.specs.GroupPlaces.{PlacesIn, noted, agrees, FoundIn, noLists}
+use Rattle.counts.specs.Group.{bonds_agree, pairs, orders_right, atoms_of, bond_atoms_of, bond_orders_of, lists_agree, bonds_inside, group_number}
+use Rattle.counts.specs.GroupPlaces.{PlacesIn, noted, agrees, FoundIn, no_lists}
 use Rattle.counts.specs.declared.groups.Places.{Places}
 use Rattle.counts.specs.declared.groups.Found.{Found}
 
 -- the lengths of the lists decide whether bonds agree
-pub agrees-is : (a b : Option Document) → agrees (arrayLength a).there (arrayLength a).count (arrayLength b).there (arrayLength b).count ≡ bondsAgree (integersIn a) (integersIn b)
+pub agrees-is : (a b : Option Document) → agrees (array_length a).there (array_length a).count (array_length b).there (array_length b).count ≡ bonds_agree (integers_in a) (integers_in b)
 agrees-is nothing nothing = refl
 agrees-is nothing (some y) = refl
 agrees-is (some x) nothing = rw (length-integers (items_of x)) (go (eqb (count (items_of x) % 2) 0))
@@ -37,40 +37,40 @@ agrees-is (some x) nothing = rw (length-integers (items_of x)) (go (eqb (count (
     go false = refl
 agrees-is (some x) (some y) = rw (length-integers (items_of x), length-integers (items_of y))
 
-pub pairs_is : (o : Option Document) → pairs (integersIn o) ≡ (arrayLength o).count / 2
+pub pairs_is : (o : Option Document) → pairs (integers_in o) ≡ (array_length o).count / 2
 pairs_is nothing = refl
 pairs_is (some x) = ap (λ (n : ℕ). n / 2) (length-integers (items_of x))
 
 -- rule 5, case by case
 module _ (x : Document) where
-  pub group-charges : (count (items_in (under "formalChargeList" x)) ≡ atomsOf x → ⊥) → countsDisagree ≡ groupNumber x
-  unfolding groupNumber
-  group-charges n = rw (ne_eqb (count (items_in (under "formalChargeList" x))) (atomsOf x) n)
+  pub group-charges : (count (items_in (under "formalChargeList" x)) ≡ atoms_of x → ⊥) → counts_disagree ≡ group_number x
+  unfolding group_number
+  group-charges n = rw (ne_eqb (count (items_in (under "formalChargeList" x))) (atoms_of x) n)
 
-  module _ (charges : count (items_in (under "formalChargeList" x)) ≡ atomsOf x) where
-    pub group-elements : (count (items_in (under "elementList" x)) ≡ atomsOf x → ⊥) → countsDisagree ≡ groupNumber x
-    unfolding groupNumber
-    group-elements n = rw (eq-eqb (count (items_in (under "formalChargeList" x))) (atomsOf x) charges, ne_eqb (count (items_in (under "elementList" x))) (atomsOf x) n)
+  module _ (charges : count (items_in (under "formalChargeList" x)) ≡ atoms_of x) where
+    pub group-elements : (count (items_in (under "elementList" x)) ≡ atoms_of x → ⊥) → counts_disagree ≡ group_number x
+    unfolding group_number
+    group-elements n = rw (eq-eqb (count (items_in (under "formalChargeList" x))) (atoms_of x) charges, ne_eqb (count (items_in (under "elementList" x))) (atoms_of x) n)
 
-    module _ (elements : count (items_in (under "elementList" x)) ≡ atomsOf x) where
-      lists : {b : Bool} → bondsAgree (bondAtomsOf x) (bondOrdersOf x) ≡ b → listsAgree x ≡ b
-      lists e = rw (eq-eqb (count (items_in (under "formalChargeList" x))) (atomsOf x) charges, eq-eqb (count (items_in (under "elementList" x))) (atomsOf x) elements) e
+    module _ (elements : count (items_in (under "elementList" x)) ≡ atoms_of x) where
+      lists : {b : Bool} → bonds_agree (bond_atoms_of x) (bond_orders_of x) ≡ b → lists_agree x ≡ b
+      lists e = rw (eq-eqb (count (items_in (under "formalChargeList" x))) (atoms_of x) charges, eq-eqb (count (items_in (under "elementList" x))) (atoms_of x) elements) e
 
-      pub group-bonds : bondsAgree (bondAtomsOf x) (bondOrdersOf x) ≡ false → countsDisagree ≡ groupNumber x
-      unfolding groupNumber
+      pub group-bonds : bonds_agree (bond_atoms_of x) (bond_orders_of x) ≡ false → counts_disagree ≡ group_number x
+      unfolding group_number
       group-bonds e = rw (lists e)
 
-      module _ (bonds : bondsAgree (bondAtomsOf x) (bondOrdersOf x) ≡ true) where
-        pub group-inside : bondsInside x ≡ false → indexOutside ≡ groupNumber x
-        unfolding groupNumber
+      module _ (bonds : bonds_agree (bond_atoms_of x) (bond_orders_of x) ≡ true) where
+        pub group-inside : bonds_inside x ≡ false → index_outside ≡ group_number x
+        unfolding group_number
         group-inside e = rw (lists bonds, e)
 
-        pub group-orders : bondsInside x ≡ true → ordersRight (bondOrdersOf x) ≡ false → valueOutside ≡ groupNumber x
-        unfolding groupNumber
+        pub group-orders : bonds_inside x ≡ true → orders_right (bond_orders_of x) ≡ false → value_outside ≡ group_number x
+        unfolding group_number
         group-orders i e = rw (lists bonds, i, e)
 
-        pub group-fine : bondsInside x ≡ true → ordersRight (bondOrdersOf x) ≡ true → accepted ≡ groupNumber x
-        unfolding groupNumber
+        pub group-fine : bonds_inside x ≡ true → orders_right (bond_orders_of x) ≡ true → accepted ≡ group_number x
+        unfolding group_number
         group-fine i e = rw (lists bonds, i, e)
 
 -- the search for five keys at once
@@ -119,10 +119,10 @@ entries-end (entry k x es) a l = absurd (omega arith)
 
 -- the entries of a map by its head
 pub record MapAt (s : List ℕ) (x : Document) (n r e : ℕ) : Type 0 where
-  pub counts : size (entriesOf x) ≡ n
-  pub all : AtEntries s r (entriesOf x) e
+  pub counts : size (entries_of x) ≡ n
+  pub all : AtEntries s r (entries_of x) e
 
-pub map_at : {s : List ℕ} {p e n r : ℕ} (x : Document) → At s p x e → headAt s p ≡ Head.At n r → kind_at s p ≡ Kind.Map → MapAt s x n r e
+pub map_at : {s : List ℕ} {p e n r : ℕ} (x : Document) → At s p x e → head_at s p ≡ Head.At n r → kind_at s p ≡ Kind.Map → MapAt s x n r e
 map_at {s} {p} {e} {n} {r} x a h q = go x a (read-heads x a q)
   where
     go : (z : Document) → At s p z e → heads z Kind.Map ≡ true → MapAt s z n r e
@@ -138,12 +138,12 @@ map_at {s} {p} {e} {n} {r} x a h q = go x a (read-heads x a q)
     go (array ds) b g = clash g
 
 -- what is no map has no lists
-no-lists : {s : List ℕ} {p e : ℕ} (x : Document) → At s p x e → {k : Kind} → kind_at s p ≡ k → isMap k ≡ false → PlacesIn s (entriesOf x) noLists
-no-lists x a q f = let n = no-entries x a q f in seek-end (entriesOf x) seek-start (omega (arith, n.counts))
+no-lists : {s : List ℕ} {p e : ℕ} (x : Document) → At s p x e → {k : Kind} → kind_at s p ≡ k → is_map k ≡ false → PlacesIn s (entries_of x) no_lists
+no-lists x a q f = let n = no-entries x a q f in seek-end (entries_of x) seek-start (omega (arith, n.counts))
 
-pub found_none : {s : List ℕ} {p e : ℕ} (x : Document) → At s p x e → {k : Kind} → kind_at s p ≡ k → isMap k ≡ false → {r : Found} → r.places ≡ noLists → r.end ≡ e → FoundIn s (entriesOf x) e r
-found_none {s} x a q f l e = record { lists = subst (PlacesIn s (entriesOf x)) (sym l) (no-lists x a q f); ends = e }
+pub found_none : {s : List ℕ} {p e : ℕ} (x : Document) → At s p x e → {k : Kind} → kind_at s p ≡ k → is_map k ≡ false → {r : Found} → r.places ≡ no_lists → r.end ≡ e → FoundIn s (entries_of x) e r
+found_none {s} x a q f l e = record { lists = subst (PlacesIn s (entries_of x)) (sym l) (no-lists x a q f); ends = e }
 
-pub none-ordered : ordersRight nothing ≡ true
-unfolding allPass
+pub none-ordered : orders_right nothing ≡ true
+unfolding all_pass
 none-ordered = refl

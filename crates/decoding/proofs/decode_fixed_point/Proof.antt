@@ -5,7 +5,7 @@ use mir.Syntax.{w32}
 use mir.Facts.{to_z-of_z}
 use borrow.Author.Rules.{rules}
 use Rattle.refusal.specs.declared.Answer.TheVariants as answer
-use Rattle.numbers.specs.BigEndian.{signedAt}
+use Rattle.numbers.specs.BigEndian.{signed_at}
 use Rattle.columns.specs.declared.Kind.TheVariants as kind
 use Rattle.columns.specs.declared.Wanted.TheVariants.{Only}
 use Rattle.columns.specs.Decode.{decode}
@@ -15,7 +15,7 @@ use Rattle.decoding.proofs.decode_fixed_point.Statement.{statement}
 use Rattle.decoding.proofs.decode_fixed_point.Tie as tie
 
 returns : tie.Need-returns
-unfolding signedAt
+unfolding signed_at
 returns c =
     let a = c.before.before.before.before.before.before.before.before.args in
     let g = c.before.before.n.given in

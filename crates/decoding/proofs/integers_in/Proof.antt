@@ -3,7 +3,7 @@ use mathlib.Core.Path.{sym, ◌∙◌}
 use native.Mathlib.Omega.{arith}
 use borrow.Author.Rules.{rules}
 use Rattle.columns.specs.declared.Header.TheVariants.{Good}
-use Rattle.columns.specs.Decode.{judgedPayload}
+use Rattle.columns.specs.Decode.{judged_payload}
 use Rattle.columns.specs.Laws.Buffer.{answers-refused}
 use Rattle.payloads.specs.Laws.Judged.{Holds, judged-refused, read-fine, holds-small, holds-done}
 use Rattle.decoding.specs.Calls.{as_number}
@@ -14,7 +14,7 @@ use Rattle.decoding.proofs.integers_in.Tie as tie
 returns : tie.Need-returns
 returns c =
     let a = c.before.before.before.args in
-    answers-refused (λ k m. as_number) (judgedPayload (Good a.n a.m a.kind a.form a.delta) a.payload.now) a.buffer.now c.before.refusal-of.result
+    answers-refused (λ k m. as_number) (judged_payload (Good a.n a.m a.kind a.form a.delta) a.payload.now) a.buffer.now c.before.refusal-of.result
     (judged-refused a.n a.m a.kind a.form a.delta a.payload.now c.before.refusal-of.result c.before.refusal-of.ensures c.if1.true)
 
 -- the column that is not refused
@@ -27,7 +27,7 @@ returns-2 : tie.Need-returns-2
 returns-2 c =
     let a = c.before.before.before.before.args in
     let g = held c.before in
-    holds-small (λ k m. as_number) a.n a.m a.kind a.form a.delta a.payload.now g (judgedPayload (Good a.n a.m a.kind a.form a.delta) a.payload.now) g.3 a.buffer.now c.if2.true
+    holds-small (λ k m. as_number) a.n a.m a.kind a.form a.delta a.payload.now g (judged_payload (Good a.n a.m a.kind a.form a.delta) a.payload.now) g.3 a.buffer.now c.if2.true
 
 put-integers-requires : tie.Need-put-integers-requires
 put-integers-requires c κs =
@@ -39,7 +39,7 @@ returns-3 : tie.Need-returns-3
 returns-3 c =
     let a = c.before.before.before.before.before.before.before.args in
     let g = held c.before.before.before.before in
-    holds-done (λ k m. as_number) a.n a.m a.kind a.form a.delta a.payload.now g (judgedPayload (Good a.n a.m a.kind a.form a.delta) a.payload.now) g.3 a.buffer.now c.before.before.before.if2.false c.before.put-integers.new.1.1.1.1.0 c.before.put-integers.ensures
+    holds-done (λ k m. as_number) a.n a.m a.kind a.form a.delta a.payload.now g (judged_payload (Good a.n a.m a.kind a.form a.delta) a.payload.now) g.3 a.buffer.now c.before.before.before.if2.false c.before.put-integers.new.1.1.1.1.0 c.before.put-integers.ensures
 
 pub integers-in-spec : {M : Type 1} → statement M
 integers-in-spec =

@@ -6,7 +6,7 @@ use lib.ListN.{length, take, drop, length-set}
 use mir.Syntax.{w32}
 use mir.Facts.{to_z-of_z}
 use borrow.Author.Rules.{rules}
-use Rattle.numbers.specs.BigEndian.{signedAt}
+use Rattle.numbers.specs.BigEndian.{signed_at}
 use Rattle.steps.specs.Width.{width_of, size_of}
 use Rattle.payloads.specs.Laws.Plain.{plain-inside, plain-next}
 use Rattle.decoding.specs.Calls.{as_number}
@@ -35,7 +35,7 @@ loop-again c =
     let s = a.args.payload.now in
     let k = c.before.before.before.before.bytes in
     let m : p.i * k.result + k.result - p.i * k.result ≡ size_of a.args.size = omega (arith, k.ensures) in
-    let e = c.number_at.ensures ∙ ap₂ (λ (i j : ℕ). signedAt (width_of a.args.size) (take i (drop j s)) 0) m (ap (λ (i : ℕ). p.i * i) k.ensures) in (
+    let e = c.number_at.ensures ∙ ap₂ (λ (i j : ℕ). signed_at (width_of a.args.size) (take i (drop j s)) 0) m (ap (λ (i : ℕ). p.i * i) k.ensures) in (
       omega arith,
       length-set p.buffer p.i _ ∙ p.invariant.1,
       (λ old l w. plain-next as_number a.args.size s h.0 h.1 p.i (omega (arith, h.2)) c.number_at.result e old p.buffer _ (omega (arith, h.3, l)) (to_z-of_z {w = w32} (record { sfits = c.number_at.type-inv })) (p.invariant.2 old l w)),

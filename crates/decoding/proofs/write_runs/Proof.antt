@@ -11,10 +11,10 @@ use mir.Syntax.{w32}
 use mir.Val.{of_z}
 use mir.Facts.{to_z-of_z}
 use borrow.Author.Rules.{rules}
-use Rattle.numbers.specs.BigEndian.{signedAt}
+use Rattle.numbers.specs.BigEndian.{signed_at}
 use Rattle.steps.specs.declared.Range.{Range}
 use Rattle.steps.specs.declared.Form.TheVariants.{Runs}
-use Rattle.steps.specs.Payload.{readIn}
+use Rattle.steps.specs.Payload.{read_in}
 use Rattle.payloads.specs.Results.{HasResults}
 use Rattle.payloads.specs.Laws.Items.{runs-end}
 use Rattle.payloads.specs.Laws.Runs.{run-here, Begun, begun-start, begun-rest, begun-room, begun-run, begun-end, part-number}
@@ -33,13 +33,13 @@ loop-holds : tie.Need-loop-init invariant-loop decreases-loop
 loop-holds c = let a = c.before.args in (omega arith, (λ r held room. begun-start as_number (Runs r) a.payload.now a.buffer.now a.n held room))
 
 -- the count that was read
-count : (c : tie.After-to-u32 invariant-loop decreases-loop) → c.to-u32.result ≡ of_z w32 (signedAt w32 c.before.before.before.before.before.before.before.args.payload.now (c.before.before.before.before.before.loop.at + 4))
+count : (c : tie.After-to-u32 invariant-loop decreases-loop) → c.to-u32.result ≡ of_z w32 (signed_at w32 c.before.before.before.before.before.before.before.args.payload.now (c.before.before.before.before.before.loop.at + 4))
 count c = c.to-u32.ensures ∙ ap (of_z w32) (to_z-of_z {w = w32} (record { sfits = c.before.read-i322.type-inv }) ∙ c.before.read-i322.ensures ∙ part-number c.before.before.before.before.before.before.before.args.payload.now c.before.before.before.before.before.loop.at 4 (omega arith))
 
 -- the run at the place
 here : (c : tie.After-to-u32 invariant-loop decreases-loop) (r : Range) → HasResults (Runs r) c.before.before.before.before.before.before.before.args.payload.now c.before.before.before.before.before.before.before.args.n
-    → readIn (Runs r) (drop c.before.before.before.before.before.loop.at c.before.before.before.before.before.before.before.args.payload.now)
-    ≡ map (λ (l : List ℤ). replicate c.to-u32.result (signedAt w32 c.before.before.before.before.before.before.before.args.payload.now c.before.before.before.before.before.loop.at) ++ l) (readIn (Runs r) (drop (c.before.before.before.before.before.loop.at + 8) c.before.before.before.before.before.before.before.args.payload.now))
+    → read_in (Runs r) (drop c.before.before.before.before.before.loop.at c.before.before.before.before.before.before.before.args.payload.now)
+    ≡ map (λ (l : List ℤ). replicate c.to-u32.result (signed_at w32 c.before.before.before.before.before.before.before.args.payload.now c.before.before.before.before.before.loop.at) ++ l) (read_in (Runs r) (drop (c.before.before.before.before.before.loop.at + 8) c.before.before.before.before.before.before.before.args.payload.now))
 here c r held =
     let a = c.before.before.before.before.before.before.before in
     let p = c.before.before.before.before.before.loop in
@@ -52,7 +52,7 @@ has_room c =
     let a = c.before.before.before.before.before.before.before in
     let p = c.before.before.before.before.before.loop in
     let w = p.invariant.1 a.args.range a.requires.0 a.requires.1 in
-    (begun-room as_number (Runs a.args.range) a.args.payload.now a.args.buffer.now a.args.n a.requires.0 a.requires.1 p.at p.o p.buffer w (signedAt w32 a.args.payload.now p.at) c.to-u32.result (p.at + 8) (here c a.args.range a.requires.0), w.3)
+    (begun-room as_number (Runs a.args.range) a.args.payload.now a.args.buffer.now a.args.n a.requires.0 a.requires.1 p.at p.o p.buffer w (signed_at w32 a.args.payload.now p.at) c.to-u32.result (p.at + 8) (here c a.args.range a.requires.0), w.3)
 
 write-run-requires : tie.Need-write-run-requires invariant-loop decreases-loop
 write-run-requires c κs = let r = has_room c.before in let k = c.before.before.before.before.before.before.before.before.requires.1 in (omega (arith, r.0, r.1), omega (arith, r.0, r.1))
@@ -64,9 +64,9 @@ loop-again : tie.Need-loop-preserved invariant-loop decreases-loop
 loop-again c =
     let a = c.before.before.before.before.before.before.before.before.before.before in
     let p = c.before.before.before.before.before.before.before.before.loop in
-    let v = to_z-of_z {w = w32} (record { sfits = c.before.before.before.before.before.read-i32.type-inv }) ∙ c.before.before.before.before.before.read-i32.ensures ∙ part-number a.args.payload.now p.at 0 (omega arith) ∙ ap (signedAt w32 a.args.payload.now) (add-zero p.at) in (
+    let v = to_z-of_z {w = w32} (record { sfits = c.before.before.before.before.before.read-i32.type-inv }) ∙ c.before.before.before.before.before.read-i32.ensures ∙ part-number a.args.payload.now p.at 0 (omega arith) ∙ ap (signed_at w32 a.args.payload.now) (add-zero p.at) in (
       omega arith,
-      (λ r held room. begun-run as_number (Runs r) a.args.payload.now a.args.buffer.now a.args.n held room p.at p.o p.buffer (p.invariant.1 r held room) (signedAt w32 a.args.payload.now p.at) c.before.before.before.to-u32.result (p.at + 8) (here c.before.before.before r held) c.before.write-run.new.0 (rw v at c.before.write-run.ensures)),
+      (λ r held room. begun-run as_number (Runs r) a.args.payload.now a.args.buffer.now a.args.n held room p.at p.o p.buffer (p.invariant.1 r held room) (signed_at w32 a.args.payload.now p.at) c.before.before.before.to-u32.result (p.at + 8) (here c.before.before.before r held) c.before.write-run.new.0 (rw v at c.before.write-run.ensures)),
     )
 
 same_length : tie.Need-same-length invariant-loop decreases-loop

@@ -11,19 +11,19 @@ use Rattle.columns.specs.declared.Kind.TheVariants as kind
 use Rattle.columns.specs.declared.Parameter.{Parameter}
 use Rattle.columns.specs.declared.Codec.{Codec}
 use Rattle.columns.specs.declared.Codec.TheVariants.{Known, Unknown}
-use Rattle.columns.specs.Table.{codecOf, isKind, isNames}
+use Rattle.columns.specs.Table.{codec_of, is_kind, is_names}
 use Rattle.columns.specs.Laws.Rows.{every-codec}
 use Rattle.decoding.specs.Steps.{is_written}
 
-abbrev codecOk : Codec → Bool
-codecOk Unknown = true
-codecOk (Known k f d p) = isNames f || is_written f d
+abbrev codec_ok : Codec → Bool
+codec_ok Unknown = true
+codec_ok (Known k f d p) = is_names f || is_written f d
 
 -- a codec without names has a form of numbers
-pub written_row : (c : ℕ) (k : Kind) (f : Form) (d : Bool) (p : Parameter) → codecOf c ≡ Known k f d p → isNames f ≡ false → is_written f d ≡ true
-written_row c k f d p e h = rw h at (sym (ap codecOk e) ∙ every-codec codecOk refl refl c)
+pub written_row : (c : ℕ) (k : Kind) (f : Form) (d : Bool) (p : Parameter) → codec_of c ≡ Known k f d p → is_names f ≡ false → is_written f d ≡ true
+written_row c k f d p e h = rw h at (sym (ap codec_ok e) ∙ every-codec codec_ok refl refl c)
 
-pub written-other : (f : Form) (d : Bool) → is_written f d ≡ true → isNames f ≡ false
+pub written-other : (f : Form) (d : Bool) → is_written f d ≡ true → is_names f ≡ false
 written-other (Plain z) d h = refl
 written-other (Packed z) d h = refl
 written-other (Runs r) d h = refl
@@ -34,23 +34,23 @@ pub plain-alone : {f : Form} (z : Size) (d : Bool) → f ≡ Plain z → is_writ
 plain-alone z d e h = not-true d (sym (ap (λ (i : Form). is_written i d) e) ∙ h)
 
 -- Characters are in runs, without delta.
-abbrev isChars : Form → Bool → Bool
-isChars (Plain z) d = false
-isChars (Packed z) d = false
-isChars (Runs Int8) d = false
-isChars (Runs Int16) d = false
-isChars (Runs Int32) d = false
-isChars (Runs Ascii) d = not d
-isChars Names d = false
+abbrev is_chars : Form → Bool → Bool
+is_chars (Plain z) d = false
+is_chars (Packed z) d = false
+is_chars (Runs Int8) d = false
+is_chars (Runs Int16) d = false
+is_chars (Runs Int32) d = false
+is_chars (Runs Ascii) d = not d
+is_chars Names d = false
 
-abbrev charsOk : Codec → Bool
-charsOk Unknown = true
-charsOk (Known k f d p) = not (isKind k kind.Chars) || isChars f d
+abbrev chars_ok : Codec → Bool
+chars_ok Unknown = true
+chars_ok (Known k f d p) = not (is_kind k kind.Chars) || is_chars f d
 
-pub chars-row : (c : ℕ) (k : Kind) (f : Form) (d : Bool) (p : Parameter) → codecOf c ≡ Known k f d p → k ≡ kind.Chars → (f ≡ Runs Ascii) × (d ≡ false)
-chars-row c k f d p e h = by f (rw h at (sym (ap charsOk e) ∙ every-codec charsOk refl refl c))
+pub chars-row : (c : ℕ) (k : Kind) (f : Form) (d : Bool) (p : Parameter) → codec_of c ≡ Known k f d p → k ≡ kind.Chars → (f ≡ Runs Ascii) × (d ≡ false)
+chars-row c k f d p e h = by f (rw h at (sym (ap chars_ok e) ∙ every-codec chars_ok refl refl c))
   where
-    by : (f : Form) → isChars f d ≡ true → (f ≡ Runs Ascii) × (d ≡ false)
+    by : (f : Form) → is_chars f d ≡ true → (f ≡ Runs Ascii) × (d ≡ false)
     by (Plain z) q = let y : ◌≡◌ {A = ℕ} 0 1 = cc in absurd (omega arith)
     by (Packed z) q = let y : ◌≡◌ {A = ℕ} 0 1 = cc in absurd (omega arith)
     by (Runs Int8) q = let y : ◌≡◌ {A = ℕ} 0 1 = cc in absurd (omega arith)

@@ -5,13 +5,13 @@ use native.Mathlib.Omega.{arith}
 use borrow.Author.Rules.{rules}
 use borrow.Author.Tests.{not-true, not-false}
 use Rattle.columns.specs.declared.Codec.TheVariants.{Known}
-use Rattle.columns.specs.Table.{codecOf}
+use Rattle.columns.specs.Table.{codec_of}
 use Rattle.columns.specs.declared.Plan.TheVariants.{Good}
 use Rattle.encoding.specs.Laws.Plan.{plan-unknown, plan-unwanted, plan-parameter, plan-part, plan-long, plan-good}
 use Rattle.encoding.proofs.make_plan.Statement.{statement}
 use Rattle.encoding.proofs.make_plan.Tie as tie
 
-found : (c : tie.After-kind) → codecOf c.before.before.before.args.codec ≡ Known c.kind.given.0.0 c.kind.given.0.1.0 c.kind.given.0.1.1.0 c.kind.given.0.1.1.1.0
+found : (c : tie.After-kind) → codec_of c.before.before.before.args.codec ≡ Known c.kind.given.0.0 c.kind.given.0.1.0 c.kind.given.0.1.1.0 c.kind.given.0.1.1.1.0
 found c = sym c.before.before.codec-of.ensures ∙ c.kind.given.1
 
 returns : tie.Need-returns

@@ -3,7 +3,7 @@ use Rattle.std.specs.Prelude.{◌≡◌, refl, Bool, true, false, List, ℕ, ◌
 use Rattle.std.proofs.Common.{sym, ap₂, subst, ◌∙◌}
 use Rattle.std.proofs.Math.Path.{ap}
 use borrow.Author.Tests.{le-leb, lt-leb}
-use Rattle.refusal.specs.Table.{codecUnknown, headerRange}
+use Rattle.refusal.specs.Table.{codec_unknown, header_range}
 use Rattle.steps.specs.declared.Size.TheVariants.{Four}
 use Rattle.steps.specs.declared.Range.TheVariants.{Ascii}
 use Rattle.steps.specs.declared.Form.{Form}
@@ -16,9 +16,9 @@ use Rattle.columns.specs.declared.Wanted.TheVariants.{Only}
 use Rattle.columns.specs.declared.Parameter.{Parameter}
 use Rattle.columns.specs.declared.Codec.{Codec}
 use Rattle.columns.specs.declared.Codec.TheVariants.{Known, Unknown}
-use Rattle.columns.specs.Table.{table, codecOf, suits, lengthLimit, parameterOk, used}
+use Rattle.columns.specs.Table.{table, codec_of, suits, length_limit, parameter_ok, used}
 use Rattle.columns.specs.declared.Plan.TheVariants.{Good, Refused}
-use Rattle.columns.specs.Encode.{results, wholeResults, payloadOf, planBy, plan_of}
+use Rattle.columns.specs.Encode.{results, whole_results, payload_of, plan_by, plan_of}
 use Rattle.columns.specs.Laws.Encode.{plan-rules}
 use Rattle.columns.specs.Laws.Rows.{same_kind}
 use Rattle.columns.specs.Laws.CanHold.{Rows, row_at}
@@ -26,30 +26,30 @@ use Rattle.encoding.specs.Steps.{NumberKind, NumberForm}
 
 -- The refusals
 
-pub plan-unknown : (w : Wanted) (c m e : ℕ) → codecOf c ≡ Unknown → plan_of w c m e ≡ Refused codecUnknown
+pub plan-unknown : (w : Wanted) (c m e : ℕ) → codec_of c ≡ Unknown → plan_of w c m e ≡ Refused codec_unknown
 unfolding plan_of
-plan-unknown w c m e q = ap (planBy w m e) q
+plan-unknown w c m e q = ap (plan_by w m e) q
 
-module _ {k : Kind} {f : Form} {d : Bool} {p : Parameter} (w : Wanted) (c m e : ℕ) (q : codecOf c ≡ Known k f d p) where
-  pub plan-unwanted : suits w k ≡ false → plan_of w c m e ≡ Refused codecUnknown
+module _ {k : Kind} {f : Form} {d : Bool} {p : Parameter} (w : Wanted) (c m e : ℕ) (q : codec_of c ≡ Known k f d p) where
+  pub plan-unwanted : suits w k ≡ false → plan_of w c m e ≡ Refused codec_unknown
   unfolding plan_of
-  plan-unwanted a = ap (planBy w m e) q ∙ rw a
+  plan-unwanted a = ap (plan_by w m e) q ∙ rw a
 
-  pub plan-parameter : suits w k ≡ true → parameterOk p m ≡ false → plan_of w c m e ≡ Refused headerRange
+  pub plan-parameter : suits w k ≡ true → parameter_ok p m ≡ false → plan_of w c m e ≡ Refused header_range
   unfolding plan_of
-  plan-parameter a b = ap (planBy w m e) q ∙ rw (a, b)
+  plan-parameter a b = ap (plan_by w m e) q ∙ rw (a, b)
 
-  pub plan-part : suits w k ≡ true → parameterOk p m ≡ true → wholeResults f m e ≡ false → plan_of w c m e ≡ Refused headerRange
+  pub plan-part : suits w k ≡ true → parameter_ok p m ≡ true → whole_results f m e ≡ false → plan_of w c m e ≡ Refused header_range
   unfolding plan_of
-  plan-part a b h = ap (planBy w m e) q ∙ rw (a, b, h)
+  plan-part a b h = ap (plan_by w m e) q ∙ rw (a, b, h)
 
-  pub plan-long : suits w k ≡ true → parameterOk p m ≡ true → wholeResults f m e ≡ true → lengthLimit < results f m e → plan_of w c m e ≡ Refused headerRange
+  pub plan-long : suits w k ≡ true → parameter_ok p m ≡ true → whole_results f m e ≡ true → length_limit < results f m e → plan_of w c m e ≡ Refused header_range
   unfolding plan_of
-  plan-long a b h l = ap (planBy w m e) q ∙ rw (a, b, h, lt-leb (results f m e) lengthLimit l)
+  plan-long a b h l = ap (plan_by w m e) q ∙ rw (a, b, h, lt-leb (results f m e) length_limit l)
 
-  pub plan-good : suits w k ≡ true → parameterOk p m ≡ true → wholeResults f m e ≡ true → results f m e ≤ lengthLimit → plan_of w c m e ≡ Good f d (results f m e) (used p m)
+  pub plan-good : suits w k ≡ true → parameter_ok p m ≡ true → whole_results f m e ≡ true → results f m e ≤ length_limit → plan_of w c m e ≡ Good f d (results f m e) (used p m)
   unfolding plan_of
-  plan-good a b h l = ap (planBy w m e) q ∙ rw (a, b, h, le-leb (results f m e) lengthLimit l)
+  plan-good a b h l = ap (plan_by w m e) q ∙ rw (a, b, h, le-leb (results f m e) length_limit l)
 
 -- The forms of each kind
 
@@ -71,7 +71,7 @@ rows : Rows (λ (i : ℕ). RowOf) table
 rows = (tt, ((refl, refl), (refl, (refl, (refl, ((refl, refl), ((refl, refl), (tt, (tt, (tt, (tt, (refl, (tt, (tt, (tt, (tt, (tt, tt)))))))))))))))))
 
 pub row : {f : Form} {d : Bool} {n v : ℕ} (k : Kind) (c m e : ℕ) → plan_of (Only k) c m e ≡ Good f d n v → Row k f d
-unfolding codecOf
+unfolding codec_of
 row {f} {d} k c m e q =
     let r = plan-rules (Only k) c m e q in
     subst (λ (i : Kind). Row i f d) (sym (same_kind k r.kind r.suited)) (subst RowOf r.known (row_at (λ (i : ℕ). RowOf) table rows (λ i. tt) c))
@@ -94,5 +94,5 @@ number-allowed (Runs r) d m xs h = refl
 number-allowed Names d m xs h = absurd h
 
 -- floats, names and characters are placed in the one form that their kind has
-pub one_form : {f f₀ : Form} {d d₀ : Bool} (m : ℕ) (xs : List ℤ) → (f ≡ f₀) × (d ≡ d₀) → (allowed f₀ m xs ≡ allowed f m xs) × (payloadOf f₀ d₀ xs ≡ payloadOf f d xs)
-one_form m xs r = (ap (λ (g : Form). allowed g m xs) (sym r.0), ap₂ (λ (g : Form) (b : Bool). payloadOf g b xs) (sym r.0) (sym r.1))
+pub one_form : {f f₀ : Form} {d d₀ : Bool} (m : ℕ) (xs : List ℤ) → (f ≡ f₀) × (d ≡ d₀) → (allowed f₀ m xs ≡ allowed f m xs) × (payload_of f₀ d₀ xs ≡ payload_of f d xs)
+one_form m xs r = (ap (λ (g : Form). allowed g m xs) (sym r.0), ap₂ (λ (g : Form) (b : Bool). payload_of g b xs) (sym r.0) (sym r.1))

@@ -11,12 +11,12 @@ use Rattle.heads.proofs.head_at.Reads as head-at-reads
 use Rattle.heads.proofs.kind_at.Reads as kind-at-reads
 use Rattle.values.proofs.key_at.Reads as key-at-reads
 use Rattle.values.proofs.skip.Reads as skip-reads
-use Rattle.fields.specs.Types.{array_of, mapWith}
+use Rattle.fields.specs.Types.{array_of, map_with}
 use Rattle.fields.specs.Tests.{typed}
 use Rattle.fields.specs.Numbers.{build, type_of, tag_of, rows_from, marked}
 use Rattle.fields.specs.Steps.{ItemsSay, EntriesSay}
 use Rattle.fields.specs.Laws.Numbers.{rows-count, simple-kind, map-distinct, map-hinted, type-none, type-past, type-read, build-map}
-use Rattle.fields.specs.Laws.Steps.{value_as, value-cut, nothing-says, head_read, arrayOf-wrong, arrayOf-says, mapWith-wrong, mapWith-says, items-none, items-next, items-wrong, entries_next, entries-wrong, entries-done, entries-lack, row-says, row-over}
+use Rattle.fields.specs.Laws.Steps.{value_as, value-cut, nothing-says, head_read, array_of-wrong, array_of-says, map_with-wrong, map_with-says, items-none, items-next, items-wrong, entries_next, entries-wrong, entries-done, entries-lack, row-says, row-over}
 use Rattle.fields.proofs.entries_typed.Reads as entries-typed
 use Rattle.fields.proofs.entries_typed.Kinds as entries-typed-kinds
 use Rattle.fields.proofs.+entries_typed_entry_typed_items_typed_row_typed_typed_at.Lts-entries_typed as entries-typed-lts
@@ -235,7 +235,7 @@ typed-at-returns-4 t c =
 typed-at-returns-5 : (t : ℕ) → typed-at-lts.Need-returns-5 (typed-at-claims t) (typed-at-at t) typed_at.Post
 typed-at-returns-5 t c =
     let a = c.before.before.before.before.before.before.before.before.before.before.before.before.before.before.before.args in
-    value_as (type_of a.depth a.code) (array_of (type_of (a.depth - 1) c.before.before.before.before.before.before.before.before.before.cell3.result)) (type-read a.depth a.code (pos_of_ne-zero c.before.before.before.before.before.before.before.before.before.before.before.before.before.if1.false) c.before.before.before.before.before.before.before.before.before.before.before.before.if2.false c.before.before.before.before.before.before.before.before.before.before.before.cell.ensures.0 c.before.before.before.before.before.before.before.before.before.before.cell2.ensures.0 c.before.before.before.before.before.before.before.before.before.cell3.ensures.0 ∙ ap (λ (t : ℕ). build (type_of (a.depth - 1)) t (c.before.before.before.before.before.before.before.before.before.before.cell2.result % 64) c.before.before.before.before.before.before.before.before.before.cell3.result) c.before.if4.true) (arrayOf-wrong (head_read a.leads.now a.file.now a.at c.before.before.before.before.before.before.before.head_at.ensures.1 c.before.before.before.before.before.n.given.1 c.before.before.before.kind-at.ensures.1 c.before.before.head-kind.ensures) (type_of (a.depth - 1) c.before.before.before.before.before.before.before.before.before.cell3.result) c.if5.true)
+    value_as (type_of a.depth a.code) (array_of (type_of (a.depth - 1) c.before.before.before.before.before.before.before.before.before.cell3.result)) (type-read a.depth a.code (pos_of_ne-zero c.before.before.before.before.before.before.before.before.before.before.before.before.before.if1.false) c.before.before.before.before.before.before.before.before.before.before.before.before.if2.false c.before.before.before.before.before.before.before.before.before.before.before.cell.ensures.0 c.before.before.before.before.before.before.before.before.before.before.cell2.ensures.0 c.before.before.before.before.before.before.before.before.before.cell3.ensures.0 ∙ ap (λ (t : ℕ). build (type_of (a.depth - 1)) t (c.before.before.before.before.before.before.before.before.before.before.cell2.result % 64) c.before.before.before.before.before.before.before.before.before.cell3.result) c.before.if4.true) (array_of-wrong (head_read a.leads.now a.file.now a.at c.before.before.before.before.before.before.before.head_at.ensures.1 c.before.before.before.before.before.n.given.1 c.before.before.before.kind-at.ensures.1 c.before.before.head-kind.ensures) (type_of (a.depth - 1) c.before.before.before.before.before.before.before.before.before.cell3.result) c.if5.true)
 
 typed-at-items-typed-requires : (t : ℕ) → typed-at-lts.Need-items-typed-requires (typed-at-claims t) (typed-at-at t) typed_at.Post
 typed-at-items-typed-requires t c κs = (search rules, c.before.before.before.before.before.before.before.before.before.before.before.before.before.before.before.requires.1)
@@ -243,13 +243,13 @@ typed-at-items-typed-requires t c κs = (search rules, c.before.before.before.be
 typed-at-returns-6 : (t : ℕ) → typed-at-lts.Need-returns-6 (typed-at-claims t) (typed-at-at t) typed_at.Post
 typed-at-returns-6 t c =
     let a = c.before.before.before.before.before.before.before.before.before.before.before.before.before.before.before.before.args in
-    value_as (type_of a.depth a.code) (array_of (type_of (a.depth - 1) c.before.before.before.before.before.before.before.before.before.before.cell3.result)) (type-read a.depth a.code (pos_of_ne-zero c.before.before.before.before.before.before.before.before.before.before.before.before.before.before.if1.false) c.before.before.before.before.before.before.before.before.before.before.before.before.before.if2.false c.before.before.before.before.before.before.before.before.before.before.before.before.cell.ensures.0 c.before.before.before.before.before.before.before.before.before.before.before.cell2.ensures.0 c.before.before.before.before.before.before.before.before.before.before.cell3.ensures.0 ∙ ap (λ (t : ℕ). build (type_of (a.depth - 1)) t (c.before.before.before.before.before.before.before.before.before.before.before.cell2.result % 64) c.before.before.before.before.before.before.before.before.before.before.cell3.result) c.before.before.if4.true) (arrayOf-says (head_read a.leads.now a.file.now a.at c.before.before.before.before.before.before.before.before.head_at.ensures.1 c.before.before.before.before.before.before.n.given.1 c.before.before.before.before.kind-at.ensures.1 c.before.before.before.head-kind.ensures) (type_of (a.depth - 1) c.before.before.before.before.before.before.before.before.before.before.cell3.result) c.before.if5.false c.items-typed.ensures)
+    value_as (type_of a.depth a.code) (array_of (type_of (a.depth - 1) c.before.before.before.before.before.before.before.before.before.before.cell3.result)) (type-read a.depth a.code (pos_of_ne-zero c.before.before.before.before.before.before.before.before.before.before.before.before.before.before.if1.false) c.before.before.before.before.before.before.before.before.before.before.before.before.before.if2.false c.before.before.before.before.before.before.before.before.before.before.before.before.cell.ensures.0 c.before.before.before.before.before.before.before.before.before.before.before.cell2.ensures.0 c.before.before.before.before.before.before.before.before.before.before.cell3.ensures.0 ∙ ap (λ (t : ℕ). build (type_of (a.depth - 1)) t (c.before.before.before.before.before.before.before.before.before.before.before.cell2.result % 64) c.before.before.before.before.before.before.before.before.before.before.cell3.result) c.before.before.if4.true) (array_of-says (head_read a.leads.now a.file.now a.at c.before.before.before.before.before.before.before.before.head_at.ensures.1 c.before.before.before.before.before.before.n.given.1 c.before.before.before.before.kind-at.ensures.1 c.before.before.before.head-kind.ensures) (type_of (a.depth - 1) c.before.before.before.before.before.before.before.before.before.before.cell3.result) c.before.if5.false c.items-typed.ensures)
 
 typed-at-returns-7 : (t : ℕ) → typed-at-lts.Need-returns-7 (typed-at-claims t) (typed-at-at t) typed_at.Post
 typed-at-returns-7 t c =
     let a = c.before.before.before.before.before.before.before.before.before.before.before.before.before.before.before.args in
     let large : 3 < c.before.before.before.before.before.before.before.before.before.before.before.cell.result = omega arith in
-    value_as (type_of a.depth a.code) (mapWith (rows_from (type_of (a.depth - 1)) (c.before.before.before.before.before.before.before.before.before.before.cell2.result % 64) c.before.before.before.before.before.before.before.before.before.cell3.result)) (type-read a.depth a.code (pos_of_ne-zero c.before.before.before.before.before.before.before.before.before.before.before.before.before.if1.false) c.before.before.before.before.before.before.before.before.before.before.before.before.if2.false c.before.before.before.before.before.before.before.before.before.before.before.cell.ensures.0 c.before.before.before.before.before.before.before.before.before.before.cell2.ensures.0 c.before.before.before.before.before.before.before.before.before.cell3.ensures.0 ∙ build-map (type_of (a.depth - 1)) c.before.before.before.before.before.before.before.before.before.before.before.cell.result (c.before.before.before.before.before.before.before.before.before.before.cell2.result % 64) c.before.before.before.before.before.before.before.before.before.cell3.result large) (mapWith-wrong (head_read a.leads.now a.file.now a.at c.before.before.before.before.before.before.before.head_at.ensures.1 c.before.before.before.before.before.n.given.1 c.before.before.before.kind-at.ensures.1 c.before.before.head-kind.ensures) (rows_from (type_of (a.depth - 1)) (c.before.before.before.before.before.before.before.before.before.before.cell2.result % 64) c.before.before.before.before.before.before.before.before.before.cell3.result) c.if6.true)
+    value_as (type_of a.depth a.code) (map_with (rows_from (type_of (a.depth - 1)) (c.before.before.before.before.before.before.before.before.before.before.cell2.result % 64) c.before.before.before.before.before.before.before.before.before.cell3.result)) (type-read a.depth a.code (pos_of_ne-zero c.before.before.before.before.before.before.before.before.before.before.before.before.before.if1.false) c.before.before.before.before.before.before.before.before.before.before.before.before.if2.false c.before.before.before.before.before.before.before.before.before.before.before.cell.ensures.0 c.before.before.before.before.before.before.before.before.before.before.cell2.ensures.0 c.before.before.before.before.before.before.before.before.before.cell3.ensures.0 ∙ build-map (type_of (a.depth - 1)) c.before.before.before.before.before.before.before.before.before.before.before.cell.result (c.before.before.before.before.before.before.before.before.before.before.cell2.result % 64) c.before.before.before.before.before.before.before.before.before.cell3.result large) (map_with-wrong (head_read a.leads.now a.file.now a.at c.before.before.before.before.before.before.before.head_at.ensures.1 c.before.before.before.before.before.n.given.1 c.before.before.before.kind-at.ensures.1 c.before.before.head-kind.ensures) (rows_from (type_of (a.depth - 1)) (c.before.before.before.before.before.before.before.before.before.before.cell2.result % 64) c.before.before.before.before.before.before.before.before.before.cell3.result) c.if6.true)
 
 typed-at-entries-typed-requires : (t : ℕ) → typed-at-lts.Need-entries-typed-requires (typed-at-claims t) (typed-at-at t) typed_at.Post
 typed-at-entries-typed-requires t c κs =
@@ -261,7 +261,7 @@ typed-at-returns-8 : (t : ℕ) → typed-at-lts.Need-returns-8 (typed-at-claims 
 typed-at-returns-8 t c =
     let a = c.before.before.before.before.before.before.before.before.before.before.before.before.before.before.before.before.args in
     let large : 3 < c.before.before.before.before.before.before.before.before.before.before.before.before.cell.result = omega arith in
-    value_as (type_of a.depth a.code) (mapWith (rows_from (type_of (a.depth - 1)) (c.before.before.before.before.before.before.before.before.before.before.before.cell2.result % 64) c.before.before.before.before.before.before.before.before.before.before.cell3.result)) (type-read a.depth a.code (pos_of_ne-zero c.before.before.before.before.before.before.before.before.before.before.before.before.before.before.if1.false) c.before.before.before.before.before.before.before.before.before.before.before.before.before.if2.false c.before.before.before.before.before.before.before.before.before.before.before.before.cell.ensures.0 c.before.before.before.before.before.before.before.before.before.before.before.cell2.ensures.0 c.before.before.before.before.before.before.before.before.before.before.cell3.ensures.0 ∙ build-map (type_of (a.depth - 1)) c.before.before.before.before.before.before.before.before.before.before.before.before.cell.result (c.before.before.before.before.before.before.before.before.before.before.before.cell2.result % 64) c.before.before.before.before.before.before.before.before.before.before.cell3.result large) (mapWith-says (head_read a.leads.now a.file.now a.at c.before.before.before.before.before.before.before.before.head_at.ensures.1 c.before.before.before.before.before.before.n.given.1 c.before.before.before.before.kind-at.ensures.1 c.before.before.before.head-kind.ensures) (rows_from (type_of (a.depth - 1)) (c.before.before.before.before.before.before.before.before.before.before.before.cell2.result % 64) c.before.before.before.before.before.before.before.before.before.before.cell3.result) c.before.if6.false c.entries-typed.ensures)
+    value_as (type_of a.depth a.code) (map_with (rows_from (type_of (a.depth - 1)) (c.before.before.before.before.before.before.before.before.before.before.before.cell2.result % 64) c.before.before.before.before.before.before.before.before.before.before.cell3.result)) (type-read a.depth a.code (pos_of_ne-zero c.before.before.before.before.before.before.before.before.before.before.before.before.before.before.if1.false) c.before.before.before.before.before.before.before.before.before.before.before.before.before.if2.false c.before.before.before.before.before.before.before.before.before.before.before.before.cell.ensures.0 c.before.before.before.before.before.before.before.before.before.before.before.cell2.ensures.0 c.before.before.before.before.before.before.before.before.before.before.cell3.ensures.0 ∙ build-map (type_of (a.depth - 1)) c.before.before.before.before.before.before.before.before.before.before.before.before.cell.result (c.before.before.before.before.before.before.before.before.before.before.before.cell2.result % 64) c.before.before.before.before.before.before.before.before.before.before.cell3.result large) (map_with-says (head_read a.leads.now a.file.now a.at c.before.before.before.before.before.before.before.before.head_at.ensures.1 c.before.before.before.before.before.before.n.given.1 c.before.before.before.before.kind-at.ensures.1 c.before.before.before.head-kind.ensures) (rows_from (type_of (a.depth - 1)) (c.before.before.before.before.before.before.before.before.before.before.before.cell2.result % 64) c.before.before.before.before.before.before.before.before.before.before.cell3.result) c.before.if6.false c.entries-typed.ensures)
 
 pub +entries-typed-entry-typed-items-typed-row-typed-typed-at-spec : {M : Type 1} → statement M
 +entries-typed-entry-typed-items-typed-row-typed-typed-at-spec =

@@ -6,7 +6,7 @@ use lib.Dec.{lit<}
 use lib.ListN.{length, take, drop, get_or-eq_default}
 use lib.Seq.{get_or-take, get_or-drop}
 use borrow.Author.Rules.{rules}
-use Rattle.heads.specs.Laws.Span.{part_length}
+use Rattle.heads.specs.Laws.Span.{part_length_lem}
 use Rattle.fields.proofs.byte_of.Statement.{statement}
 use Rattle.fields.proofs.byte_of.Tie as tie
 
@@ -18,7 +18,7 @@ returns c =
 returns-2 : tie.Need-returns-2
 returns-2 c =
     let a = c.before.before.args in
-    let l : length (take a.m (drop a.a a.file.now)) ≤ a.i = omega (arith, part_length a.file.now a.a a.m c.before.before.requires) in
+    let l : length (take a.m (drop a.a a.file.now)) ≤ a.i = omega (arith, part_length_lem a.file.now a.a a.m c.before.before.requires) in
     (sym (get_or-eq_default (take a.m (drop a.a a.file.now)) 0 l), lit< tt)
 
 pub byte-of-spec : {M : Type 1} → statement M

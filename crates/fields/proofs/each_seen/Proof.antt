@@ -5,12 +5,12 @@ use native.Mathlib.Omega.{arith}
 use borrow.Author.Rules.{rules}
 use Rattle.fields.specs.Types.{FieldType, Rows}
 use Rattle.fields.specs.Numbers.{rows_from, covered, lacking}
-use Rattle.fields.specs.Laws.Numbers.{rowsLeft, left-all, covered_next, covered-not, covered_none}
+use Rattle.fields.specs.Laws.Numbers.{rows_left, left-all, covered_next, covered-not, covered_none}
 use Rattle.fields.proofs.each_seen.Tie as tie
 use Rattle.fields.proofs.each_seen.Statement.{statement}
 
 abbrev invariant-loop : tie.invariant-loop
-invariant-loop types seen first n rest₀ i₀ rest i = (i ≤ n) × ((f : ℕ → FieldType) → covered (rows_from f n first) seen ≡ covered (rowsLeft f n first i) rest)
+invariant-loop types seen first n rest₀ i₀ rest i = (i ≤ n) × ((f : ℕ → FieldType) → covered (rows_from f n first) seen ≡ covered (rows_left f n first i) rest)
 
 abbrev decreases-loop : tie.decreases-loop
 decreases-loop types seen first n rest₀ i₀ rest i = n - i

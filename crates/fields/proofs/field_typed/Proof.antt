@@ -4,8 +4,8 @@ use native.Mathlib.Omega.{arith}
 use lib.Dec.{lit<}
 use borrow.Author.Rules.{rules}
 use Rattle.fields.specs.Types.{plain}
-use Rattle.fields.specs.Table.{fieldCount}
-use Rattle.fields.specs.Numbers.{type_of, typeDepth, firstField}
+use Rattle.fields.specs.Table.{field_count}
+use Rattle.fields.specs.Numbers.{type_of, type_depth, first_field}
 use Rattle.fields.specs.Laws.Numbers.{plain_type}
 use Rattle.fields.specs.Laws.Steps.{value_as, row-says}
 use Rattle.fields.proofs.field_typed.Statement.{statement}
@@ -15,7 +15,7 @@ returns : tie.Need-returns
 returns c =
     let a = c.before.before.before.before.before.args in
     let code = c.before.before.cell.result in
-    row-says a.leads.now a.file.now (type_of typeDepth) fieldCount firstField a.row c.before.before.before.if1.true c.before.before.cell.ensures.0 (value_as (type_of typeDepth code) (plain (code + 1)) (plain_type typeDepth code (lit< tt) c.before.if2.true) c.plain_at.ensures)
+    row-says a.leads.now a.file.now (type_of type_depth) field_count first_field a.row c.before.before.before.if1.true c.before.before.cell.ensures.0 (value_as (type_of type_depth code) (plain (code + 1)) (plain_type type_depth code (lit< tt) c.before.if2.true) c.plain_at.ensures)
 
 pub field-typed-spec : {M : Type 1} → statement M
 field-typed-spec =

@@ -14,7 +14,7 @@ returns c =
 returns-2 : tie.Need-returns-2
 returns-2 c =
     let a = c.before.before.before.before.before.before.before.before.args in
-    plain-says (head_read a.leads.now a.file.now a.at c.before.before.before.before.before.before.head_at.ensures.1 c.before.before.before.before.n.given.1 c.before.before.kind-at.ensures.1 c.before.head-kind.ensures) a.wanted c.before.before.before.before.before.before.before.before.requires c.plain_end.ensures
+    plain-says (head_read a.leads.now a.file.now a.at c.before.before.before.before.before.before.head_at.ensures.1 c.before.before.before.before.n.given.1 c.before.before.kind-at.ensures.1 c.before.head-kind.ensures) a.wanted c.before.before.before.before.before.before.before.before.requires c.plain_end_lem.ensures
 
 pub headed-at-spec : {M : Type 1} → statement M
 headed-at-spec =

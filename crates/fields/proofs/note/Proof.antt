@@ -7,16 +7,16 @@ use lib.Dec.{lit<}
 use lib.ListN.{length, length-set}
 use borrow.Author.Rules.{rules}
 use Rattle.fields.specs.declared.Fields.{Fields}
-use Rattle.fields.specs.Numbers.{typeTable}
+use Rattle.fields.specs.Numbers.{type_table}
 use Rattle.fields.specs.Laws.Numbers.{named-hinted}
 use Rattle.fields.specs.Laws.Notes.{note-none, note-next, note-spans, note-done}
-use Rattle.fields.specs.Table.{fieldCount}
-use Rattle.fields.specs.Steps.{NoteSays, noPlaces}
+use Rattle.fields.specs.Table.{field_count}
+use Rattle.fields.specs.Steps.{NoteSays, no_places}
 use Rattle.fields.proofs.note.Statement.{statement}
 use Rattle.fields.proofs.note.Tie as tie
 
 abbrev invariant-loop : tie.invariant-loop
-invariant-loop leads file count at types places₀ ends₀ presence₀ typed₀ left₀ p₀ places ends presence typed left p = (types ≡ typeTable) × ((length places ≡ fieldCount) × ((length ends ≡ fieldCount) × ((r : Fields) → NoteSays leads file places ends presence typed left p r → NoteSays leads file noPlaces noPlaces 0 true count at r)))
+invariant-loop leads file count at types places₀ ends₀ presence₀ typed₀ left₀ p₀ places ends presence typed left p = (types ≡ type_table) × ((length places ≡ field_count) × ((length ends ≡ field_count) × ((r : Fields) → NoteSays leads file places ends presence typed left p r → NoteSays leads file no_places no_places 0 true count at r)))
 
 abbrev decreases-loop : tie.decreases-loop
 decreases-loop leads file count at types places₀ ends₀ presence₀ typed₀ left₀ p₀ places ends presence typed left p = left
@@ -24,7 +24,7 @@ decreases-loop leads file count at types places₀ ends₀ presence₀ typed₀ 
 loop-holds : tie.Need-loop-init invariant-loop decreases-loop
 loop-holds c =
     let a = c.before.before.before.before.args in
-    (c.before.before.types.ensures, (ap length c.before.no-places.ensures, (ap length c.no-places2.ensures, λ r h. subst (λ (l : List ℕ). NoteSays a.leads.now a.file.now noPlaces l 0 true a.count a.at r) c.no-places2.ensures (subst (λ (l : List ℕ). NoteSays a.leads.now a.file.now l c.no-places2.result 0 true a.count a.at r) c.before.no-places.ensures h))))
+    (c.before.before.types.ensures, (ap length c.before.no-places.ensures, (ap length c.no-places2.ensures, λ r h. subst (λ (l : List ℕ). NoteSays a.leads.now a.file.now no_places l 0 true a.count a.at r) c.no-places2.ensures (subst (λ (l : List ℕ). NoteSays a.leads.now a.file.now l c.no-places2.result 0 true a.count a.at r) c.before.no-places.ensures h))))
 
 row-of-requires : tie.Need-row-of-requires invariant-loop decreases-loop
 row-of-requires c κs = (c.before.before.before.loop.invariant.0, (c.before.key-at.ensures.0, (lit< tt, (lit< tt, named-hinted))))

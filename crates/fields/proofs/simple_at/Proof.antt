@@ -5,7 +5,7 @@ use Prim.Native.Nat.{ℕ, zero, suc, ◌<◌}
 use native.Mathlib.Omega.{arith}
 use borrow.Author.Rules.{rules}
 use Rattle.fields.specs.Types.{FieldType, plain, array_of, exactly}
-use Rattle.fields.specs.Laws.Steps.{HeadRead, value_as, value-cut, head_read, arrayOf-wrong, arrayOf-says, exactly-wrong, exactly-says, exactly-other}
+use Rattle.fields.specs.Laws.Steps.{HeadRead, value_as, value-cut, head_read, array_of-wrong, array_of-says, exactly-wrong, exactly-says, exactly-other}
 use Rattle.fields.specs.Steps.{ValueSays}
 use Rattle.fields.specs.Numbers.{build}
 use Rattle.fields.specs.Tests.{typed}
@@ -25,7 +25,7 @@ returns-2 c =
 -- an array is of neither type where the kind is another
 array-wrong : (f : ℕ → FieldType) (tag many wanted : ℕ) → (tag ≡ 0 → ⊥) → tag < 3 → {leads s : List ℕ} {at n p k : ℕ} → HeadRead leads s at n p k → (k ≡ 5 → ⊥) → ValueSays leads s (typed (build f tag many wanted)) at 0
 array-wrong f zero m w d l h o = absurd (d refl)
-array-wrong f (suc zero) m w d l h o = arrayOf-wrong h (plain w) o
+array-wrong f (suc zero) m w d l h o = array_of-wrong h (plain w) o
 array-wrong f (suc (suc zero)) m w d l h o = exactly-wrong h m (plain w) o
 array-wrong f (suc (suc (suc t))) m w d l h o = absurd (omega arith)
 
@@ -37,7 +37,7 @@ returns-3 c =
 returns-4 : tie.Need-returns-4
 returns-4 c =
     let a = c.before.before.before.before.before.before.before.before.before.before.before.args in
-    λ f. value_as (build f a.tag a.many a.wanted) (array_of (plain a.wanted)) (ap (λ (t : ℕ). build f t a.many a.wanted) c.before.if3.true) (arrayOf-says (head_read a.leads.now a.file.now a.at c.before.before.before.before.before.before.before.before.head_at.ensures.1 c.before.before.before.before.before.before.n.given.1 c.before.before.before.before.kind-at.ensures.1 c.before.before.before.head-kind.ensures) (plain a.wanted) c.before.before.if2.false c.plain-items.ensures)
+    λ f. value_as (build f a.tag a.many a.wanted) (array_of (plain a.wanted)) (ap (λ (t : ℕ). build f t a.many a.wanted) c.before.if3.true) (array_of-says (head_read a.leads.now a.file.now a.at c.before.before.before.before.before.before.before.before.head_at.ensures.1 c.before.before.before.before.before.before.n.given.1 c.before.before.before.before.kind-at.ensures.1 c.before.before.before.head-kind.ensures) (plain a.wanted) c.before.before.if2.false c.plain-items.ensures)
 
 returns-5 : tie.Need-returns-5
 returns-5 c =

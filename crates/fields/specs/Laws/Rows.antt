@@ -17,13 +17,13 @@ use Rattle.messagepack.specs.Rules.{NoKey}
 use Rattle.values.specs.Parts.{look}
 use Rattle.values.specs.Laws.Parts.{look_none}
 use Rattle.fields.specs.Types.{Rows, last, row}
-use Rattle.fields.specs.Tests.{isThere, onValue, typed, fitting}
-use Rattle.fields.specs.Fields.{setOf, present, findRow, rowCount, rowValue}
-use Rattle.fields.specs.Numbers.{rowTest, newName, distinctNames, marked}
+use Rattle.fields.specs.Tests.{is_there, on_value, typed, fitting}
+use Rattle.fields.specs.Fields.{set_of, present, find_row, row_count, row_value}
+use Rattle.fields.specs.Numbers.{row_test, new_name, distinct_names, marked}
 use Rattle.fields.specs.Laws.Sets.{set-marked}
 
-pub present-length : (rows : Rows) (es : Entries) → length (present rows es) ≡ rowCount rows
-unfolding present rowCount
+pub present-length : (rows : Rows) (es : Entries) → length (present rows es) ≡ row_count rows
+unfolding present row_count
 present-length last es = refl
 present-length (row k q t rows) es = ap suc (present-length rows es)
 
@@ -40,21 +40,21 @@ not-false true e = clash e
 not-false false e = refl
 
 module _ (k : List ℕ) (x : Document) (es : Entries) where
-  fitting-other : (rows : Rows) → newName k rows ≡ true → fitting rows (entry k x es) ≡ fitting rows es
-  unfolding fitting newName look
+  fitting-other : (rows : Rows) → new_name k rows ≡ true → fitting rows (entry k x es) ≡ fitting rows es
+  unfolding fitting new_name look
   fitting-other last h = refl
-  fitting-other (row l q t rows) h = rw (not-false (equal k l) (and_left (not (equal k l)) (newName k rows) h), fitting-other rows (and_right (not (equal k l)) (newName k rows) h))
+  fitting-other (row l q t rows) h = rw (not-false (equal k l) (and_left (not (equal k l)) (new_name k rows) h), fitting-other rows (and_right (not (equal k l)) (new_name k rows) h))
 
-  present-other : (rows : Rows) → newName k rows ≡ true → present rows (entry k x es) ≡ present rows es
-  unfolding present newName look
+  present-other : (rows : Rows) → new_name k rows ≡ true → present rows (entry k x es) ≡ present rows es
+  unfolding present new_name look
   present-other last h = refl
-  present-other (row l q t rows) h = rw (not-false (equal k l) (and_left (not (equal k l)) (newName k rows) h), present-other rows (and_right (not (equal k l)) (newName k rows) h))
+  present-other (row l q t rows) h = rw (not-false (equal k l) (and_left (not (equal k l)) (new_name k rows) h), present-other rows (and_right (not (equal k l)) (new_name k rows) h))
 
-  valueOf-other : (i : ℕ) (rows : Rows) → newName k rows ≡ true → rowValue i rows (entry k x es) ≡ rowValue i rows es
-  unfolding rowValue newName look
-  valueOf-other i last h = refl
-  valueOf-other zero (row l q t rows) h = rw (not-false (equal k l) (and_left (not (equal k l)) (newName k rows) h))
-  valueOf-other (suc i) (row l q t rows) h = valueOf-other i rows (and_right (not (equal k l)) (newName k rows) h)
+  value_of-other : (i : ℕ) (rows : Rows) → new_name k rows ≡ true → row_value i rows (entry k x es) ≡ row_value i rows es
+  unfolding row_value new_name look
+  value_of-other i last h = refl
+  value_of-other zero (row l q t rows) h = rw (not-false (equal k l) (and_left (not (equal k l)) (new_name k rows) h))
+  value_of-other (suc i) (row l q t rows) h = value_of-other i rows (and_right (not (equal k l)) (new_name k rows) h)
 
 swap : (a b c : Bool) → a && (b && c) ≡ b && (a && c)
 swap true b c = refl
@@ -63,49 +63,49 @@ swap false false c = refl
 
 module _ (k : List ℕ) (x : Document) (es : Entries) where
   -- each named key has its type: the first one has, and the rest
-  pub fitting-entry : (rows : Rows) → distinctNames rows ≡ true → NoKey k es → fitting rows (entry k x es) ≡ (rowTest (findRow k rows) rows x && fitting rows es)
-  unfolding fitting distinctNames look findRow rowTest
+  pub fitting-entry : (rows : Rows) → distinct_names rows ≡ true → NoKey k es → fitting rows (entry k x es) ≡ (row_test (find_row k rows) rows x && fitting rows es)
+  unfolding fitting distinct_names look find_row row_test
   fitting-entry last d f = refl
-  fitting-entry (row l q t rows) d f = go (equal k l) refl (fitting-entry rows (and_right (newName l rows) (distinctNames rows) d) f)
+  fitting-entry (row l q t rows) d f = go (equal k l) refl (fitting-entry rows (and_right (new_name l rows) (distinct_names rows) d) f)
     where
-      go : (b : Bool) → equal k l ≡ b → fitting rows (entry k x es) ≡ (rowTest (findRow k rows) rows x && fitting rows es) → (onValue (cond b (some x) (look l es)) (λ y. typed t y) && fitting rows (entry k x es)) ≡ (rowTest (cond b 0 (suc (findRow k rows))) (row l q t rows) x && (onValue (look l es) (λ y. typed t y) && fitting rows es))
+      go : (b : Bool) → equal k l ≡ b → fitting rows (entry k x es) ≡ (row_test (find_row k rows) rows x && fitting rows es) → (on_value (cond b (some x) (look l es)) (λ y. typed t y) && fitting rows (entry k x es)) ≡ (row_test (cond b 0 (suc (find_row k rows))) (row l q t rows) x && (on_value (look l es) (λ y. typed t y) && fitting rows es))
       go true e rest =
           let p : k ≡ l = equal-true k l e in
           let n : look l es ≡ nothing = look_none l es (rw p at f) in
-          let o : newName k rows ≡ true = rw p (and_left (newName l rows) (distinctNames rows) d) in
+          let o : new_name k rows ≡ true = rw p (and_left (new_name l rows) (distinct_names rows) d) in
           rw (n, fitting-other k x es rows o)
-      go false e rest = rw rest (swap (onValue (look l es) (λ y. typed t y)) (rowTest (findRow k rows) rows x) (fitting rows es))
+      go false e rest = rw rest (swap (on_value (look l es) (λ y. typed t y)) (row_test (find_row k rows) rows x) (fitting rows es))
 
   -- the keys that are there: the first one besides
-  pub present-entry : (rows : Rows) → distinctNames rows ≡ true → present rows (entry k x es) ≡ set (present rows es) (findRow k rows) true
-  unfolding present distinctNames look findRow
+  pub present-entry : (rows : Rows) → distinct_names rows ≡ true → present rows (entry k x es) ≡ set (present rows es) (find_row k rows) true
+  unfolding present distinct_names look find_row
   present-entry last d = refl
-  present-entry (row l q t rows) d = go (equal k l) refl (present-entry rows (and_right (newName l rows) (distinctNames rows) d))
+  present-entry (row l q t rows) d = go (equal k l) refl (present-entry rows (and_right (new_name l rows) (distinct_names rows) d))
     where
-      go : (b : Bool) → equal k l ≡ b → present rows (entry k x es) ≡ set (present rows es) (findRow k rows) true → ◌≡◌ {A = List Bool} (isThere (cond b (some x) (look l es)) ∷ present rows (entry k x es)) (set (isThere (look l es) ∷ present rows es) (cond b 0 (suc (findRow k rows))) true)
+      go : (b : Bool) → equal k l ≡ b → present rows (entry k x es) ≡ set (present rows es) (find_row k rows) true → ◌≡◌ {A = List Bool} (is_there (cond b (some x) (look l es)) ∷ present rows (entry k x es)) (set (is_there (look l es) ∷ present rows es) (cond b 0 (suc (find_row k rows))) true)
       go true e rest =
           let p : k ≡ l = equal-true k l e in
-          let o : newName k rows ≡ true = rw p (and_left (newName l rows) (distinctNames rows) d) in
+          let o : new_name k rows ≡ true = rw p (and_left (new_name l rows) (distinct_names rows) d) in
           rw (present-other k x es rows o)
       go false e rest = rw rest
 
-  pub present-marked : (rows : Rows) → distinctNames rows ≡ true → setOf (present rows (entry k x es)) ≡ marked (rowCount rows) (setOf (present rows es)) (findRow k rows)
-  present-marked rows d = ap setOf (present-entry rows d) ∙ set-marked (present rows es) (findRow k rows) (rowCount rows) (present-length rows es)
+  pub present-marked : (rows : Rows) → distinct_names rows ≡ true → set_of (present rows (entry k x es)) ≡ marked (row_count rows) (set_of (present rows es)) (find_row k rows)
+  present-marked rows d = ap set_of (present-entry rows d) ∙ set-marked (present rows es) (find_row k rows) (row_count rows) (present-length rows es)
 
   -- the values of the rows: one is the first entry's
-  pub valueOf-entry : (i : ℕ) (rows : Rows) → distinctNames rows ≡ true → i < rowCount rows → rowValue i rows (entry k x es) ≡ cond (eqb i (findRow k rows)) (some x) (rowValue i rows es)
-  unfolding rowValue distinctNames look findRow rowCount
-  valueOf-entry i last d lt = absurd (omega arith)
-  valueOf-entry zero (row l q t rows) d lt = go (equal k l) refl
+  pub value_of-entry : (i : ℕ) (rows : Rows) → distinct_names rows ≡ true → i < row_count rows → row_value i rows (entry k x es) ≡ cond (eqb i (find_row k rows)) (some x) (row_value i rows es)
+  unfolding row_value distinct_names look find_row row_count
+  value_of-entry i last d lt = absurd (omega arith)
+  value_of-entry zero (row l q t rows) d lt = go (equal k l) refl
     where
-      go : (b : Bool) → equal k l ≡ b → cond b (some x) (look l es) ≡ cond (eqb 0 (cond b 0 (suc (findRow k rows)))) (some x) (look l es)
+      go : (b : Bool) → equal k l ≡ b → cond b (some x) (look l es) ≡ cond (eqb 0 (cond b 0 (suc (find_row k rows)))) (some x) (look l es)
       go true e = refl
       go false e = rw eqb-zero-suc
-  valueOf-entry (suc i) (row l q t rows) d lt = go (equal k l) refl (valueOf-entry i rows (and_right (newName l rows) (distinctNames rows) d) (omega arith))
+  value_of-entry (suc i) (row l q t rows) d lt = go (equal k l) refl (value_of-entry i rows (and_right (new_name l rows) (distinct_names rows) d) (omega arith))
     where
-      go : (b : Bool) → equal k l ≡ b → rowValue i rows (entry k x es) ≡ cond (eqb i (findRow k rows)) (some x) (rowValue i rows es) → rowValue i rows (entry k x es) ≡ cond (eqb (suc i) (cond b 0 (suc (findRow k rows)))) (some x) (rowValue i rows es)
+      go : (b : Bool) → equal k l ≡ b → row_value i rows (entry k x es) ≡ cond (eqb i (find_row k rows)) (some x) (row_value i rows es) → row_value i rows (entry k x es) ≡ cond (eqb (suc i) (cond b 0 (suc (find_row k rows)))) (some x) (row_value i rows es)
       go true e rest =
           let p : k ≡ l = equal-true k l e in
-          let o : newName k rows ≡ true = rw p (and_left (newName l rows) (distinctNames rows) d) in
-          rw eqb-suc-zero (valueOf-other k x es i rows o)
+          let o : new_name k rows ≡ true = rw p (and_left (new_name l rows) (distinct_names rows) d) in
+          rw eqb-suc-zero (value_of-other k x es i rows o)
       go false e rest = rw eqb-suc-suc rest

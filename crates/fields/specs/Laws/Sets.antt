@@ -11,9 +11,9 @@ use Rattle.numbers.specs.Laws.Tests.{clash, and_left, and_right}
 use Rattle.messagepack.specs.Document.{Entries, empty}
 use Rattle.values.specs.Parts.{look}
 use Rattle.fields.specs.Types.{Rows, last, row}
-use Rattle.fields.specs.Tests.{isThere, have}
-use Rattle.fields.specs.Table.{named, fieldCount, requiredFields}
-use Rattle.fields.specs.Fields.{bit, setOf, memberCount, present, presenceOf, presentCount, rowCount}
+use Rattle.fields.specs.Tests.{is_there, have}
+use Rattle.fields.specs.Table.{named, field_count, required_fields}
+use Rattle.fields.specs.Fields.{bit, set_of, member_count, present, presence_of, present_count, row_count}
 use Rattle.fields.specs.Numbers.{covered, marked}
 
 -- the union of sets
@@ -54,14 +54,14 @@ ones_none : ones 0 ≡ 0
 unfolding ones
 ones_none = refl
 
-pub ones-setOf : (bs : List Bool) → ones (setOf bs) ≡ memberCount bs
-unfolding setOf memberCount
-ones-setOf [] = ones_none
-ones-setOf (b ∷ bs) = ones_step (bit b + setOf bs * 2) ∙ ap₂ (λ (x y : ℕ). x + ones y) (set-odd b (setOf bs)) (set-half b (setOf bs)) ∙ ap (λ (x : ℕ). bit b + x) (ones-setOf bs)
+pub ones-set_of : (bs : List Bool) → ones (set_of bs) ≡ member_count bs
+unfolding set_of member_count
+ones-set_of [] = ones_none
+ones-set_of (b ∷ bs) = ones_step (bit b + set_of bs * 2) ∙ ap₂ (λ (x y : ℕ). x + ones y) (set-odd b (set_of bs)) (set-half b (set_of bs)) ∙ ap (λ (x : ℕ). bit b + x) (ones-set_of bs)
 
-pub ones-presence : (es : Entries) → ones (presenceOf es) ≡ presentCount es
-unfolding presenceOf presentCount
-ones-presence es = ones-setOf (present named es)
+pub ones-presence : (es : Entries) → ones (presence_of es) ≡ present_count es
+unfolding presence_of present_count
+ones-presence es = ones-set_of (present named es)
 
 -- at most as many as there are rows, and at least the required ones where they are there
 
@@ -69,33 +69,33 @@ bit-most : (b : Bool) → bit b ≤ 1
 bit-most true = omega arith
 bit-most false = omega arith
 
-count_most : (rows : Rows) (es : Entries) → memberCount (present rows es) ≤ rowCount rows
-unfolding present memberCount rowCount
+count_most : (rows : Rows) (es : Entries) → member_count (present rows es) ≤ row_count rows
+unfolding present member_count row_count
 count_most last es = omega arith
-count_most (row k q t rows) es = omega (arith, bit-most (isThere (look k es)), count_most rows es)
+count_most (row k q t rows) es = omega (arith, bit-most (is_there (look k es)), count_most rows es)
 
-requiredCount : Rows → ℕ
-requiredCount last = 0
-requiredCount (row k q t rows) = bit q + requiredCount rows
+required_count : Rows → ℕ
+required_count last = 0
+required_count (row k q t rows) = bit q + required_count rows
 
 bit-least : (q b : Bool) → not q || b ≡ true → bit q ≤ bit b
 bit-least true true h = omega arith
 bit-least true false h = clash h
 bit-least false b h = omega arith
 
-count-least : (rows : Rows) (es : Entries) → have rows es ≡ true → requiredCount rows ≤ memberCount (present rows es)
-unfolding present memberCount have requiredCount
+count-least : (rows : Rows) (es : Entries) → have rows es ≡ true → required_count rows ≤ member_count (present rows es)
+unfolding present member_count have required_count
 count-least last es h = omega arith
 count-least (row k q t rows) es h =
-    let here = bit-least q (isThere (look k es)) (and_left (not q || isThere (look k es)) (have rows es) h) in
-    omega (arith, count-least rows es (and_right (not q || isThere (look k es)) (have rows es) h))
+    let here = bit-least q (is_there (look k es)) (and_left (not q || is_there (look k es)) (have rows es) h) in
+    omega (arith, count-least rows es (and_right (not q || is_there (look k es)) (have rows es) h))
 
-pub present-most : (es : Entries) → presentCount es ≤ fieldCount
-unfolding presentCount named rowCount
+pub present-most : (es : Entries) → present_count es ≤ field_count
+unfolding present_count named row_count
 present-most es = count_most named es
 
-pub present-least : (es : Entries) → have named es ≡ true → requiredFields ≤ presentCount es
-unfolding presentCount named requiredCount
+pub present-least : (es : Entries) → have named es ≡ true → required_fields ≤ present_count es
+unfolding present_count named required_count
 present-least es h = count-least named es h
 
 -- one more in it
@@ -108,27 +108,27 @@ max_none : (b : Bool) → max (bit b) 0 ≡ bit b
 max_none true = refl
 max_none false = refl
 
-or-one : (bs : List Bool) (i : ℕ) → i < length bs → bit_or (setOf bs) (2 ^ i) ≡ setOf (set bs i true)
-unfolding setOf
+or-one : (bs : List Bool) (i : ℕ) → i < length bs → bit_or (set_of bs) (2 ^ i) ≡ set_of (set bs i true)
+unfolding set_of
 or-one [] i h = absurd (omega arith)
-or-one (b ∷ bs) zero h = or_step (bit b + setOf bs * 2) 1 ∙ rw (set-half b (setOf bs), set-odd b (setOf bs), or_zero_r (setOf bs), max-one b) (omega arith)
+or-one (b ∷ bs) zero h = or_step (bit b + set_of bs * 2) 1 ∙ rw (set-half b (set_of bs), set-odd b (set_of bs), or_zero_r (set_of bs), max-one b) (omega arith)
 or-one (b ∷ bs) (suc i) h =
     let p = pow-suc 2 i in
     let e : 2 ^ suc i / 2 ≡ 2 ^ i = omega arith in
     let z : 2 ^ suc i % 2 ≡ 0 = omega arith in
-    or_step (bit b + setOf bs * 2) (2 ^ suc i) ∙ rw (set-half b (setOf bs), set-odd b (setOf bs), e, z, max_none b, or-one bs i (omega arith)) (omega arith)
+    or_step (bit b + set_of bs * 2) (2 ^ suc i) ∙ rw (set-half b (set_of bs), set-odd b (set_of bs), e, z, max_none b, or-one bs i (omega arith)) (omega arith)
 
-pub set-marked : (bs : List Bool) (i n : ℕ) → length bs ≡ n → setOf (set bs i true) ≡ marked n (setOf bs) i
+pub set-marked : (bs : List Bool) (i n : ℕ) → length bs ≡ n → set_of (set bs i true) ≡ marked n (set_of bs) i
 set-marked bs i n l = go (ltb i n) refl
   where
-    go : (t : Bool) → ltb i n ≡ t → setOf (set bs i true) ≡ cond t (bit_or (setOf bs) (2 ^ i)) (setOf bs)
+    go : (t : Bool) → ltb i n ≡ t → set_of (set bs i true) ≡ cond t (bit_or (set_of bs) (2 ^ i)) (set_of bs)
     go true e = sym (or-one bs i (omega (arith, ltb-true i n e)))
-    go false e = ap setOf (set_out bs i true (omega (arith, ltb-false i n e)))
+    go false e = ap set_of (set_out bs i true (omega (arith, ltb-false i n e)))
 
 -- nothing is in the set of no entries
 
-pub present-none : (rows : Rows) → setOf (present rows empty) ≡ 0
-unfolding setOf present look
+pub present-none : (rows : Rows) → set_of (present rows empty) ≡ 0
+unfolding set_of present look
 present-none last = refl
 present-none (row k q t rows) = rw (present-none rows)
 
@@ -138,7 +138,7 @@ bit-one : (b : Bool) → eqb (bit b) 1 ≡ b
 bit-one true = refl
 bit-one false = refl
 
-pub covered-have : (rows : Rows) (es : Entries) → covered rows (setOf (present rows es)) ≡ have rows es
-unfolding covered have present setOf
+pub covered-have : (rows : Rows) (es : Entries) → covered rows (set_of (present rows es)) ≡ have rows es
+unfolding covered have present set_of
 covered-have last es = refl
-covered-have (row k q t rows) es = rw (set-odd (isThere (look k es)) (setOf (present rows es)), set-half (isThere (look k es)) (setOf (present rows es)), bit-one (isThere (look k es)), covered-have rows es)
+covered-have (row k q t rows) es = rw (set-odd (is_there (look k es)) (set_of (present rows es)), set-half (is_there (look k es)) (set_of (present rows es)), bit-one (is_there (look k es)), covered-have rows es)

@@ -8,8 +8,8 @@ use mathlib.Core.List.{List}
 use Rattle.std.specs.Int.Bits.{bit_or, or_zero_r}
 use Rattle.std.proofs.Math.Dec.{eqb}
 use Rattle.std.proofs.Math.ListN.{length}
-use Rattle.heads.specs.Head.{kind_at, headAt}
-use Rattle.heads.specs.Table.{leadTable}
+use Rattle.heads.specs.Head.{kind_at, head_at}
+use Rattle.heads.specs.Table.{lead_table}
 use Rattle.heads.specs.Laws.Head.{Told, alone-head, float-kind, float-head}
 use Rattle.heads.specs.Laws.Table.{low-lead, array-lead, string-lead}
 use Rattle.heads.specs.declared.Head.{Head}
@@ -21,11 +21,11 @@ use Rattle.values.specs.Standing.{Standing, LowRun}
 use Rattle.values.specs.Laws.Standing.{low_first, low-rest}
 use Rattle.values.specs.Laws.Places.{at-inside, at-standing, open_array, open-map, OpenText, open-string, open-binary, open-float, OpenInteger, unsigned, signed, open-integer, open-item, open-entry}
 use Rattle.values.specs.declared.Part.{Part}
-use Rattle.fields.specs.Types.{FieldType, Rows, plain, array_of, exactly, mapWith, documentKind}
-use Rattle.fields.specs.Tests.{onArray, onMap, all, have, typed, fitting}
-use Rattle.fields.specs.Fields.{setOf, present, findRow, rowCount}
-use Rattle.fields.specs.Numbers.{code_of, rows_from, rowTest, covered, marked, distinctNames}
-use Rattle.fields.specs.Steps.{endsIf, headKind, plainEnd, ValueSays, ItemsSay, RunSays, EntriesSay}
+use Rattle.fields.specs.Types.{FieldType, Rows, plain, array_of, exactly, map_with, document_kind}
+use Rattle.fields.specs.Tests.{on_array, on_map, all, have, typed, fitting}
+use Rattle.fields.specs.Fields.{set_of, present, find_row, row_count}
+use Rattle.fields.specs.Numbers.{code_of, rows_from, row_test, covered, marked, distinct_names}
+use Rattle.fields.specs.Steps.{ends_if, head_kind, plain_end, ValueSays, ItemsSay, RunSays, EntriesSay}
 use Rattle.fields.specs.Laws.Sets.{or_later, present-none, covered-have}
 use Rattle.fields.specs.Laws.Rows.{fitting-none, fitting-entry, present-marked}
 use Rattle.fields.specs.Laws.Numbers.{row_typed, row-free}
@@ -35,7 +35,7 @@ use Rattle.fields.specs.Laws.Numbers.{row_typed, row-free}
 pub record Headed (s : List ℕ) (at : ℕ) : Type 0 where
   pub n : ℕ
   pub p : ℕ
-  pub is : headAt s at ≡ Head.At n p
+  pub is : head_at s at ≡ Head.At n p
 
 abbrev told-head : {s : List ℕ} {at : ℕ} {k : Kind} {n p : ℕ} → Told s at k n p → Headed s at
 told-head {n = n} {p = p} t = record { n = n; p = p; is = t.head }
@@ -52,30 +52,30 @@ head-there (binary t) a = told-head (open-binary a).told
 head-there (array ds) a = told-head (open_array a).told
 head-there (map es) a = told-head (open-map a).told
 
-kind-integer : {s : List ℕ} {at : ℕ} {v : _} {e : ℕ} → OpenInteger s at v e → headKind (kind_at s at) ≡ 1
-kind-integer (unsigned n t q) = ap headKind t.kind
-kind-integer (signed k n t q l m i) = ap headKind t.kind
+kind-integer : {s : List ℕ} {at : ℕ} {v : _} {e : ℕ} → OpenInteger s at v e → head_kind (kind_at s at) ≡ 1
+kind-integer (unsigned n t q) = ap head_kind t.kind
+kind-integer (signed k n t q l m i) = ap head_kind t.kind
 
-pub kind-there : {s : List ℕ} {at : ℕ} (x : Document) {e : ℕ} → At s at x e → headKind (kind_at s at) ≡ documentKind x
+pub kind-there : {s : List ℕ} {at : ℕ} (x : Document) {e : ℕ} → At s at x e → head_kind (kind_at s at) ≡ document_kind x
 kind-there (integer v) a = kind-integer (open-integer a)
-kind-there (float bits) a = ap headKind (open-float a).kind
-kind-there (string t) a = ap headKind (open-string a).told.kind
-kind-there (binary t) a = ap headKind (open-binary a).told.kind
-kind-there (array ds) a = ap headKind (open_array a).told.kind
-kind-there (map es) a = ap headKind (open-map a).told.kind
+kind-there (float bits) a = ap head_kind (open-float a).kind
+kind-there (string t) a = ap head_kind (open-string a).told.kind
+kind-there (binary t) a = ap head_kind (open-binary a).told.kind
+kind-there (array ds) a = ap head_kind (open_array a).told.kind
+kind-there (map es) a = ap head_kind (open-map a).told.kind
 
 -- a value that holds no others ends with its head, or with its body
 
-with-head : (b : Bool) {p e : ℕ} → p ≡ e → cond b p 0 ≡ endsIf b e
+with-head : (b : Bool) {p e : ℕ} → p ≡ e → cond b p 0 ≡ ends_if b e
 with-head true q = q
 with-head false q = refl
 
-module _ (s : List ℕ) (at n p : ℕ) (h : headAt s at ≡ Head.At n p) where
+module _ (s : List ℕ) (at n p : ℕ) (h : head_at s at ≡ Head.At n p) where
   integer-end : {v : _} {e : ℕ} → OpenInteger s at v e → p ≡ e
   integer-end (unsigned m t q) = let k = t.head in cc
   integer-end (signed k m t q l z i) = let g = t.head in cc
 
-  with-body : {k : Kind} {t : List ℕ} {e : ℕ} (b : Bool) → OpenText s at k t e → cond b (cond (leb (p + n) (length s)) (p + n) 0) 0 ≡ endsIf b e
+  with-body : {k : Kind} {t : List ℕ} {e : ℕ} (b : Bool) → OpenText s at k t e → cond b (cond (leb (p + n) (length s)) (p + n) 0) 0 ≡ ends_if b e
   with-body {t = t} {e = e} true o =
       let g = o.told.head in
       let i : n ≡ length t = cc in
@@ -85,7 +85,7 @@ module _ (s : List ℕ) (at n p : ℕ) (h : headAt s at ≡ Head.At n p) where
       rw (le-leb (p + n) (length s) l) f
   with-body false o = refl
 
-  plain_of : (wanted : ℕ) → wanted ≤ 4 → (x : Document) {e : ℕ} → At s at x e → plainEnd (length s) (documentKind x) wanted n p ≡ endsIf (eqb (documentKind x) wanted) e
+  plain_of : (wanted : ℕ) → wanted ≤ 4 → (x : Document) {e : ℕ} → At s at x e → plain_end (length s) (document_kind x) wanted n p ≡ ends_if (eqb (document_kind x) wanted) e
   plain_of w le (integer v) a = with-head (eqb 1 w) (integer-end (open-integer a))
   plain_of w le (float bits) a = with-head (eqb 2 w) (let g = (open-float a).head in cc)
   plain_of w le (string t) a = with-body (eqb 3 w) (open-string a)
@@ -95,19 +95,19 @@ module _ (s : List ℕ) (at n p : ℕ) (h : headAt s at ≡ Head.At n p) where
 
 -- the head at a place holds n and ends at p, and k is the number of its kind, by a table of lead bytes that is lent
 pub record HeadRead (leads s : List ℕ) (at n p k : ℕ) : Type 0 where
-  pub head : leads ≡ leadTable → headAt s at ≡ Head.At n p
-  pub kind : leads ≡ leadTable → headKind (kind_at s at) ≡ k
+  pub head : leads ≡ lead_table → head_at s at ≡ Head.At n p
+  pub kind : leads ≡ lead_table → head_kind (kind_at s at) ≡ k
 
-pub head_read : (leads s : List ℕ) (at : ℕ) {n p k : ℕ} {h : Head} {kind : Kind} → (leads ≡ leadTable → h ≡ headAt s at) → h ≡ Head.At n p → (leads ≡ leadTable → kind ≡ kind_at s at) → k ≡ headKind kind → HeadRead leads s at n p k
-head_read leads s at r g rk gk = record { head = λ le. sym (r le) ∙ g; kind = λ le. ap headKind (sym (rk le)) ∙ sym gk }
+pub head_read : (leads s : List ℕ) (at : ℕ) {n p k : ℕ} {h : Head} {kind : Kind} → (leads ≡ lead_table → h ≡ head_at s at) → h ≡ Head.At n p → (leads ≡ lead_table → kind ≡ kind_at s at) → k ≡ head_kind kind → HeadRead leads s at n p k
+head_read leads s at r g rk gk = record { head = λ le. sym (r le) ∙ g; kind = λ le. ap head_kind (sym (rk le)) ∙ sym gk }
 
 -- no document has a head that is cut
-pub value-cut : (leads s : List ℕ) (at : ℕ) (f : Document → Bool) {h : Head} → (leads ≡ leadTable → h ≡ headAt s at) → h ≡ Head.Cut → ValueSays leads s f at 0
+pub value-cut : (leads s : List ℕ) (at : ℕ) (f : Document → Bool) {h : Head} → (leads ≡ lead_table → h ≡ head_at s at) → h ≡ Head.Cut → ValueSays leads s f at 0
 value-cut leads s at f r c = record { says = λ le x e a. let d = head-there x a in let i = r le in let j = d.is in cc }
 
 -- no document has the type 0
 
-some-kind : (x : Document) → documentKind x ≡ 0 → ⊥
+some-kind : (x : Document) → document_kind x ≡ 0 → ⊥
 some-kind (integer v) h = omega (arith, h)
 some-kind (float v) h = omega (arith, h)
 some-kind (string v) h = omega (arith, h)
@@ -117,13 +117,13 @@ some-kind (map v) h = omega (arith, h)
 
 pub no_kind : (x : Document) → typed (plain 0) x ≡ false
 unfolding typed
-no_kind x = ne_eqb (documentKind x) 0 (some-kind x)
+no_kind x = ne_eqb (document_kind x) 0 (some-kind x)
 
 pub nothing-says : (leads s : List ℕ) (at : ℕ) (t : FieldType) → t ≡ plain 0 → ValueSays leads s (typed t) at 0
 unfolding typed
 nothing-says leads s at t q = record { says = λ le x e a. rw (q, no_kind x) }
 
-array-not : (f : Documents → Bool) (x : Document) → (documentKind x ≡ 5 → ⊥) → onArray x f ≡ false
+array-not : (f : Documents → Bool) (x : Document) → (document_kind x ≡ 5 → ⊥) → on_array x f ≡ false
 array-not f (integer v) d = refl
 array-not f (float bits) d = refl
 array-not f (string t) d = refl
@@ -131,7 +131,7 @@ array-not f (binary t) d = refl
 array-not f (array ds) d = absurd (d refl)
 array-not f (map es) d = refl
 
-map-not : (f : Entries → Bool) (x : Document) → (documentKind x ≡ 6 → ⊥) → onMap x f ≡ false
+map-not : (f : Entries → Bool) (x : Document) → (document_kind x ≡ 6 → ⊥) → on_map x f ≡ false
 map-not f (integer v) d = refl
 map-not f (float bits) d = refl
 map-not f (string t) d = refl
@@ -147,7 +147,7 @@ pub record Items (s : List ℕ) (x : Document) (n p e : ℕ) : Type 0 where
   pub counts : count ds ≡ n
   pub all : AtAll s p ds e
 
-items_of : (s : List ℕ) (at n p e : ℕ) → headAt s at ≡ Head.At n p → (x : Document) → documentKind x ≡ 5 → At s at x e → Items s x n p e
+items_of : (s : List ℕ) (at n p e : ℕ) → head_at s at ≡ Head.At n p → (x : Document) → document_kind x ≡ 5 → At s at x e → Items s x n p e
 items_of s at n p e h (integer v) q a = absurd (omega (arith, q))
 items_of s at n p e h (float bits) q a = absurd (omega (arith, q))
 items_of s at n p e h (string t) q a = absurd (omega (arith, q))
@@ -166,7 +166,7 @@ pub record MapEntries (s : List ℕ) (x : Document) (n p e : ℕ) : Type 0 where
   pub counts : size es ≡ n
   pub all : AtEntries s p es e
 
-entries-of : (s : List ℕ) (at n p e : ℕ) → headAt s at ≡ Head.At n p → (x : Document) → documentKind x ≡ 6 → At s at x e → MapEntries s x n p e
+entries-of : (s : List ℕ) (at n p e : ℕ) → head_at s at ≡ Head.At n p → (x : Document) → document_kind x ≡ 6 → At s at x e → MapEntries s x n p e
 entries-of s at n p e h (integer v) q a = absurd (omega (arith, q))
 entries-of s at n p e h (float bits) q a = absurd (omega (arith, q))
 entries-of s at n p e h (string t) q a = absurd (omega (arith, q))
@@ -182,57 +182,57 @@ entries-of s at n p e h (map es) q a =
 -- a value by its head, and by what is said of the values inside
 
 module _ {leads s : List ℕ} {at n p k : ℕ} (r : HeadRead leads s at n p k) where
-  kinds : leads ≡ leadTable → (x : Document) {e : ℕ} → At s at x e → k ≡ documentKind x
+  kinds : leads ≡ lead_table → (x : Document) {e : ℕ} → At s at x e → k ≡ document_kind x
   kinds le x a = sym (r.kind le) ∙ kind-there x a
 
-  pub plain-says : (wanted : ℕ) {v : ℕ} → wanted ≤ 4 → v ≡ plainEnd (length s) k wanted n p → ValueSays leads s (typed (plain wanted)) at v
+  pub plain-says : (wanted : ℕ) {v : ℕ} → wanted ≤ 4 → v ≡ plain_end (length s) k wanted n p → ValueSays leads s (typed (plain wanted)) at v
   unfolding typed
-  plain-says w small q = record { says = λ le x e a. q ∙ ap (λ (i : ℕ). plainEnd (length s) i w n p) (kinds le x a) ∙ plain_of s at n p (r.head le) w small x a }
+  plain-says w small q = record { says = λ le x e a. q ∙ ap (λ (i : ℕ). plain_end (length s) i w n p) (kinds le x a) ∙ plain_of s at n p (r.head le) w small x a }
 
-  array-wrong : (f : Documents → Bool) → (k ≡ 5 → ⊥) → leads ≡ leadTable → (x : Document) (e : ℕ) → At s at x e → 0 ≡ endsIf (onArray x f) e
+  array-wrong : (f : Documents → Bool) → (k ≡ 5 → ⊥) → leads ≡ lead_table → (x : Document) (e : ℕ) → At s at x e → 0 ≡ ends_if (on_array x f) e
   array-wrong f d le x e a = rw (array-not f x (λ q. d (kinds le x a ∙ q)))
 
-  pub arrayOf-wrong : (t : FieldType) → (k ≡ 5 → ⊥) → ValueSays leads s (typed (array_of t)) at 0
+  pub array_of-wrong : (t : FieldType) → (k ≡ 5 → ⊥) → ValueSays leads s (typed (array_of t)) at 0
   unfolding typed
-  arrayOf-wrong t d = record { says = array-wrong (all (typed t)) d }
+  array_of-wrong t d = record { says = array-wrong (all (typed t)) d }
 
   pub exactly-wrong : (m : ℕ) (t : FieldType) → (k ≡ 5 → ⊥) → ValueSays leads s (typed (exactly m t)) at 0
   unfolding typed
   exactly-wrong m t d = record { says = array-wrong (λ ds. eqb (count ds) m && all (typed t) ds) d }
 
-  items : k ≡ 5 → leads ≡ leadTable → (x : Document) (e : ℕ) → At s at x e → Items s x n p e
+  items : k ≡ 5 → leads ≡ lead_table → (x : Document) (e : ℕ) → At s at x e → Items s x n p e
   items q le x e a = items_of s at n p e (r.head le) x (sym (kinds le x a) ∙ q) a
 
-  pub arrayOf-says : (t : FieldType) {v : ℕ} → k ≡ 5 → ItemsSay leads s (typed t) n p v → ValueSays leads s (typed (array_of t)) at v
+  pub array_of-says : (t : FieldType) {v : ℕ} → k ≡ 5 → ItemsSay leads s (typed t) n p v → ValueSays leads s (typed (array_of t)) at v
   unfolding typed
-  arrayOf-says t q i = record { says = λ le x e a. let o = items q le x e a in i.says le o.ds e o.all o.counts ∙ ap (λ (z : Document). endsIf (onArray z (all (typed t))) e) (sym o.is) }
+  array_of-says t q i = record { says = λ le x e a. let o = items q le x e a in i.says le o.ds e o.all o.counts ∙ ap (λ (z : Document). ends_if (on_array z (all (typed t))) e) (sym o.is) }
 
   pub exactly-says : (m : ℕ) (t : FieldType) {v : ℕ} → k ≡ 5 → n ≡ m → ItemsSay leads s (typed t) n p v → ValueSays leads s (typed (exactly m t)) at v
   unfolding typed
-  exactly-says m t q same i = record { says = λ le x e a. let o = items q le x e a in i.says le o.ds e o.all o.counts ∙ ap (λ (b : Bool). endsIf (b && all (typed t) o.ds) e) (sym (eq-eqb (count o.ds) m (o.counts ∙ same))) ∙ ap (λ (z : Document). endsIf (onArray z (λ ds. eqb (count ds) m && all (typed t) ds)) e) (sym o.is) }
+  exactly-says m t q same i = record { says = λ le x e a. let o = items q le x e a in i.says le o.ds e o.all o.counts ∙ ap (λ (b : Bool). ends_if (b && all (typed t) o.ds) e) (sym (eq-eqb (count o.ds) m (o.counts ∙ same))) ∙ ap (λ (z : Document). ends_if (on_array z (λ ds. eqb (count ds) m && all (typed t) ds)) e) (sym o.is) }
 
   pub exactly-other : (m : ℕ) (t : FieldType) → k ≡ 5 → (n ≡ m → ⊥) → ValueSays leads s (typed (exactly m t)) at 0
   unfolding typed
-  exactly-other m t q other = record { says = λ le x e a. let o = items q le x e a in ap (λ (b : Bool). endsIf (b && all (typed t) o.ds) e) (sym (ne_eqb (count o.ds) m (λ i. other (sym o.counts ∙ i)))) ∙ ap (λ (z : Document). endsIf (onArray z (λ ds. eqb (count ds) m && all (typed t) ds)) e) (sym o.is) }
+  exactly-other m t q other = record { says = λ le x e a. let o = items q le x e a in ap (λ (b : Bool). ends_if (b && all (typed t) o.ds) e) (sym (ne_eqb (count o.ds) m (λ i. other (sym o.counts ∙ i)))) ∙ ap (λ (z : Document). ends_if (on_array z (λ ds. eqb (count ds) m && all (typed t) ds)) e) (sym o.is) }
 
-  pub mapWith-wrong : (rows : Rows) → (k ≡ 6 → ⊥) → ValueSays leads s (typed (mapWith rows)) at 0
+  pub map_with-wrong : (rows : Rows) → (k ≡ 6 → ⊥) → ValueSays leads s (typed (map_with rows)) at 0
   unfolding typed
-  mapWith-wrong rows d = record { says = λ le x e a. rw (map-not (λ es. have rows es && fitting rows es) x (λ q. d (kinds le x a ∙ q))) }
+  map_with-wrong rows d = record { says = λ le x e a. rw (map-not (λ es. have rows es && fitting rows es) x (λ q. d (kinds le x a ∙ q))) }
 
-  pub mapWith-says : (rows : Rows) {v : ℕ} → k ≡ 6 → EntriesSay leads s rows 0 n p v → ValueSays leads s (typed (mapWith rows)) at v
+  pub map_with-says : (rows : Rows) {v : ℕ} → k ≡ 6 → EntriesSay leads s rows 0 n p v → ValueSays leads s (typed (map_with rows)) at v
   unfolding typed
-  mapWith-says rows q i = record {
+  map_with-says rows q i = record {
     says = λ le x e a.
         let o = entries-of s at n p e (r.head le) x (sym (kinds le x a) ∙ q) a in
-        i.says le o.es e o.all o.counts ∙ ap (λ (b : Bool). endsIf b e) (ap (λ (b : Bool). fitting rows o.es && b) (covered-have rows o.es) ∙ and_comm (fitting rows o.es) (have rows o.es)) ∙ ap (λ (z : Document). endsIf (onMap z (λ es. have rows es && fitting rows es)) e) (sym o.is);
+        i.says le o.es e o.all o.counts ∙ ap (λ (b : Bool). ends_if b e) (ap (λ (b : Bool). fitting rows o.es && b) (covered-have rows o.es) ∙ and_comm (fitting rows o.es) (have rows o.es)) ∙ ap (λ (z : Document). ends_if (on_map z (λ es. have rows es && fitting rows es)) e) (sym o.is);
   }
 
 -- the commonest values, found by their lead byte
 
 module _ (s : List ℕ) (at : ℕ) (inside : at < length s) (leads : List ℕ) where
   -- what a value of a kind says whose head is known
-  known-says : (k : Kind) (n p wanted : ℕ) {v : ℕ} → (kind_at s at ≡ k) × (headAt s at ≡ Head.At n p) → wanted ≤ 4 → v ≡ plainEnd (length s) (headKind k) wanted n p → ValueSays leads s (typed (plain wanted)) at v
-  known-says k n p wanted h small q = plain-says (record { head = λ l. h.1; kind = λ l. ap headKind h.0 }) wanted small q
+  known-says : (k : Kind) (n p wanted : ℕ) {v : ℕ} → (kind_at s at ≡ k) × (head_at s at ≡ Head.At n p) → wanted ≤ 4 → v ≡ plain_end (length s) (head_kind k) wanted n p → ValueSays leads s (typed (plain wanted)) at v
+  known-says k n p wanted h small q = plain-says (record { head = λ l. h.1; kind = λ l. ap head_kind h.0 }) wanted small q
 
   -- an integer in its lead byte
   pub low-says : get_or s at 0 < 0x80 → ValueSays leads s (typed (plain 1)) at (at + 1)
@@ -246,7 +246,7 @@ module _ (s : List ℕ) (at : ℕ) (inside : at < length s) (leads : List ℕ) w
   array-read : (n : ℕ) → 0x90 ≤ get_or s at 0 → get_or s at 0 < 0xa0 → n ≡ get_or s at 0 - 0x90 → HeadRead leads s at n (at + 1) 5
   array-read n low high is =
       let h = alone-head s at inside (array-lead (get_or s at 0) low high) in
-      record { head = λ le. h.1 ∙ ap (λ (m : ℕ). Head.At m (at + 1)) (sym is); kind = λ le. ap headKind h.0 }
+      record { head = λ le. h.1 ∙ ap (λ (m : ℕ). Head.At m (at + 1)) (sym is); kind = λ le. ap head_kind h.0 }
 
   -- a short string
   pub short-says : (n : ℕ) → 0xa0 ≤ get_or s at 0 → get_or s at 0 < 0xc0 → n ≡ get_or s at 0 - 0xa0 → at + 1 + n ≤ length s → ValueSays leads s (typed (plain 3)) at (at + 1 + n)
@@ -257,12 +257,12 @@ module _ (s : List ℕ) (at : ℕ) (inside : at < length s) (leads : List ℕ) w
 -- the values of an array, one after another
 
 -- a step was right: where it ended, and that it passed
-pub passed : (b : Bool) {q e : ℕ} → (q ≡ 0 → ⊥) → q ≡ endsIf b e → (b ≡ true) × (q ≡ e)
+pub passed : (b : Bool) {q e : ℕ} → (q ≡ 0 → ⊥) → q ≡ ends_if b e → (b ≡ true) × (q ≡ e)
 passed true n h = (refl, h)
 passed false n h = absurd (n h)
 
 -- it was wrong, since no value ends at 0
-pub failed : (b : Bool) {s : List ℕ} {p e q : ℕ} {x : Document} → At s p x e → q ≡ 0 → q ≡ endsIf b e → b ≡ false
+pub failed : (b : Bool) {s : List ℕ} {p e q : ℕ} {x : Document} → At s p x e → q ≡ 0 → q ≡ ends_if b e → b ≡ false
 failed true a z h = absurd (omega (arith, (at-inside a).0))
 failed false a z h = refl
 
@@ -271,7 +271,7 @@ module _ (leads s : List ℕ) (f : Document → Bool) where
   unfolding count all WritesAll
   items-none n p le = record { says = λ l ds e a c. go ds e a (omega arith) }
     where
-      go : (ds : Documents) (e : ℕ) → AtAll s p ds e → count ds ≡ 0 → p ≡ endsIf (all f ds) e
+      go : (ds : Documents) (e : ℕ) → AtAll s p ds e → count ds ≡ 0 → p ≡ ends_if (all f ds) e
       go none e a c = sym (add-zero p) ∙ ap (λ (l : List ℕ). p + length l) (sym a.writes) ∙ sym a.span.ends
       go (item d ds) e a c = absurd (omega (arith, c))
 
@@ -279,7 +279,7 @@ module _ (leads s : List ℕ) (f : Document → Bool) where
   unfolding count all
   items-next n p {q} {r} pos here is rest = record { says = λ l ds e a c. go l ds e a (omega (arith, c)) c }
     where
-      go : leads ≡ leadTable → (ds : Documents) (e : ℕ) → AtAll s p ds e → 0 < count ds → count ds ≡ n → r ≡ endsIf (all f ds) e
+      go : leads ≡ lead_table → (ds : Documents) (e : ℕ) → AtAll s p ds e → 0 < count ds → count ds ≡ n → r ≡ ends_if (all f ds) e
       go l none e a h c = absurd (omega (arith, h))
       go l (item d ds) e a h c =
           let o = open-item a in
@@ -290,7 +290,7 @@ module _ (leads s : List ℕ) (f : Document → Bool) where
   unfolding count all
   items-wrong n p pos here is = record { says = λ l ds e a c. go l ds e a (omega (arith, c)) }
     where
-      go : leads ≡ leadTable → (ds : Documents) (e : ℕ) → AtAll s p ds e → 0 < count ds → 0 ≡ endsIf (all f ds) e
+      go : leads ≡ lead_table → (ds : Documents) (e : ℕ) → AtAll s p ds e → 0 < count ds → 0 ≡ ends_if (all f ds) e
       go l none e a h = absurd (omega (arith, h))
       go l (item d ds) e a h =
           let o = open-item a in
@@ -314,9 +314,9 @@ pub record FirstEntry (s : List ℕ) (es : Entries) (e n : ℕ) (key : Part) : T
 
 -- what `text_at` says of the key at a place
 pub record KeyRead (leads s : List ℕ) (p : ℕ) (key : Part) : Type 0 where
-  pub says : leads ≡ leadTable → (x : Document) (e : ℕ) → At s p x e → TextAt s x e key
+  pub says : leads ≡ lead_table → (x : Document) (e : ℕ) → At s p x e → TextAt s x e key
 
-pub first_entry : {leads s : List ℕ} {p : ℕ} {key : Part} → KeyRead leads s p key → leads ≡ leadTable → (es : Entries) (e n : ℕ) → AtEntries s p es e → size es ≡ n → 0 < n → FirstEntry s es e n key
+pub first_entry : {leads s : List ℕ} {p : ℕ} {key : Part} → KeyRead leads s p key → leads ≡ lead_table → (es : Entries) (e n : ℕ) → AtEntries s p es e → size es ≡ n → 0 < n → FirstEntry s es e n key
 unfolding size
 first_entry t l empty e n a c pos = absurd (omega (arith, c))
 first_entry {s = s} {p = p} {key = key} t l (entry k x es) e n a c pos =
@@ -346,11 +346,11 @@ or-marked n a b i = go (ltb i n)
 
 module _ (leads s : List ℕ) (rows : Rows) where
   -- at the end the required rows must have been seen
-  entries-end : (n p seen : ℕ) → n ≤ 0 → (b : Bool) → b ≡ covered rows seen → EntriesSay leads s rows seen n p (endsIf b p)
+  entries-end : (n p seen : ℕ) → n ≤ 0 → (b : Bool) → b ≡ covered rows seen → EntriesSay leads s rows seen n p (ends_if b p)
   unfolding size WritesEntries
   entries-end n p seen le b h = record { says = λ l es e a c. go es e a (omega arith) }
     where
-      go : (es : Entries) (e : ℕ) → AtEntries s p es e → size es ≡ 0 → endsIf b p ≡ endsIf (fitting rows es && covered rows (bit_or seen (setOf (present rows es)))) e
+      go : (es : Entries) (e : ℕ) → AtEntries s p es e → size es ≡ 0 → ends_if b p ≡ ends_if (fitting rows es && covered rows (bit_or seen (set_of (present rows es)))) e
       go empty e a c =
           let q : p ≡ e = sym (add-zero p) ∙ ap (λ (l : List ℕ). p + length l) (sym a.writes) ∙ sym a.span.ends in
           rw (fitting-none rows, present-none rows, or_zero_r seen, ← h, q)
@@ -362,31 +362,31 @@ module _ (leads s : List ℕ) (rows : Rows) where
   pub entries-lack : (n p seen : ℕ) {b : Bool} → n ≤ 0 → b ≡ covered rows seen → b ≡ false → EntriesSay leads s rows seen n p 0
   entries-lack n p seen le h t = entries-end n p seen le false (sym t ∙ h)
 
-  module _ (distinct : distinctNames rows ≡ true) (n p seen i : ℕ) {key : Part} {v : ℕ} (pos : 0 < n) (read : KeyRead leads s p key) (found : i ≡ findRow (take key.count (drop key.at s)) rows) (here : ValueSays leads s (rowTest i rows) (key.at + key.count) v) where
-    pub entries_next : (after : ℕ) {r : ℕ} → (v ≡ 0 → ⊥) → after ≡ marked (rowCount rows) seen i → EntriesSay leads s rows after (n - 1) v r → EntriesSay leads s rows seen n p r
+  module _ (distinct : distinct_names rows ≡ true) (n p seen i : ℕ) {key : Part} {v : ℕ} (pos : 0 < n) (read : KeyRead leads s p key) (found : i ≡ find_row (take key.count (drop key.at s)) rows) (here : ValueSays leads s (row_test i rows) (key.at + key.count) v) where
+    pub entries_next : (after : ℕ) {r : ℕ} → (v ≡ 0 → ⊥) → after ≡ marked (row_count rows) seen i → EntriesSay leads s rows after (n - 1) v r → EntriesSay leads s rows seen n p r
     entries_next after {r = r} is set rest = record { says = λ l es e a c. go l es e a c }
       where
-        grown : (k : List ℕ) (x : Document) (es : Entries) (e : ℕ) → NoKey k es → rowTest (findRow k rows) rows x ≡ true → bit_or seen (setOf (present rows (entry k x es))) ≡ bit_or after (setOf (present rows es)) → endsIf (fitting rows es && covered rows (bit_or after (setOf (present rows es)))) e ≡ endsIf (fitting rows (entry k x es) && covered rows (bit_or seen (setOf (present rows (entry k x es))))) e
+        grown : (k : List ℕ) (x : Document) (es : Entries) (e : ℕ) → NoKey k es → row_test (find_row k rows) rows x ≡ true → bit_or seen (set_of (present rows (entry k x es))) ≡ bit_or after (set_of (present rows es)) → ends_if (fitting rows es && covered rows (bit_or after (set_of (present rows es)))) e ≡ ends_if (fitting rows (entry k x es) && covered rows (bit_or seen (set_of (present rows (entry k x es))))) e
         grown k x es e f t u = rw (fitting-entry k x es rows distinct f, t, u)
 
-        go : leads ≡ leadTable → (es : Entries) (e : ℕ) → AtEntries s p es e → size es ≡ n → r ≡ endsIf (fitting rows es && covered rows (bit_or seen (setOf (present rows es)))) e
+        go : leads ≡ lead_table → (es : Entries) (e : ℕ) → AtEntries s p es e → size es ≡ n → r ≡ ends_if (fitting rows es && covered rows (bit_or seen (set_of (present rows es)))) e
         go l es e a c =
             let o = first_entry read l es e n a c pos in
-            let j : i ≡ findRow o.k rows = found ∙ ap (λ (z : List ℕ). findRow z rows) o.name in
-            let w = passed (rowTest i rows o.x) is (here.says l o.x o.end o.value) in
-            let t : rowTest (findRow o.k rows) rows o.x ≡ true = ap (λ (z : ℕ). rowTest z rows o.x) (sym j) ∙ w.0 in
-            let u : bit_or seen (setOf (present rows (entry o.k o.x o.others))) ≡ bit_or after (setOf (present rows o.others)) = ap (λ (z : ℕ). bit_or seen z) (present-marked o.k o.x o.others rows distinct) ∙ or-marked (rowCount rows) seen (setOf (present rows o.others)) (findRow o.k rows) ∙ ap (λ (z : ℕ). bit_or z (setOf (present rows o.others))) (ap (λ (z : ℕ). marked (rowCount rows) seen z) (sym j) ∙ sym set) in
-            rest.says l o.others e (subst (λ (z : ℕ). AtEntries s z o.others e) (sym w.1) o.rest) o.counts ∙ grown o.k o.x o.others e o.fresh t u ∙ ap (λ (z : Entries). endsIf (fitting rows z && covered rows (bit_or seen (setOf (present rows z)))) e) (sym o.is)
+            let j : i ≡ find_row o.k rows = found ∙ ap (λ (z : List ℕ). find_row z rows) o.name in
+            let w = passed (row_test i rows o.x) is (here.says l o.x o.end o.value) in
+            let t : row_test (find_row o.k rows) rows o.x ≡ true = ap (λ (z : ℕ). row_test z rows o.x) (sym j) ∙ w.0 in
+            let u : bit_or seen (set_of (present rows (entry o.k o.x o.others))) ≡ bit_or after (set_of (present rows o.others)) = ap (λ (z : ℕ). bit_or seen z) (present-marked o.k o.x o.others rows distinct) ∙ or-marked (row_count rows) seen (set_of (present rows o.others)) (find_row o.k rows) ∙ ap (λ (z : ℕ). bit_or z (set_of (present rows o.others))) (ap (λ (z : ℕ). marked (row_count rows) seen z) (sym j) ∙ sym set) in
+            rest.says l o.others e (subst (λ (z : ℕ). AtEntries s z o.others e) (sym w.1) o.rest) o.counts ∙ grown o.k o.x o.others e o.fresh t u ∙ ap (λ (z : Entries). ends_if (fitting rows z && covered rows (bit_or seen (set_of (present rows z)))) e) (sym o.is)
 
     pub entries-wrong : v ≡ 0 → EntriesSay leads s rows seen n p 0
     entries-wrong is = record { says = λ l es e a c. go l es e a c }
       where
-        go : leads ≡ leadTable → (es : Entries) (e : ℕ) → AtEntries s p es e → size es ≡ n → 0 ≡ endsIf (fitting rows es && covered rows (bit_or seen (setOf (present rows es)))) e
+        go : leads ≡ lead_table → (es : Entries) (e : ℕ) → AtEntries s p es e → size es ≡ n → 0 ≡ ends_if (fitting rows es && covered rows (bit_or seen (set_of (present rows es)))) e
         go l es e a c =
             let o = first_entry read l es e n a c pos in
-            let j : i ≡ findRow o.k rows = found ∙ ap (λ (z : List ℕ). findRow z rows) o.name in
-            let t : rowTest (findRow o.k rows) rows o.x ≡ false = ap (λ (z : ℕ). rowTest z rows o.x) (sym j) ∙ failed (rowTest i rows o.x) o.value is (here.says l o.x o.end o.value) in
-            ap (λ (b : Bool). endsIf (b && covered rows (bit_or seen (setOf (present rows (entry o.k o.x o.others))))) e) (sym (fitting-entry o.k o.x o.others rows distinct o.fresh ∙ ap (λ (b : Bool). b && fitting rows o.others) t)) ∙ ap (λ (z : Entries). endsIf (fitting rows z && covered rows (bit_or seen (setOf (present rows z)))) e) (sym o.is)
+            let j : i ≡ find_row o.k rows = found ∙ ap (λ (z : List ℕ). find_row z rows) o.name in
+            let t : row_test (find_row o.k rows) rows o.x ≡ false = ap (λ (z : ℕ). row_test z rows o.x) (sym j) ∙ failed (row_test i rows o.x) o.value is (here.says l o.x o.end o.value) in
+            ap (λ (b : Bool). ends_if (b && covered rows (bit_or seen (set_of (present rows (entry o.k o.x o.others))))) e) (sym (fitting-entry o.k o.x o.others rows distinct o.fresh ∙ ap (λ (b : Bool). b && fitting rows o.others) t)) ∙ ap (λ (z : Entries). ends_if (fitting rows z && covered rows (bit_or seen (set_of (present rows z)))) e) (sym o.is)
 
 -- what is said by a type is said by any that is equal
 pub value_as : {leads s : List ℕ} {at : ℕ} {v : ℕ} (t u : FieldType) → t ≡ u → ValueSays leads s (typed u) at v → ValueSays leads s (typed t) at v
@@ -415,13 +415,13 @@ low-items leads s (suc n) p l =
 
 -- an array whose count is in its lead byte, of integers in their lead bytes
 pub integers-say : (leads s : List ℕ) (at n : ℕ) → at < length s → 0x90 ≤ get_or s at 0 → get_or s at 0 < 0xa0 → n ≡ get_or s at 0 - 0x90 → LowRun s (at + 1) n → ValueSays leads s (typed (array_of (plain 1))) at (at + 1 + n)
-integers-say leads s at n lt low high is run = arrayOf-says (array-read s at lt leads n low high is) (plain 1) refl (low-items leads s n (at + 1) run)
+integers-say leads s at n lt low high is run = array_of-says (array-read s at lt leads n low high is) (plain 1) refl (low-items leads s n (at + 1) run)
 
 -- a value under a row, or under none, which is stepped over
 
 module _ (leads s : List ℕ) (f : ℕ → FieldType) (n r i : ℕ) {at : ℕ} where
-  pub row-says : {c : ℕ} {v : ℕ} → i < n → c ≡ code_of (r + i) → ValueSays leads s (typed (f c)) at v → ValueSays leads s (rowTest i (rows_from f n r)) at v
-  row-says {c = c} lt q h = record { says = λ l x e a. h.says l x e a ∙ ap (λ (b : Bool). endsIf b e) (ap (λ (z : ℕ). typed (f z) x) q ∙ sym (row_typed f n r i x lt)) }
+  pub row-says : {c : ℕ} {v : ℕ} → i < n → c ≡ code_of (r + i) → ValueSays leads s (typed (f c)) at v → ValueSays leads s (row_test i (rows_from f n r)) at v
+  row-says {c = c} lt q h = record { says = λ l x e a. h.says l x e a ∙ ap (λ (b : Bool). ends_if b e) (ap (λ (z : ℕ). typed (f z) x) q ∙ sym (row_typed f n r i x lt)) }
 
-  pub row-over : {q : ℕ} → n ≤ i → (leads ≡ leadTable → (e : ℕ) → Standing s 1 at e → q ≡ e) → ValueSays leads s (rowTest i (rows_from f n r)) at (q)
-  row-over le h = record { says = λ l x e a. h l e (at-standing a) ∙ ap (λ (b : Bool). endsIf b e) (sym (row-free f n r i x le)) }
+  pub row-over : {q : ℕ} → n ≤ i → (leads ≡ lead_table → (e : ℕ) → Standing s 1 at e → q ≡ e) → ValueSays leads s (row_test i (rows_from f n r)) at (q)
+  row-over le h = record { says = λ l x e a. h l e (at-standing a) ∙ ap (λ (b : Bool). ends_if b e) (sym (row-free f n r i x le)) }

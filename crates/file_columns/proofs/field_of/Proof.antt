@@ -2,13 +2,13 @@
 use Rattle.std.proofs.Common.{◌-◌, refl, rules}
 use Rattle.text.specs.Equal.{equal}
 use Rattle.fields.specs.Table.{named}
-use Rattle.fields.specs.Fields.{findRow}
+use Rattle.fields.specs.Fields.{find_row}
 use Rattle.file_columns.specs.Laws.Steps.{field-few}
 use Rattle.file_columns.proofs.field_of.Statement.{statement}
 use Rattle.file_columns.proofs.field_of.Tie as tie
 
 returns : tie.Need-returns
-unfolding findRow equal named
+unfolding find_row equal named
 returns c = (refl, field-few c.args.i c.requires)
 
 pub field-of-spec : {M : Type 1} → statement M

@@ -1,6 +1,6 @@
 -- The length is the one that the header states.
 use Rattle.std.proofs.Common.{ℕ, ◌-◌, true, sym, ap, ◌∙◌, arith, rules}
-use Rattle.file_columns.specs.Columns.{columnLength}
+use Rattle.file_columns.specs.Columns.{column_length}
 use Rattle.values.specs.Laws.Places.{place_none}
 use Rattle.values.specs.declared.lists.Length as list
 use Rattle.file_columns.specs.Laws.Steps.{read_length}
@@ -8,7 +8,7 @@ use Rattle.file_columns.proofs.length_at.Statement.{statement}
 use Rattle.file_columns.proofs.length_at.Tie as tie
 
 returns : tie.Need-returns
-returns c = λ t o p r. sym (ap (columnLength c.before.before.args.wanted) (place_none p c.if1.true))
+returns c = λ t o p r. sym (ap (column_length c.before.before.args.wanted) (place_none p c.if1.true))
 
 add-stated-length : tie.Need-overflow-add-stated-length
 add-stated-length c = omega (arith, c.before.text_at.ensures.0)

@@ -1,17 +1,17 @@
 -- The columns before are long enough; the one at hand is judged.
 use Rattle.std.proofs.Common.{◌≡◌, ◌-◌, drop, sym, refl, ◌∙◌, arith, rules}
 use borrow.Author.Tests.{not-true, not-false}
-use Rattle.file_columns.specs.Columns.{columns, lengthsIn, lengthsFit}
-use Rattle.file_columns.specs.Steps.{WalkedColumns, columnCount}
+use Rattle.file_columns.specs.Columns.{columns, lengths_in, lengths_fit}
+use Rattle.file_columns.specs.Steps.{WalkedColumns, column_count}
 use Rattle.file_columns.specs.Laws.Steps.{value_at, right-at, length-next, length-end}
 use Rattle.file_columns.proofs.lengths_fit.Statement.{statement}
 use Rattle.file_columns.proofs.lengths_fit.Tie as tie
 
 abbrev invariant-loop : tie.invariant-loop
-invariant-loop leads file places atoms groups chains i₀ i = WalkedColumns leads file places (λ es. lengthsFit (lengthsIn columns es) atoms groups chains ≡ lengthsFit (lengthsIn (drop i columns) es) atoms groups chains)
+invariant-loop leads file places atoms groups chains i₀ i = WalkedColumns leads file places (λ es. lengths_fit (lengths_in columns es) atoms groups chains ≡ lengths_fit (lengths_in (drop i columns) es) atoms groups chains)
 
 abbrev decreases-loop : tie.decreases-loop
-decreases-loop leads file places atoms groups chains i₀ i = columnCount - i
+decreases-loop leads file places atoms groups chains i₀ i = column_count - i
 
 loop-holds : tie.Need-loop-init invariant-loop decreases-loop
 loop-holds c = λ t es p r. refl

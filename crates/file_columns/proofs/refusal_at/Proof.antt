@@ -1,13 +1,13 @@
 -- What the check of the column answers is its refusal.
 use Rattle.std.proofs.Common.{◌-◌, sym, ap, ◌∙◌, arith, rules}
-use Rattle.file_columns.specs.Columns.{columnNumber}
+use Rattle.file_columns.specs.Columns.{column_number}
 use Rattle.values.specs.Laws.Places.{place_none}
 use Rattle.file_columns.specs.Laws.Steps.{read-refused, read-good}
 use Rattle.file_columns.proofs.refusal_at.Statement.{statement}
 use Rattle.file_columns.proofs.refusal_at.Tie as tie
 
 returns : tie.Need-returns
-returns c = λ t o p. sym (ap (columnNumber c.before.before.args.wanted) (place_none p c.if1.true))
+returns c = λ t o p. sym (ap (column_number c.before.before.args.wanted) (place_none p c.if1.true))
 
 add-check : tie.Need-overflow-add-check
 add-check c = omega (arith, c.before.text_at.ensures.0)

@@ -7,8 +7,8 @@ use native.Mathlib.Omega.{arith}
 use Rattle.std.specs.Int.{w32}
 use Rattle.std.proofs.Math.Facts.{of_z-to_z, Fits-of_z}
 use borrow.Author.Tests.{le-leb, lt-leb, leb-true, leb-false}
-use Rattle.numbers.specs.Ranges.{allPass, between}
-use Rattle.steps.specs.Delta.{plusDelta, resultsFrom}
+use Rattle.numbers.specs.Ranges.{all_pass, between}
+use Rattle.steps.specs.Delta.{plus_delta, results_from}
 use Rattle.steps.specs.Laws.Delta.{wrapped, plus-fits}
 use Rattle.file_columns.specs.Passing.{ahead_of}
 
@@ -29,7 +29,7 @@ rank-order (pos a) (negsuc b) f g = sym (lt-leb (rank (pos a)) (rank (negsuc b))
 rank-order (negsuc a) (pos b) f g = sym (le-leb (rank (negsuc a)) (rank (pos b)) (omega arith))
 rank-order (negsuc a) (negsuc b) f g = leb_as b a (rank (negsuc a)) (rank (negsuc b)) (λ h. omega arith) (λ h. omega arith)
 
-rank-plus : (x v : ℤ) → rank (plusDelta x v) ≡ (rank x + of_z w32 v) % 4294967296
+rank-plus : (x v : ℤ) → rank (plus_delta x v) ≡ (rank x + of_z w32 v) % 4294967296
 rank-plus x v = ap (λ (n : ℕ). (n + 2147483648) % 4294967296) (of_z-to_z {w = w32} (wrapped (of_z w32 x + of_z w32 v))) ∙ inner (of_z w32 x) (of_z w32 v)
   where
     inner : (m n : ℕ) → ((m + n) % 4294967296 + 2147483648) % 4294967296 ≡ ((m + 2147483648) % 4294967296 + n) % 4294967296
@@ -85,22 +85,22 @@ module _ (low high : ℤ) (fl : FitsSigned w32 low) (fh : FitsSigned w32 high) w
   -- Steps that cannot pass over what is outside: where the room inside has place for a step the next sum is inside, with so much less room;
   -- else it is outside.
   module _ (v : ℤ) (s : ℕ) (room : ℤ → ℕ)
-      (on : (x : ℤ) → FitsSigned w32 x → test x ≡ true → s ≤ room x → (test (plusDelta x v) ≡ true) × (s + room (plusDelta x v) ≡ room x))
-      (off : (x : ℤ) → FitsSigned w32 x → test x ≡ true → room x < s → test (plusDelta x v) ≡ false) where
+      (on : (x : ℤ) → FitsSigned w32 x → test x ≡ true → s ≤ room x → (test (plus_delta x v) ≡ true) × (s + room (plus_delta x v) ≡ room x))
+      (off : (x : ℤ) → FitsSigned w32 x → test x ≡ true → room x < s → test (plus_delta x v) ≡ false) where
     -- the room decides for all of k sums
-    room-decides : (k : ℕ) (x : ℤ) → FitsSigned w32 x → test x ≡ true → allPass test (resultsFrom true x (replicate k v)) ≡ nat_le (k * s) (room x)
-    unfolding allPass resultsFrom
+    room-decides : (k : ℕ) (x : ℤ) → FitsSigned w32 x → test x ≡ true → all_pass test (results_from true x (replicate k v)) ≡ nat_le (k * s) (room x)
+    unfolding all_pass results_from
     room-decides zero x f e = sym (le-leb (0 * s) (room x) (omega arith))
-    room-decides (suc k) x f e = by (nat_le s (room x)) refl (room-decides k (plusDelta x v) (plus-fits x v))
+    room-decides (suc k) x f e = by (nat_le s (room x)) refl (room-decides k (plus_delta x v) (plus-fits x v))
       where
         by : (t : Bool) → nat_le s (room x) ≡ t
-            → (test (plusDelta x v) ≡ true → allPass test (resultsFrom true (plusDelta x v) (replicate k v)) ≡ nat_le (k * s) (room (plusDelta x v)))
-            → (test (plusDelta x v) && allPass test (resultsFrom true (plusDelta x v) (replicate k v))) ≡ nat_le (suc k * s) (room x)
+            → (test (plus_delta x v) ≡ true → all_pass test (results_from true (plus_delta x v) (replicate k v)) ≡ nat_le (k * s) (room (plus_delta x v)))
+            → (test (plus_delta x v) && all_pass test (results_from true (plus_delta x v) (replicate k v))) ≡ nat_le (suc k * s) (room x)
         by true q next =
             let h = on x f e (leb-true s (room x) q) in
             let r = h.1 in
             let m : suc k * s ≡ s + k * s = omega arith in
-            rw (h.0, next h.0, m) (leb_as (k * s) (room (plusDelta x v)) (s + k * s) (room x) (λ i. omega arith) (λ i. omega arith))
+            rw (h.0, next h.0, m) (leb_as (k * s) (room (plus_delta x v)) (s + k * s) (room x) (λ i. omega arith) (λ i. omega arith))
         by false q next =
             let g = leb-false s (room x) q in
             let m : suc k * s ≡ s + k * s = omega arith in
@@ -112,10 +112,10 @@ module _ (low high : ℤ) (fl : FitsSigned w32 low) (fh : FitsSigned w32 high) w
 
   module _ (v : ℤ) (fv : FitsSigned w32 v) where
     -- the next sum where it does not pass the end of the circle, and where it does
-    plus-short : (x : ℤ) → rank x + of_z w32 v < 4294967296 → rank (plusDelta x v) ≡ rank x + of_z w32 v
+    plus-short : (x : ℤ) → rank x + of_z w32 v < 4294967296 → rank (plus_delta x v) ≡ rank x + of_z w32 v
     plus-short x h = let p = rank-plus x v in omega arith
 
-    plus-long : (x : ℤ) → 4294967296 ≤ rank x + of_z w32 v → rank (plusDelta x v) + 4294967296 ≡ rank x + of_z w32 v
+    plus-long : (x : ℤ) → 4294967296 ≤ rank x + of_z w32 v → rank (plus_delta x v) + 4294967296 ≡ rank x + of_z w32 v
     plus-long x h =
         let p = rank-plus x v in
         let q = Fits-of_z {w = w32} fv in
@@ -124,64 +124,64 @@ module _ (low high : ℤ) (fl : FitsSigned w32 low) (fh : FitsSigned w32 high) w
 
     -- upwards: a step is no longer than the way around outside
     upwards : of_z w32 v + rank high < 4294967296 + rank low → (k : ℕ) (x : ℤ) → FitsSigned w32 x → test x ≡ true
-        → allPass test (resultsFrom true x (replicate k v)) ≡ nat_le (k * of_z w32 v) (ahead_of x high)
+        → all_pass test (results_from true x (replicate k v)) ≡ nat_le (k * of_z w32 v) (ahead_of x high)
     upwards gap = room-decides v (of_z w32 v) (λ (x : ℤ). ahead_of x high) on off
       where
-        on : (x : ℤ) → FitsSigned w32 x → test x ≡ true → of_z w32 v ≤ ahead_of x high → (test (plusDelta x v) ≡ true) × (of_z w32 v + ahead_of (plusDelta x v) high ≡ ahead_of x high)
+        on : (x : ℤ) → FitsSigned w32 x → test x ≡ true → of_z w32 v ≤ ahead_of x high → (test (plus_delta x v) ≡ true) × (of_z w32 v + ahead_of (plus_delta x v) high ≡ ahead_of x high)
         on x f e h =
             let i = inside x f e in
             let a = ways x f e in
             let p = plus-short x (omega arith) in
-            let t = is-inside (plusDelta x v) (plus-fits x v) (omega arith) (omega arith) in
-            let b = ways (plusDelta x v) (plus-fits x v) t in
+            let t = is-inside (plus_delta x v) (plus-fits x v) (omega arith) (omega arith) in
+            let b = ways (plus_delta x v) (plus-fits x v) t in
             (t, omega arith)
 
-        off : (x : ℤ) → FitsSigned w32 x → test x ≡ true → ahead_of x high < of_z w32 v → test (plusDelta x v) ≡ false
+        off : (x : ℤ) → FitsSigned w32 x → test x ≡ true → ahead_of x high < of_z w32 v → test (plus_delta x v) ≡ false
         off x f e h = by (nat_le 4294967296 (rank x + of_z w32 v)) refl
           where
-            by : (t : Bool) → nat_le 4294967296 (rank x + of_z w32 v) ≡ t → test (plusDelta x v) ≡ false
+            by : (t : Bool) → nat_le 4294967296 (rank x + of_z w32 v) ≡ t → test (plus_delta x v) ≡ false
             by true q =
                 let i = inside x f e in
                 let p = plus-long x (leb-true 4294967296 (rank x + of_z w32 v) q) in
-                below-low (plusDelta x v) (plus-fits x v) (omega arith)
+                below-low (plus_delta x v) (plus-fits x v) (omega arith)
             by false q =
                 let a = ways x f e in
                 let p = plus-short x (leb-false 4294967296 (rank x + of_z w32 v) q) in
-                above-high (plusDelta x v) (plus-fits x v) (omega arith)
+                above-high (plus_delta x v) (plus-fits x v) (omega arith)
 
     -- downwards: the same of the step that is left to the whole circle
     downwards : rank high < of_z w32 v + rank low → (k : ℕ) (x : ℤ) → FitsSigned w32 x → test x ≡ true
-        → allPass test (resultsFrom true x (replicate k v)) ≡ nat_le (k * (4294967296 - of_z w32 v)) (ahead_of low x)
+        → all_pass test (results_from true x (replicate k v)) ≡ nat_le (k * (4294967296 - of_z w32 v)) (ahead_of low x)
     downwards gap = room-decides v (4294967296 - of_z w32 v) (λ (x : ℤ). ahead_of low x) on off
       where
         fit : of_z w32 v < 4294967296
         fit = (Fits-of_z {w = w32} fv).fits
 
         on : (x : ℤ) → FitsSigned w32 x → test x ≡ true → 4294967296 - of_z w32 v ≤ ahead_of low x
-            → (test (plusDelta x v) ≡ true) × (4294967296 - of_z w32 v + ahead_of low (plusDelta x v) ≡ ahead_of low x)
+            → (test (plus_delta x v) ≡ true) × (4294967296 - of_z w32 v + ahead_of low (plus_delta x v) ≡ ahead_of low x)
         on x f e h =
             let l = fit in
             let i = inside x f e in
             let a = ways x f e in
             let p = plus-long x (omega arith) in
-            let t = is-inside (plusDelta x v) (plus-fits x v) (omega arith) (omega arith) in
-            (t, less (of_z w32 v) (rank x) (rank (plusDelta x v)) (ahead_of low x) (ahead_of low (plusDelta x v)) l a.1 (ways (plusDelta x v) (plus-fits x v) t).1 p)
+            let t = is-inside (plus_delta x v) (plus-fits x v) (omega arith) (omega arith) in
+            (t, less (of_z w32 v) (rank x) (rank (plus_delta x v)) (ahead_of low x) (ahead_of low (plus_delta x v)) l a.1 (ways (plus_delta x v) (plus-fits x v) t).1 p)
           where
             less : (n r r' a b : ℕ) → n < 4294967296 → a + rank low ≡ r → b + rank low ≡ r' → r' + 4294967296 ≡ r + n → 4294967296 - n + b ≡ a
             less n r r' a b l p q h = omega arith
 
-        off : (x : ℤ) → FitsSigned w32 x → test x ≡ true → ahead_of low x < 4294967296 - of_z w32 v → test (plusDelta x v) ≡ false
+        off : (x : ℤ) → FitsSigned w32 x → test x ≡ true → ahead_of low x < 4294967296 - of_z w32 v → test (plus_delta x v) ≡ false
         off x f e h = by (nat_le 4294967296 (rank x + of_z w32 v)) refl
           where
-            by : (t : Bool) → nat_le 4294967296 (rank x + of_z w32 v) ≡ t → test (plusDelta x v) ≡ false
+            by : (t : Bool) → nat_le 4294967296 (rank x + of_z w32 v) ≡ t → test (plus_delta x v) ≡ false
             by true q =
                 let a = ways x f e in
                 let p = plus-long x (leb-true 4294967296 (rank x + of_z w32 v) q) in
-                below-low (plusDelta x v) (plus-fits x v) (omega arith)
+                below-low (plus_delta x v) (plus-fits x v) (omega arith)
             by false q =
                 let i = inside x f e in
                 let p = plus-short x (leb-false 4294967296 (rank x + of_z w32 v) q) in
-                above-high (plusDelta x v) (plus-fits x v) (omega arith)
+                above-high (plus_delta x v) (plus-fits x v) (omega arith)
 
     -- by a sum that is inside: the numbers outside are those that are on neither way
     module _ (x : ℤ) (f : FitsSigned w32 x) (e : test x ≡ true) where
@@ -191,15 +191,15 @@ module _ (low high : ℤ) (fl : FitsSigned w32 low) (fh : FitsSigned w32 high) w
           let a = ways x f e in
           omega arith
 
-      pub stays_up : of_z w32 v ≤ 4294967295 - ahead_of x high - ahead_of low x → (k : ℕ) → allPass test (resultsFrom true x (replicate k v)) ≡ nat_le (k * of_z w32 v) (ahead_of x high)
+      pub stays_up : of_z w32 v ≤ 4294967295 - ahead_of x high - ahead_of low x → (k : ℕ) → all_pass test (results_from true x (replicate k v)) ≡ nat_le (k * of_z w32 v) (ahead_of x high)
       stays_up h k = let a = ways x f e in upwards (gap_up (of_z w32 v) (ahead_of x high) (ahead_of low x) (rank low) (rank x) (rank high) a.0 a.1 ways-fit h) k x f e
 
-      pub stays-down : 4294967296 - of_z w32 v ≤ 4294967295 - ahead_of x high - ahead_of low x → (k : ℕ) → allPass test (resultsFrom true x (replicate k v)) ≡ nat_le (k * (4294967296 - of_z w32 v)) (ahead_of low x)
+      pub stays-down : 4294967296 - of_z w32 v ≤ 4294967295 - ahead_of x high - ahead_of low x → (k : ℕ) → all_pass test (results_from true x (replicate k v)) ≡ nat_le (k * (4294967296 - of_z w32 v)) (ahead_of low x)
       stays-down h k = let a = ways x f e in downwards (gap_down (of_z w32 v) (ahead_of x high) (ahead_of low x) (rank low) (rank x) (rank high) a.0 a.1 ways-fit h) k x f e
 
 -- Steps of half the circle: there and back
 
-back : (x v : ℤ) → FitsSigned w32 x → of_z w32 v ≡ 2147483648 → plusDelta (plusDelta x v) v ≡ x
+back : (x v : ℤ) → FitsSigned w32 x → of_z w32 v ≡ 2147483648 → plus_delta (plus_delta x v) v ≡ x
 back x v f h =
     let p = Fits-of_z {w = w32} f in
     let q = p.fits in
@@ -207,21 +207,21 @@ back x v f h =
     ap (λ (n : ℕ). to_z w32 ((n + of_z w32 v) % 4294967296)) (of_z-to_z {w = w32} (wrapped (of_z w32 x + of_z w32 v))) ∙ ap (to_z w32) e ∙ to_z-of_z {w = w32} f
 
 -- where the sum before them passes, the next decides for all of them
-pub turns : (test : ℤ → Bool) (x v : ℤ) → FitsSigned w32 x → of_z w32 v ≡ 2147483648 → test x ≡ true → (k : ℕ) → 0 < k → allPass test (resultsFrom true x (replicate k v)) ≡ test (plusDelta x v)
-unfolding allPass resultsFrom
+pub turns : (test : ℤ → Bool) (x v : ℤ) → FitsSigned w32 x → of_z w32 v ≡ 2147483648 → test x ≡ true → (k : ℕ) → 0 < k → all_pass test (results_from true x (replicate k v)) ≡ test (plus_delta x v)
+unfolding all_pass results_from
 turns test x v f h e zero l = absurd (omega arith)
-turns test x v f h e (suc zero) l = by (test (plusDelta x v))
+turns test x v f h e (suc zero) l = by (test (plus_delta x v))
   where
     by : (t : Bool) → (t && true) ≡ t
     by true = refl
     by false = refl
-turns test x v f h e (suc (suc zero)) l = rw (back x v f h, e) (by (test (plusDelta x v)))
+turns test x v f h e (suc (suc zero)) l = rw (back x v f h, e) (by (test (plus_delta x v)))
   where
     by : (t : Bool) → (t && true) ≡ t
     by true = refl
     by false = refl
-turns test x v f h e (suc (suc (suc k))) l = rw (back x v f h, e) (by (test (plusDelta x v)) (turns test x v f h e (suc k) (omega arith)))
+turns test x v f h e (suc (suc (suc k))) l = rw (back x v f h, e) (by (test (plus_delta x v)) (turns test x v f h e (suc k) (omega arith)))
   where
-    by : (t : Bool) → allPass test (resultsFrom true x (replicate (suc k) v)) ≡ t → (t && allPass test (resultsFrom true x (replicate (suc k) v))) ≡ t
+    by : (t : Bool) → all_pass test (results_from true x (replicate (suc k) v)) ≡ t → (t && all_pass test (results_from true x (replicate (suc k) v))) ≡ t
     by true q = q
     by false q = refl

@@ -3,21 +3,21 @@ use Rattle.std.specs.Prelude.{◌≡◌, ℕ, zero, suc, ◌+◌, ◌*◌, Bool,
 use Rattle.std.proofs.Math.Path.{refl}
 use Rattle.std.proofs.Math.Bool.{and-eq-true_iff}
 use native.Mathlib.Omega.{arith}
-use Rattle.numbers.specs.Ranges.{allPass}
+use Rattle.numbers.specs.Ranges.{all_pass}
 use Rattle.steps.specs.Fits.{Every}
 use Rattle.file_columns.specs.Cells.{total}
 
 module _ (test : ℤ → Bool) where
   -- all cells pass where every one does
-  pub allPass-every : (xs : List ℤ) → allPass test xs ≡ true → Every (λ (x : ℤ). test x ≡ true) xs
-  unfolding allPass Every
-  allPass-every [] e = tt
-  allPass-every (x ∷ xs) e = let g = (and-eq-true_iff (test x) (allPass test xs)).0 e in (g.0, allPass-every xs g.1)
+  pub all_pass-every : (xs : List ℤ) → all_pass test xs ≡ true → Every (λ (x : ℤ). test x ≡ true) xs
+  unfolding all_pass Every
+  all_pass-every [] e = tt
+  all_pass-every (x ∷ xs) e = let g = (and-eq-true_iff (test x) (all_pass test xs)).0 e in (g.0, all_pass-every xs g.1)
 
-  pub every-allPass : (xs : List ℤ) → Every (λ (x : ℤ). test x ≡ true) xs → allPass test xs ≡ true
-  unfolding allPass Every
-  every-allPass [] e = refl
-  every-allPass (x ∷ xs) e = rw (e.0, every-allPass xs e.1)
+  pub every-all_pass : (xs : List ℤ) → Every (λ (x : ℤ). test x ≡ true) xs → all_pass test xs ≡ true
+  unfolding all_pass Every
+  every-all_pass [] e = refl
+  every-all_pass (x ∷ xs) e = rw (e.0, every-all_pass xs e.1)
 
 module _ (table : List ℕ) where
   pub total-append : (p q : List ℤ) → total table (p ++ q) ≡ total table p + total table q

@@ -8,7 +8,7 @@ use lib.ListN.{length, take, drop}
 use borrow.Author.Rules.{rules}
 use types.Run.{OneOf, miss}
 use denote.Enum.Declared.{tag_of}
-use Rattle.numbers.specs.BigEndian.{unsignedAt}
+use Rattle.numbers.specs.BigEndian.{unsigned_at}
 use Rattle.steps.specs.declared.Form.{Form}
 use Rattle.columns.specs.declared.Kind.{Kind}
 use Rattle.columns.specs.declared.Kind.TheVariants as kind
@@ -16,10 +16,10 @@ use Rattle.columns.specs.contracts.Kind.{the_type}
 use Rattle.columns.specs.declared.Codec.TheVariants.{Known}
 use Rattle.columns.specs.Table.{suits}
 use Rattle.columns.specs.declared.Header.TheVariants.{Good}
-use Rattle.columns.specs.Header.{headerSize}
-use Rattle.columns.specs.Decode.{Decoding, judgedPayload}
+use Rattle.columns.specs.Header.{header_size}
+use Rattle.columns.specs.Decode.{Decoding, judged_payload}
 use Rattle.columns.specs.Laws.Buffer.{Answers, answers-refused}
-use Rattle.floats.specs.Calls.{exactly, floatBits}
+use Rattle.floats.specs.Calls.{exactly, float_bits}
 use Rattle.columns.specs.declared.Wanted.TheVariants.{Real}
 use Rattle.columns.specs.Laws.Table.{Passes, header-passes}
 use Rattle.columns.specs.Laws.Decode.{decode-refused, decode-good}
@@ -54,7 +54,7 @@ quotients-in-requires c κs =
     let a = c.before.before.before.before.before.before.before.before.before.before.args in
     let k = c.before.before.before.before.before.n.given.0 in
     let p = (passed c.before.before.before.before.before).3 in
-    fixed-row (unsignedAt 4 a.column.now 0) k.1.1.1.0 k.1.1.1.1.0 p.0 k.1.0 (p.1 ∙ ap (λ (x : Kind). Known x k.1.1.1.0 k.1.1.1.1.0 p.0) c.before.before.enum_told.given.1) p.2
+    fixed-row (unsigned_at 4 a.column.now 0) k.1.1.1.0 k.1.1.1.1.0 p.0 k.1.0 (p.1 ∙ ap (λ (x : Kind). Known x k.1.1.1.0 k.1.1.1.1.0 p.0) c.before.before.enum_told.given.1) p.2
 
 sub-kept-in : tie.Need-overflow-sub-kept-in
 sub-kept-in c = (passed c.before.before).0
@@ -66,15 +66,15 @@ returns : tie.Need-returns
 returns c =
     let a = c.before.before.before.before.before.before.args in
     let g = c.before.r.given in
-    answers-refused floatBits _ a.buffer.now g.0.0 (ap exactly (decode-refused Real a.column.now g.0.0 (sym c.before.before.before.read-header.ensures ∙ g.1)))
+    answers-refused float_bits _ a.buffer.now g.0.0 (ap exactly (decode-refused Real a.column.now g.0.0 (sym c.before.before.before.read-header.ensures ∙ g.1)))
 
 returns-2 : tie.Need-returns-2
 returns-2 c =
     let a = c.before.before.before.before.before.before.before.before.before.before.before.before.before.args in
     let k = c.before.before.before.before.before.before.before.before.n.given.0 in
     let e = decode-good Real a.column.now k.0 k.1.0 k.1.1.0 k.1.1.1.0 k.1.1.1.1.0 (sym c.before.before.before.before.before.before.before.before.before.before.read-header.ensures ∙ c.before.before.before.before.before.before.before.before.n.given.1) in
-    subst (λ (x : Decoding). Answers floatBits (exactly x) a.buffer.now c.before.before.quotients-in.result c.before.before.quotients-in.new.1.1.1.1.1.0)
-    (ap (λ (x : Kind). judgedPayload (Good k.0 k.1.0 x k.1.1.1.0 k.1.1.1.1.0) (take (length a.column.now - headerSize) (drop headerSize a.column.now))) (sym c.before.before.before.before.before.enum_told.given.1) ∙ sym e)
+    subst (λ (x : Decoding). Answers float_bits (exactly x) a.buffer.now c.before.before.quotients-in.result c.before.before.quotients-in.new.1.1.1.1.1.0)
+    (ap (λ (x : Kind). judged_payload (Good k.0 k.1.0 x k.1.1.1.0 k.1.1.1.1.0) (take (length a.column.now - header_size) (drop header_size a.column.now))) (sym c.before.before.before.before.before.enum_told.given.1) ∙ sym e)
     c.before.before.quotients-in.ensures
 
 returns-3 : tie.Need-returns-3
@@ -83,11 +83,11 @@ returns-3 c =
     let k = c.before.before.before.before.before.before.before.n.given.0 in
     let p = passed c.before.before.before.before.before.before.before in
     let t = other k.1.1.0 p.2 c.before.before.before.before.before.match2.keys2 in
-    let w = float-row (unsignedAt 4 a.column.now 0) k.1.1.1.0 k.1.1.1.1.0 p.3.0 (p.3.1 ∙ ap (λ (x : Kind). Known x k.1.1.1.0 k.1.1.1.1.0 p.3.0) t) in
+    let w = float-row (unsigned_at 4 a.column.now 0) k.1.1.1.0 k.1.1.1.1.0 p.3.0 (p.3.1 ∙ ap (λ (x : Kind). Known x k.1.1.1.0 k.1.1.1.1.0 p.3.0) t) in
     let e = decode-good Real a.column.now k.0 k.1.0 k.1.1.0 k.1.1.1.0 k.1.1.1.1.0 (sym c.before.before.before.before.before.before.before.before.before.read-header.ensures ∙ c.before.before.before.before.before.before.before.n.given.1) in
-    subst (λ (x : Decoding). Answers floatBits (exactly x) a.buffer.now c.before.before.kept_in.result c.before.before.kept_in.new.1.1.1.0)
-    (ap₂ (λ (x : Form) (d : Bool). judgedPayload (Good k.0 k.1.0 kind.Float32 x d) (take (length a.column.now - headerSize) (drop headerSize a.column.now))) (sym w.0) (sym w.1)
-    ∙ ap (λ (x : Kind). judgedPayload (Good k.0 k.1.0 x k.1.1.1.0 k.1.1.1.1.0) (take (length a.column.now - headerSize) (drop headerSize a.column.now))) (sym t) ∙ sym e)
+    subst (λ (x : Decoding). Answers float_bits (exactly x) a.buffer.now c.before.before.kept_in.result c.before.before.kept_in.new.1.1.1.0)
+    (ap₂ (λ (x : Form) (d : Bool). judged_payload (Good k.0 k.1.0 kind.Float32 x d) (take (length a.column.now - header_size) (drop header_size a.column.now))) (sym w.0) (sym w.1)
+    ∙ ap (λ (x : Kind). judged_payload (Good k.0 k.1.0 x k.1.1.1.0 k.1.1.1.1.0) (take (length a.column.now - header_size) (drop header_size a.column.now))) (sym t) ∙ sym e)
     c.before.before.kept_in.ensures
 
 pub decode-float32-spec : {M : Type 1} → statement M

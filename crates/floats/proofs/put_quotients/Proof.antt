@@ -16,7 +16,7 @@ use Rattle.steps.specs.declared.Form.{Form}
 use Rattle.steps.specs.declared.Form.TheVariants.{Plain, Packed, Runs}
 use Rattle.payloads.specs.Results.{HasRoom, HasResults, Wrote, ResultsExact}
 use Rattle.payloads.specs.Laws.Writing.{wrote_as}
-use Rattle.floats.specs.Steps.{bitsBy, isDivided, Divisible, DivisibleAlone}
+use Rattle.floats.specs.Steps.{bits_by, is_divided, Divisible, DivisibleAlone}
 use Rattle.floats.specs.Laws.Table.{plain-divided}
 use Rattle.floats.proofs.put_quotients.Statement.{statement}
 use Rattle.floats.proofs.put_quotients.Tie as tie
@@ -30,14 +30,14 @@ alone : (s : List ℕ) (n room : ℕ) (x : Float) {f g : Form} {d : Bool} → f 
 alone s n room x {f} {g} {d} e q p r h = subst (λ (i : Form). DivisibleAlone i s n room x) e (r, h, subst (λ (b : Bool). ResultsExact f b s) q p.1, p.2)
 
 -- what it leaves
-puts : (f g : Form) (d : Bool) (s old new : List ℕ) (x : Float) → f ≡ g → Wrote (bitsBy x) g d s old new → Wrote (bitsBy x) f d s old new
-puts f g d s old new x e w = subst (λ (h : Form). Wrote (bitsBy x) h d s old new) (sym e) w
+puts : (f g : Form) (d : Bool) (s old new : List ℕ) (x : Float) → f ≡ g → Wrote (bits_by x) g d s old new → Wrote (bits_by x) f d s old new
+puts f g d s old new x e w = subst (λ (h : Form). Wrote (bits_by x) h d s old new) (sym e) w
 
 put-plain-requires : tie.Need-put-plain-requires
 put-plain-requires c κs =
     let a = c.before.before.before.before.before.before in
     let e = c.before.before.form.given.1 in
-    let d = plain-divided c.before.before.form.given.0.0 a.args.delta (subst (λ (h : Form). isDivided h a.args.delta ≡ true) e a.requires.1.2) in
+    let d = plain-divided c.before.before.form.given.0.0 a.args.delta (subst (λ (h : Form). is_divided h a.args.delta ≡ true) e a.requires.1.2) in
     alone a.args.payload.now a.args.n (length a.args.buffer.now) a.args.divisor e d a.requires.0 a.requires.1.0 a.requires.1.1
 
 write-packed-requires : tie.Need-write-packed-requires
@@ -51,8 +51,8 @@ write-packed-requires-2 c κs =
     asks a.args.form (Packed Two) a.args.delta a.args.payload.now (length a.args.buffer.now) a.args.divisor (c.before.before.before.before.form2.given.1 ∙ ap Packed c.before.enum-told2.given.1) a.requires.0
 
 -- runs that are divided have no delta
-no-delta : (r : Range) (f : Form) (d : Bool) → f ≡ Runs r → isDivided f d ≡ true → d ≡ false
-no-delta r f d e j = not-true d (subst (λ (h : Form). isDivided h d ≡ true) e j)
+no-delta : (r : Range) (f : Form) (d : Bool) → f ≡ Runs r → is_divided f d ≡ true → d ≡ false
+no-delta r f d e j = not-true d (subst (λ (h : Form). is_divided h d ≡ true) e j)
 
 write-runs-requires : tie.Need-write-runs-requires
 write-runs-requires c κs =
@@ -65,8 +65,8 @@ returns : tie.Need-returns
 returns c =
     let a = c.before.before.before.before.before.before.before.before.before in
     let e = c.before.before.before.before.before.form.given.1 in
-    let d = plain-divided c.before.before.before.before.before.form.given.0.0 a.args.delta (subst (λ (h : Form). isDivided h a.args.delta ≡ true) e a.requires.1.2) in
-    wrote_as (bitsBy a.args.divisor) a.args.payload.now a.args.buffer.now c.before.before.put-plain.new.1.1.1.1.0 e d c.before.before.put-plain.ensures
+    let d = plain-divided c.before.before.before.before.before.form.given.0.0 a.args.delta (subst (λ (h : Form). is_divided h a.args.delta ≡ true) e a.requires.1.2) in
+    wrote_as (bits_by a.args.divisor) a.args.payload.now a.args.buffer.now c.before.before.put-plain.new.1.1.1.1.0 e d c.before.before.put-plain.ensures
 
 returns-2 : tie.Need-returns-2
 returns-2 c =
@@ -82,7 +82,7 @@ returns-3 c =
 returns-4 : tie.Need-returns-4
 returns-4 c =
     let a = c.before.before.before.before.before.before.before in
-    let e = ap (λ (f : Form). isDivided f a.args.delta) (c.before.before.before.form2.given.1 ∙ ap Packed c.enum-told3.given.1) in
+    let e = ap (λ (f : Form). is_divided f a.args.delta) (c.before.before.before.form2.given.1 ∙ ap Packed c.enum-told3.given.1) in
     let h = a.requires.1.2 in
     let y : ◌≡◌ {A = ℕ} 0 1 = cc in
     absurd (omega arith)
@@ -93,13 +93,13 @@ returns-5 c =
     let e = c.before.before.before.before.before.form3.given.1 in
     let d = no-delta c.before.before.before.before.before.form3.given.0.0 a.args.form a.args.delta e a.requires.1.2 in
     puts a.args.form (Runs c.before.before.before.before.before.form3.given.0.0) a.args.delta a.args.payload.now a.args.buffer.now c.before.before.write-runs.new.1.1.1.1.0 a.args.divisor e
-    (subst (λ (t : Bool). Wrote (bitsBy a.args.divisor) (Runs c.before.before.before.before.before.form3.given.0.0) t a.args.payload.now a.args.buffer.now c.before.before.write-runs.new.1.1.1.1.0) (sym d) c.before.before.write-runs.ensures)
+    (subst (λ (t : Bool). Wrote (bits_by a.args.divisor) (Runs c.before.before.before.before.before.form3.given.0.0) t a.args.payload.now a.args.buffer.now c.before.before.write-runs.new.1.1.1.1.0) (sym d) c.before.before.write-runs.ensures)
 
 -- nor are names
 returns-6 : tie.Need-returns-6
 returns-6 c =
     let a = c.before.before.before.before in
-    let e = ap (λ (f : Form). isDivided f a.args.delta) c.enum-told4.given.1 in
+    let e = ap (λ (f : Form). is_divided f a.args.delta) c.enum-told4.given.1 in
     let h = a.requires.1.2 in
     let y : ◌≡◌ {A = ℕ} 0 1 = cc in
     absurd (omega arith)

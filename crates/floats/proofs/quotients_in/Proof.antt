@@ -5,17 +5,17 @@ use native.Mathlib.Omega.{arith}
 use lib.IntN.{pos}
 use borrow.Author.Rules.{rules}
 use borrow.Author.Tests.{not-true, not-false}
-use Rattle.refusal.specs.Table.{notExact}
-use Rattle.steps.specs.Delta.{sumsIf}
+use Rattle.refusal.specs.Table.{not_exact}
+use Rattle.steps.specs.Delta.{sums_if}
 use Rattle.columns.specs.declared.Kind.TheVariants as kind
 use Rattle.columns.specs.declared.Header.TheVariants.{Good}
-use Rattle.columns.specs.Decode.{column, judgedPayload}
+use Rattle.columns.specs.Decode.{column, judged_payload}
 use Rattle.columns.specs.Laws.Buffer.{answers-refused}
 use Rattle.payloads.specs.Laws.Judged.{Holds, scan-refused, scan-fine, holds-small, holds-done}
-use Rattle.payloads.specs.Exact.{exact, allExact}
+use Rattle.payloads.specs.Exact.{exact, all_exact}
 use Rattle.floats.specs.Laws.Table.{exact-names, divided-judged}
 use Rattle.floats.specs.Laws.Quotient.{exact-in, divisor-positive}
-use Rattle.floats.specs.Calls.{exactly, floatBits}
+use Rattle.floats.specs.Calls.{exactly, float_bits}
 use Rattle.floats.specs.Laws.Calls.{holds_exact, all_results, exactly-refused, exactly-column}
 use Rattle.floats.proofs.quotients_in.Statement.{statement}
 use Rattle.floats.proofs.quotients_in.Tie as tie
@@ -23,7 +23,7 @@ use Rattle.floats.proofs.quotients_in.Tie as tie
 -- the column that the scan found, and whether its cells are exact
 found : (c : tie.After-exact)
     → (h : Holds c.before.before.before.before.before.args.n c.before.before.before.before.before.args.m kind.FixedPoint c.before.before.before.before.before.args.form c.before.before.before.before.before.args.delta c.before.before.before.before.before.args.payload.now)
-    × (allExact (sumsIf c.before.before.before.before.before.args.delta h.0) ≡ c.exact.given.0.0)
+    × (all_exact (sums_if c.before.before.before.before.before.args.delta h.0) ≡ c.exact.given.0.0)
 found c =
     let a = c.before.before.before.before.before in
     let k = c.exact.given.0 in
@@ -32,24 +32,24 @@ found c =
     (g.0, holds_exact a.args.n a.args.m kind.FixedPoint a.args.form a.args.delta a.args.payload.now g.0 k.0 g.1 j)
 
 -- whether cells and divisor are exact
-both : (c : tie.After-are-exact) → (allExact (sumsIf c.before.before.before.before.before.before.before.args.delta (found c.before.before).0.0) && exact (pos c.before.before.before.before.before.before.before.args.m)) ≡ c.are-exact.result
+both : (c : tie.After-are-exact) → (all_exact (sums_if c.before.before.before.before.before.before.before.args.delta (found c.before.before).0.0) && exact (pos c.before.before.before.before.before.before.before.args.m)) ≡ c.are-exact.result
 both c = ap (λ (x : Bool). x && exact (pos c.before.before.before.before.before.before.before.args.m)) (found c.before.before).1 ∙ sym c.are-exact.ensures
 
-fine : (c : tie.Else1) → not (allExact (sumsIf c.before.before.before.before.before.before.before.before.args.delta (found c.before.before.before).0.0) && exact (pos c.before.before.before.before.before.before.before.before.args.m)) ≡ false
+fine : (c : tie.Else1) → not (all_exact (sums_if c.before.before.before.before.before.before.before.before.args.delta (found c.before.before.before).0.0) && exact (pos c.before.before.before.before.before.before.before.before.args.m)) ≡ false
 fine c = ap not (both c.before) ∙ c.if1.false
 
 -- each of them
-parts : (c : tie.Else1) → (allExact (sumsIf c.before.before.before.before.before.before.before.before.args.delta (found c.before.before.before).0.0) ≡ true) × (exact (pos c.before.before.before.before.before.before.before.before.args.m) ≡ true)
+parts : (c : tie.Else1) → (all_exact (sums_if c.before.before.before.before.before.before.before.before.args.delta (found c.before.before.before).0.0) ≡ true) × (exact (pos c.before.before.before.before.before.before.before.before.args.m) ≡ true)
 parts c = (and-eq-true_iff _ _).0 (both c.before ∙ not-false _ c.if1.false)
 
 returns : tie.Need-returns
 returns c =
     let a = c.before.before.before.before.before.before.before.before in
     let h = (found c.before.before.before).0 in
-    answers-refused floatBits (exactly (judgedPayload (Good a.args.n a.args.m kind.FixedPoint a.args.form a.args.delta) a.args.payload.now)) a.args.buffer.now notExact (exactly-refused a.args.n a.args.m kind.FixedPoint a.args.form a.args.delta a.args.payload.now h refl (both c.before ∙ not-true _ c.if1.true))
+    answers-refused float_bits (exactly (judged_payload (Good a.args.n a.args.m kind.FixedPoint a.args.form a.args.delta) a.args.payload.now)) a.args.buffer.now not_exact (exactly-refused a.args.n a.args.m kind.FixedPoint a.args.form a.args.delta a.args.payload.now h refl (both c.before ∙ not-true _ c.if1.true))
 
 -- the column, where all is exact
-column-is : (c : tie.Else1) → exactly (judgedPayload (Good c.before.before.before.before.before.before.before.before.args.n c.before.before.before.before.before.before.before.before.args.m kind.FixedPoint c.before.before.before.before.before.before.before.before.args.form c.before.before.before.before.before.before.before.before.args.delta) c.before.before.before.before.before.before.before.before.args.payload.now) ≡ column kind.FixedPoint c.before.before.before.before.before.before.before.before.args.m (sumsIf c.before.before.before.before.before.before.before.before.args.delta (found c.before.before.before).0.0)
+column-is : (c : tie.Else1) → exactly (judged_payload (Good c.before.before.before.before.before.before.before.before.args.n c.before.before.before.before.before.before.before.before.args.m kind.FixedPoint c.before.before.before.before.before.before.before.before.args.form c.before.before.before.before.before.before.before.before.args.delta) c.before.before.before.before.before.before.before.before.args.payload.now) ≡ column kind.FixedPoint c.before.before.before.before.before.before.before.before.args.m (sums_if c.before.before.before.before.before.before.before.before.args.delta (found c.before.before.before).0.0)
 column-is c =
     let a = c.before.before.before.before.before.before.before.before in
     exactly-column a.args.n a.args.m kind.FixedPoint a.args.form a.args.delta a.args.payload.now (found c.before.before.before).0 (fine c)
@@ -57,7 +57,7 @@ column-is c =
 returns-2 : tie.Need-returns-2
 returns-2 c =
     let a = c.before.before.before.before.before.before.before.before.before in
-    holds-small floatBits a.args.n a.args.m kind.FixedPoint a.args.form a.args.delta a.args.payload.now (found c.before.before.before.before).0 (exactly (judgedPayload (Good a.args.n a.args.m kind.FixedPoint a.args.form a.args.delta) a.args.payload.now)) (column-is c.before) a.args.buffer.now c.if2.true
+    holds-small float_bits a.args.n a.args.m kind.FixedPoint a.args.form a.args.delta a.args.payload.now (found c.before.before.before.before).0 (exactly (judged_payload (Good a.args.n a.args.m kind.FixedPoint a.args.form a.args.delta) a.args.payload.now)) (column-is c.before) a.args.buffer.now c.if2.true
 
 int-to-float-put-quotients : tie.Need-int-to-float-put-quotients
 int-to-float-put-quotients c = exact-in (pos c.before.before.before.before.before.before.before.before.before.before.args.m) (parts c.before.before).1
@@ -78,12 +78,12 @@ returns-3 : tie.Need-returns-3
 returns-3 c =
     let a = c.before.before.before.before.before.before in
     let r = c.before.r.given in
-    answers-refused floatBits (exactly (judgedPayload (Good a.args.n a.args.m kind.FixedPoint a.args.form a.args.delta) a.args.payload.now)) a.args.buffer.now r.0.0 (ap exactly (scan-refused a.args.n a.args.m kind.FixedPoint a.args.form a.args.delta a.args.payload.now r.0.0 (sym c.before.before.before.scan.ensures ∙ r.1)))
+    answers-refused float_bits (exactly (judged_payload (Good a.args.n a.args.m kind.FixedPoint a.args.form a.args.delta) a.args.payload.now)) a.args.buffer.now r.0.0 (ap exactly (scan-refused a.args.n a.args.m kind.FixedPoint a.args.form a.args.delta a.args.payload.now r.0.0 (sym c.before.before.before.scan.ensures ∙ r.1)))
 
 returns-4 : tie.Need-returns-4
 returns-4 c =
     let a = c.before.before.before.before.before.before.before.before.before.before.before.before.before.before in
-    holds-done floatBits a.args.n a.args.m kind.FixedPoint a.args.form a.args.delta a.args.payload.now (found c.before.before.before.before.before.before.before.before.before).0 (exactly (judgedPayload (Good a.args.n a.args.m kind.FixedPoint a.args.form a.args.delta) a.args.payload.now)) (column-is c.before.before.before.before.before.before) a.args.buffer.now c.before.before.before.before.before.if2.false c.before.before.put-quotients.new.1.1.1.1.1.0 c.before.before.put-quotients.ensures
+    holds-done float_bits a.args.n a.args.m kind.FixedPoint a.args.form a.args.delta a.args.payload.now (found c.before.before.before.before.before.before.before.before.before).0 (exactly (judged_payload (Good a.args.n a.args.m kind.FixedPoint a.args.form a.args.delta) a.args.payload.now)) (column-is c.before.before.before.before.before.before) a.args.buffer.now c.before.before.before.before.before.if2.false c.before.before.put-quotients.new.1.1.1.1.1.0 c.before.before.put-quotients.ensures
 
 pub quotients-in-spec : {M : Type 1} → statement M
 quotients-in-spec =

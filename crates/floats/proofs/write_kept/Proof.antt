@@ -6,7 +6,7 @@ use lib.ListN.{length, take, drop, length-set}
 use mir.Syntax.{w32}
 use mir.Facts.{of_z-to_z}
 use borrow.Author.Rules.{rules}
-use Rattle.numbers.specs.BigEndian.{signedAt, unsignedAt}
+use Rattle.numbers.specs.BigEndian.{signed_at, unsigned_at}
 use Rattle.steps.specs.declared.Size.TheVariants.{Four}
 use Rattle.steps.specs.declared.Form.TheVariants.{Plain}
 use Rattle.payloads.specs.Results.{HasResults}
@@ -27,18 +27,18 @@ inside : (c : tie.In-loop invariant-loop decreases-loop) → c.before.loop.i * 4
 inside c = let a = c.before.before.before.before in plain-inside kept Four a.args.payload.now a.args.n a.requires.0 c.before.loop.i (omega arith)
 
 loop-again : tie.Need-loop-preserved invariant-loop decreases-loop
-unfolding signedAt
+unfolding signed_at
 loop-again c =
     let a = c.before.before.before.before.before.before in
     let p = c.before.before.before.loop in
     let s = a.args.payload.now in
     let m : p.i * 4 + 4 - p.i * 4 ≡ 4 = omega arith in
-    let e = c.read_u32.ensures ∙ ap (λ (i : ℕ). unsignedAt 4 (take i (drop (p.i * 4) s)) 0) m in
-    let u : unsignedAt 4 (take 4 (drop (p.i * 4) s)) 0 < 4294967296 = omega (arith, e, c.read_u32.type-inv) in
-    let b = e ∙ sym (of_z-to_z {w = w32} {n = unsignedAt 4 (take 4 (drop (p.i * 4) s)) 0} (record { fits = u })) in (
+    let e = c.read_u32.ensures ∙ ap (λ (i : ℕ). unsigned_at 4 (take i (drop (p.i * 4) s)) 0) m in
+    let u : unsigned_at 4 (take 4 (drop (p.i * 4) s)) 0 < 4294967296 = omega (arith, e, c.read_u32.type-inv) in
+    let b = e ∙ sym (of_z-to_z {w = w32} {n = unsigned_at 4 (take 4 (drop (p.i * 4) s)) 0} (record { fits = u })) in (
       omega arith,
       length-set p.buffer p.i _ ∙ p.invariant.1,
-      (λ held. plain-next kept Four s a.args.n held p.i (omega arith) (signedAt w32 (take 4 (drop (p.i * 4) s)) 0) refl a.args.buffer.now p.buffer _ a.requires.1 b (p.invariant.2 held)),
+      (λ held. plain-next kept Four s a.args.n held p.i (omega arith) (signed_at w32 (take 4 (drop (p.i * 4) s)) 0) refl a.args.buffer.now p.buffer _ a.requires.1 b (p.invariant.2 held)),
     )
 
 returns : tie.Need-returns invariant-loop decreases-loop

@@ -13,44 +13,44 @@ use mir.Syntax.{w32}
 use mir.Val.{to_z, of_z}
 use mir.Facts.{to_z-of_z}
 use borrow.Author.Rules.{rules}
-use Rattle.numbers.specs.BigEndian.{signedAt}
+use Rattle.numbers.specs.BigEndian.{signed_at}
 use Rattle.steps.specs.declared.Range.{Range}
 use Rattle.steps.specs.declared.Form.TheVariants.{Runs}
-use Rattle.steps.specs.Delta.{lastFrom}
-use Rattle.steps.specs.Payload.{readIn}
+use Rattle.steps.specs.Delta.{last_from}
+use Rattle.steps.specs.Payload.{read_in}
 use Rattle.payloads.specs.Results.{HasResults}
 use Rattle.payloads.specs.Laws.Items.{runs-end}
 use Rattle.payloads.specs.Laws.Writing.{next-exact}
 use Rattle.payloads.specs.Laws.Runs.{run-here, Begun, begun-start, begun-rest, begun-room, begun-run, begun-end, part-number}
-use Rattle.floats.specs.Steps.{bitsBy}
+use Rattle.floats.specs.Steps.{bits_by}
 use Rattle.floats.specs.Laws.Quotient.{run-exact}
 use Rattle.floats.proofs.write_runs.Statement.{statement}
 use Rattle.floats.proofs.write_runs.Tie as tie
 
 abbrev invariant-loop : tie.invariant-loop
 invariant-loop payload divisor n buffer₀ at₀ o₀ buffer at o =
-    (at ≤ length payload) × ((r : Range) (held : HasResults (Runs r) payload n) (room : n ≤ length buffer₀) → Begun (bitsBy divisor) (Runs r) payload buffer₀ n held room at o buffer)
+    (at ≤ length payload) × ((r : Range) (held : HasResults (Runs r) payload n) (room : n ≤ length buffer₀) → Begun (bits_by divisor) (Runs r) payload buffer₀ n held room at o buffer)
 
 abbrev decreases-loop : tie.decreases-loop
 decreases-loop payload divisor n buffer₀ at₀ o₀ buffer at o = length payload - at
 
 loop-holds : tie.Need-loop-init invariant-loop decreases-loop
-loop-holds c = let a = c.before.before.args in (omega arith, (λ r held room. begun-start (bitsBy a.divisor) (Runs r) a.payload.now a.buffer.now a.n held room))
+loop-holds c = let a = c.before.before.args in (omega arith, (λ r held room. begun-start (bits_by a.divisor) (Runs r) a.payload.now a.buffer.now a.n held room))
 
 -- the run at the place
 next : (c : tie.After-read-i32 invariant-loop decreases-loop) (r : Range) → HasResults (Runs r) c.before.before.before.before.before.before.args.payload.now c.before.before.before.before.before.before.args.n
-    → (1 ≤ of_z w32 (signedAt w32 c.before.before.before.before.before.before.args.payload.now (c.before.before.before.loop.at + 4)))
-    × (readIn (Runs r) (drop c.before.before.before.loop.at c.before.before.before.before.before.before.args.payload.now)
-    ≡ map (λ (l : List ℤ). replicate (of_z w32 (signedAt w32 c.before.before.before.before.before.before.args.payload.now (c.before.before.before.loop.at + 4))) (signedAt w32 c.before.before.before.before.before.before.args.payload.now c.before.before.before.loop.at) ++ l) (readIn (Runs r) (drop (c.before.before.before.loop.at + 8) c.before.before.before.before.before.before.args.payload.now)))
+    → (1 ≤ of_z w32 (signed_at w32 c.before.before.before.before.before.before.args.payload.now (c.before.before.before.loop.at + 4)))
+    × (read_in (Runs r) (drop c.before.before.before.loop.at c.before.before.before.before.before.before.args.payload.now)
+    ≡ map (λ (l : List ℤ). replicate (of_z w32 (signed_at w32 c.before.before.before.before.before.before.args.payload.now (c.before.before.before.loop.at + 4))) (signed_at w32 c.before.before.before.before.before.before.args.payload.now c.before.before.before.loop.at) ++ l) (read_in (Runs r) (drop (c.before.before.before.loop.at + 8) c.before.before.before.before.before.before.args.payload.now)))
 next c r held =
     let a = c.before.before.before.before.before.before in
     let p = c.before.before.before.loop in
-    let t = begun-rest (bitsBy a.args.divisor) (Runs r) a.args.payload.now a.args.buffer.now a.args.n held a.requires.1 p.at p.o p.buffer (p.invariant.1 r held a.requires.1) in
+    let t = begun-rest (bits_by a.args.divisor) (Runs r) a.args.payload.now a.args.buffer.now a.args.n held a.requires.1 p.at p.o p.buffer (p.invariant.1 r held a.requires.1) in
     run-here r a.args.payload.now p.at t.0 (omega arith) t.1
 
 -- its value
-value : (c : tie.After-read-i32 invariant-loop decreases-loop) → to_z w32 (of_z w32 c.read-i32.result) ≡ signedAt w32 c.before.before.before.before.before.before.args.payload.now c.before.before.before.loop.at
-value c = to_z-of_z {w = w32} (record { sfits = c.read-i32.type-inv }) ∙ c.read-i32.ensures ∙ part-number c.before.before.before.before.before.before.args.payload.now c.before.before.before.loop.at 0 (omega arith) ∙ ap (signedAt w32 c.before.before.before.before.before.before.args.payload.now) (add-zero c.before.before.before.loop.at)
+value : (c : tie.After-read-i32 invariant-loop decreases-loop) → to_z w32 (of_z w32 c.read-i32.result) ≡ signed_at w32 c.before.before.before.before.before.before.args.payload.now c.before.before.before.loop.at
+value c = to_z-of_z {w = w32} (record { sfits = c.read-i32.type-inv }) ∙ c.read-i32.ensures ∙ part-number c.before.before.before.before.before.before.args.payload.now c.before.before.before.loop.at 0 (omega arith) ∙ ap (signed_at w32 c.before.before.before.before.before.before.args.payload.now) (add-zero c.before.before.before.loop.at)
 
 quotient-bits-requires : tie.Need-quotient-bits-requires invariant-loop decreases-loop
 quotient-bits-requires c κs =
@@ -59,16 +59,16 @@ quotient-bits-requires c κs =
     let w = p.invariant.1 a.args.range a.requires.0 a.requires.1 in
     let q = next c a.args.range a.requires.0 in
     let s = a.args.payload.now in
-    let e = next-exact (Runs a.args.range) false a.args.payload.now w.0 (lastFrom false (pos 0) w.0) (signedAt w32 a.args.payload.now p.at) (of_z w32 (signedAt w32 a.args.payload.now (p.at + 4))) (readIn (Runs a.args.range) (drop p.at a.args.payload.now)) (readIn (Runs a.args.range) (drop (p.at + 8) a.args.payload.now)) a.requires.0.0 a.requires.2 a.requires.0.1 w.1 refl q.1 in
-    (rw (value c) (run-exact false (lastFrom false (pos 0) w.0) (signedAt w32 a.args.payload.now p.at) (of_z w32 (signedAt w32 a.args.payload.now (p.at + 4))) 0 e q.0), a.requires.3)
+    let e = next-exact (Runs a.args.range) false a.args.payload.now w.0 (last_from false (pos 0) w.0) (signed_at w32 a.args.payload.now p.at) (of_z w32 (signed_at w32 a.args.payload.now (p.at + 4))) (read_in (Runs a.args.range) (drop p.at a.args.payload.now)) (read_in (Runs a.args.range) (drop (p.at + 8) a.args.payload.now)) a.requires.0.0 a.requires.2 a.requires.0.1 w.1 refl q.1 in
+    (rw (value c) (run-exact false (last_from false (pos 0) w.0) (signed_at w32 a.args.payload.now p.at) (of_z w32 (signed_at w32 a.args.payload.now (p.at + 4))) 0 e q.0), a.requires.3)
 
 -- its count
-count : (c : tie.After-to-u32 invariant-loop decreases-loop) → c.to-u32.result ≡ of_z w32 (signedAt w32 c.before.before.before.before.before.before.before.before.before.args.payload.now (c.before.before.before.before.before.before.loop.at + 4))
+count : (c : tie.After-to-u32 invariant-loop decreases-loop) → c.to-u32.result ≡ of_z w32 (signed_at w32 c.before.before.before.before.before.before.before.before.before.args.payload.now (c.before.before.before.before.before.before.loop.at + 4))
 count c = c.to-u32.ensures ∙ ap (of_z w32) (to_z-of_z {w = w32} (record { sfits = c.before.read-i322.type-inv }) ∙ c.before.read-i322.ensures ∙ part-number c.before.before.before.before.before.before.before.before.before.args.payload.now c.before.before.before.before.before.before.loop.at 4 (omega arith))
 
 here : (c : tie.After-to-u32 invariant-loop decreases-loop) (r : Range) → HasResults (Runs r) c.before.before.before.before.before.before.before.before.before.args.payload.now c.before.before.before.before.before.before.before.before.before.args.n
-    → readIn (Runs r) (drop c.before.before.before.before.before.before.loop.at c.before.before.before.before.before.before.before.before.before.args.payload.now)
-    ≡ map (λ (l : List ℤ). replicate c.to-u32.result (signedAt w32 c.before.before.before.before.before.before.before.before.before.args.payload.now c.before.before.before.before.before.before.loop.at) ++ l) (readIn (Runs r) (drop (c.before.before.before.before.before.before.loop.at + 8) c.before.before.before.before.before.before.before.before.before.args.payload.now))
+    → read_in (Runs r) (drop c.before.before.before.before.before.before.loop.at c.before.before.before.before.before.before.before.before.before.args.payload.now)
+    ≡ map (λ (l : List ℤ). replicate c.to-u32.result (signed_at w32 c.before.before.before.before.before.before.before.before.before.args.payload.now c.before.before.before.before.before.before.loop.at) ++ l) (read_in (Runs r) (drop (c.before.before.before.before.before.before.loop.at + 8) c.before.before.before.before.before.before.before.before.before.args.payload.now))
 here c r held = rw (count c) (next c.before.before.before r held).1
 
 -- there is room for it
@@ -77,7 +77,7 @@ has_room c =
     let a = c.before.before.before.before.before.before.before.before.before in
     let p = c.before.before.before.before.before.before.loop in
     let w = p.invariant.1 a.args.range a.requires.0 a.requires.1 in
-    (begun-room (bitsBy a.args.divisor) (Runs a.args.range) a.args.payload.now a.args.buffer.now a.args.n a.requires.0 a.requires.1 p.at p.o p.buffer w (signedAt w32 a.args.payload.now p.at) c.to-u32.result (p.at + 8) (here c a.args.range a.requires.0), w.3)
+    (begun-room (bits_by a.args.divisor) (Runs a.args.range) a.args.payload.now a.args.buffer.now a.args.n a.requires.0 a.requires.1 p.at p.o p.buffer w (signed_at w32 a.args.payload.now p.at) c.to-u32.result (p.at + 8) (here c a.args.range a.requires.0), w.3)
 
 write-run-requires : tie.Need-write-run-requires invariant-loop decreases-loop
 write-run-requires c κs = let r = has_room c.before in let k = c.before.before.before.before.before.before.before.before.before.before.requires.1 in (omega (arith, r.0, r.1), omega (arith, r.0, r.1))
@@ -89,9 +89,9 @@ loop-again : tie.Need-loop-preserved invariant-loop decreases-loop
 loop-again c =
     let a = c.before.before.before.before.before.before.before.before.before.before.before.before.before in
     let p = c.before.before.before.before.before.before.before.before.before.before.loop in
-    let v = c.before.before.before.before.before.before.quotient-bits.ensures ∙ ap (bitsBy a.args.divisor) (value c.before.before.before.before.before.before.before) in (
+    let v = c.before.before.before.before.before.before.quotient-bits.ensures ∙ ap (bits_by a.args.divisor) (value c.before.before.before.before.before.before.before) in (
       omega arith,
-      (λ r held room. begun-run (bitsBy a.args.divisor) (Runs r) a.args.payload.now a.args.buffer.now a.args.n held room p.at p.o p.buffer (p.invariant.1 r held room) (signedAt w32 a.args.payload.now p.at) c.before.before.before.before.to-u32.result (p.at + 8) (here c.before.before.before.before r held) c.before.before.write-run.new.0 (rw v at c.before.before.write-run.ensures)),
+      (λ r held room. begun-run (bits_by a.args.divisor) (Runs r) a.args.payload.now a.args.buffer.now a.args.n held room p.at p.o p.buffer (p.invariant.1 r held room) (signed_at w32 a.args.payload.now p.at) c.before.before.before.before.to-u32.result (p.at + 8) (here c.before.before.before.before r held) c.before.before.write-run.new.0 (rw v at c.before.before.write-run.ensures)),
     )
 
 same_length : tie.Need-same-length invariant-loop decreases-loop
@@ -101,7 +101,7 @@ returns : tie.Need-returns invariant-loop decreases-loop
 returns c =
     let a = c.before.before.before.before in
     let p = c.before.loop in
-    begun-end (bitsBy a.args.divisor) (Runs a.args.range) a.args.payload.now a.args.buffer.now a.args.n a.requires.0 a.requires.1 p.at p.o p.buffer (p.invariant.1 a.args.range a.requires.0 a.requires.1) (runs-end a.args.range a.args.payload.now p.at (omega arith))
+    begun-end (bits_by a.args.divisor) (Runs a.args.range) a.args.payload.now a.args.buffer.now a.args.n a.requires.0 a.requires.1 p.at p.o p.buffer (p.invariant.1 a.args.range a.requires.0 a.requires.1) (runs-end a.args.range a.args.payload.now p.at (omega arith))
 
 pub write-runs-spec : {M : Type 1} → statement M
 write-runs-spec =

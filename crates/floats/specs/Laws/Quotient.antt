@@ -7,19 +7,19 @@ use Rattle.std.specs.Float.Ieee.{is_nan, in_float, of_int, div, round, units, od
 use Rattle.std.specs.Float.Ieee.Exact.{HasValue}
 use Rattle.std.specs.Float.Ieee.Back.{round_whole}
 use Rattle.std.specs.Float.Ieee.Positive.{positive, positive_of_value}
-use Rattle.steps.specs.Delta.{advance, resultsFrom, lastFrom}
-use Rattle.payloads.specs.Exact.{exactLimit, exact, allExact}
+use Rattle.steps.specs.Delta.{advance, results_from, last_from}
+use Rattle.payloads.specs.Exact.{exact_limit, exact, all_exact}
 
 -- a number that is exact may be converted
 pub exact-in : (z : ℤ) → exact z ≡ true → T (in_float binary32 z)
 unfolding in_float
 exact-in (pos n) e = rw e tt
-exact-in (negsuc n) e = let h = leb-true (suc n) exactLimit e in rw (lt-ltb n exactLimit (omega arith)) tt
+exact-in (negsuc n) e = let h = leb-true (suc n) exact_limit e in rw (lt-ltb n exact_limit (omega arith)) tt
 
 -- an exact divisor that is at least 1 is above zero as a float
 pub divisor-positive : (m : ℕ) → exact (pos m) ≡ true → 1 ≤ m → T (positive (of_int binary32 (pos m)))
 unfolding of_int
-divisor-positive m e h = positive_of_value (round binary32 false m 1) m 1 (round_whole binary32 false m (leb-true m exactLimit e)) h
+divisor-positive m e h = positive_of_value (round binary32 false m 1) m 1 (round_whole binary32 false m (leb-true m exact_limit e)) h
 
 -- No NaN
 
@@ -54,13 +54,13 @@ finite_number (fin t m e) s a h (fin false n k) p =
 -- a number by a divisor above zero is a number
 pub quotient-number : (z : ℤ) (d : Float) → exact z ≡ true → T (positive d) → T (not (is_nan (div binary32 (of_int binary32 z) d)))
 unfolding of_int
-quotient-number (pos n) d e p = rw (finite_number (round binary32 false n 1) false n (round_whole binary32 false n (leb-true n exactLimit e)) d p) tt
-quotient-number (negsuc n) d e p = rw (finite_number (round binary32 true (suc n) 1) true (suc n) (round_whole binary32 true (suc n) (leb-true (suc n) exactLimit e)) d p) tt
+quotient-number (pos n) d e p = rw (finite_number (round binary32 false n 1) false n (round_whole binary32 false n (leb-true n exact_limit e)) d p) tt
+quotient-number (negsuc n) d e p = rw (finite_number (round binary32 true (suc n) 1) true (suc n) (round_whole binary32 true (suc n) (leb-true (suc n) exact_limit e)) d p) tt
 
 -- each of the k results of a run
-pub run-exact : (d : Bool) (a v : ℤ) (k n : ℕ) → allExact (resultsFrom d a (replicate k v)) ≡ true → n < k → exact (advance d (lastFrom d a (replicate n v)) v) ≡ true
-unfolding resultsFrom lastFrom allExact
+pub run-exact : (d : Bool) (a v : ℤ) (k n : ℕ) → all_exact (results_from d a (replicate k v)) ≡ true → n < k → exact (advance d (last_from d a (replicate n v)) v) ≡ true
+unfolding results_from last_from all_exact
 run-exact d a v zero n h l = absurd (omega arith)
-run-exact d a v (suc k) zero h l = ((and-eq-true_iff (exact (advance d a v)) (allExact (resultsFrom d (advance d a v) (replicate k v)))).0 h).0
+run-exact d a v (suc k) zero h l = ((and-eq-true_iff (exact (advance d a v)) (all_exact (results_from d (advance d a v) (replicate k v)))).0 h).0
 run-exact d a v (suc k) (suc n) h l =
-    run-exact d (advance d a v) v k n ((and-eq-true_iff (exact (advance d a v)) (allExact (resultsFrom d (advance d a v) (replicate k v)))).0 h).1 (omega arith)
+    run-exact d (advance d a v) v k n ((and-eq-true_iff (exact (advance d a v)) (all_exact (results_from d (advance d a v) (replicate k v)))).0 h).1 (omega arith)

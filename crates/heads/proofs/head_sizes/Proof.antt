@@ -1,12 +1,12 @@
 -- The rows are the head sizes of the lead-byte rule, which is computed once over all 256.
 use mathlib.Core.Path.{refl}
-use Rattle.heads.specs.Lead.{moreOf}
-use Rattle.heads.specs.Table.{sizeTable}
+use Rattle.heads.specs.Lead.{more_of}
+use Rattle.heads.specs.Table.{size_table}
 use Rattle.heads.proofs.head_sizes.Statement.{statement}
 use Rattle.heads.proofs.head_sizes.Tie as tie
 
 returns : tie.Need-returns
-unfolding sizeTable moreOf
+unfolding size_table more_of
 returns c = refl
 
 pub head-sizes-spec : {M : Type 1} → statement M

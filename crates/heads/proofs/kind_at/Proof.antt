@@ -4,7 +4,7 @@ use native.Mathlib.Omega.{arith}
 use borrow.Author.Rules.{rules}
 use borrow.Author.Tests.{lt-ltb, le-ltb}
 use Rattle.numbers.specs.Laws.BigEndian.{bytes-of}
-use Rattle.heads.specs.Table.{kindBy}
+use Rattle.heads.specs.Table.{kind_by}
 use Rattle.heads.specs.Laws.Table.{kind-rule}
 use Rattle.heads.specs.declared.Kind.{Kind}
 use Rattle.heads.proofs.kind_at.Statement.{statement}
@@ -14,17 +14,17 @@ element-copy-out-kind-of : tie.Need-element-copy-out-kind-of
 element-copy-out-kind-of c = omega (arith, c.before.shared-slice-known2.given c.before.before.before.before.args.at)
 
 returns : tie.Need-returns
-unfolding kindBy
+unfolding kind_by
 returns c =
     let a = c.before.before.before.before.before.before.args in
-    let e : c.kind-of.result ≡ kindBy a.leads.now a.file.now a.at = rw (lt-ltb _ _ c.before.before.before.before.if1.true, ← c.before.before.u8-to-usize.ensures.0) c.kind-of.ensures in
+    let e : c.kind-of.result ≡ kind_by a.leads.now a.file.now a.at = rw (lt-ltb _ _ c.before.before.before.before.if1.true, ← c.before.before.u8-to-usize.ensures.0) c.kind-of.ensures in
     (e, kind-rule a.file.now (bytes-of _ (λ i. omega (arith, c.before.before.before.before.before.shared-slice-known.given i))) a.at e)
 
 returns-2 : tie.Need-returns-2
-unfolding kindBy
+unfolding kind_by
 returns-2 c =
     let a = c.before.before.args in
-    let e : Kind.Missing ≡ kindBy a.leads.now a.file.now a.at = rw (le-ltb _ _ c.if1.false) in
+    let e : Kind.Missing ≡ kind_by a.leads.now a.file.now a.at = rw (le-ltb _ _ c.if1.false) in
     (e, kind-rule a.file.now (bytes-of _ (λ i. omega (arith, c.before.shared-slice-known.given i))) a.at e)
 
 pub kind-at-spec : {M : Type 1} → statement M

@@ -1,7 +1,7 @@
 -- A number's arm is its kind.
 use mathlib.Core.Path.{sym, ap}
 use borrow.Author.Tests.{ne_eqb}
-use Rattle.heads.specs.Table.{kindFrom}
+use Rattle.heads.specs.Table.{kind_from}
 use Rattle.heads.proofs.kind_of.Statement.{statement}
 use Rattle.heads.proofs.kind_of.Tie as tie
 
@@ -14,11 +14,11 @@ pub kind-of-spec : {M : Type 1} → statement M
 kind-of-spec =
     tie.close
     (tie.spec
-    (λ c. ap kindFrom (sym c.match.keys1))
-    (λ c. ap kindFrom (sym c.match.keys2))
-    (λ c. ap kindFrom (sym c.match.keys3))
-    (λ c. ap kindFrom (sym c.match.keys4))
-    (λ c. ap kindFrom (sym c.match.keys5))
-    (λ c. ap kindFrom (sym c.match.keys6))
-    (λ c. ap kindFrom (sym c.match.keys7))
+    (λ c. ap kind_from (sym c.match.keys1))
+    (λ c. ap kind_from (sym c.match.keys2))
+    (λ c. ap kind_from (sym c.match.keys3))
+    (λ c. ap kind_from (sym c.match.keys4))
+    (λ c. ap kind_from (sym c.match.keys5))
+    (λ c. ap kind_from (sym c.match.keys6))
+    (λ c. ap kind_from (sym c.match.keys7))
     returns-8)

@@ -1,12 +1,12 @@
 -- The rows are the kinds of the lead-byte rule, which is computed once over all 256.
 use mathlib.Core.Path.{refl}
 use Rattle.heads.specs.Lead.{kind_of}
-use Rattle.heads.specs.Table.{kindTable}
+use Rattle.heads.specs.Table.{kind_table}
 use Rattle.heads.proofs.kinds.Statement.{statement}
 use Rattle.heads.proofs.kinds.Tie as tie
 
 returns : tie.Need-returns
-unfolding kindTable kind_of
+unfolding kind_table kind_of
 returns c = refl
 
 pub kinds-spec : {M : Type 1} → statement M

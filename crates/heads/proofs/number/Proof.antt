@@ -6,8 +6,8 @@ use native.Mathlib.Omega.{arith}
 use lib.ListN.{length}
 use borrow.Author.Rules.{rules}
 use borrow.Author.Tests.{eq-eqb, ne_eqb}
-use Rattle.numbers.specs.BigEndian.{unsignedAt}
-use Rattle.numbers.specs.Laws.BigEndian.{unsignedAt-loads}
+use Rattle.numbers.specs.BigEndian.{unsigned_at}
+use Rattle.numbers.specs.Laws.BigEndian.{unsigned_at-loads}
 use Rattle.heads.proofs.number.Statement.{statement}
 use Rattle.heads.proofs.number.Tie as tie
 
@@ -18,7 +18,7 @@ returns-2 : tie.Need-returns-2
 returns-2 c =
     let a = c.before.before.before.before.before.args in
     let inside : a.at + 1 + 1 ≤ length a.file.now = omega (arith, c.before.before.before.before.before.requires) in
-    let n : c.u8-to-usize.result ≡ unsignedAt 1 a.file.now (a.at + 1) = omega (arith, rw add-zero at (unsignedAt-loads 1 a.file.now (a.at + 1) inside)) in
+    let n : c.u8-to-usize.result ≡ unsigned_at 1 a.file.now (a.at + 1) = omega (arith, rw add-zero at (unsigned_at-loads 1 a.file.now (a.at + 1) inside)) in
     rw (ne_eqb _ 1 c.before.before.before.if1.false, eq-eqb _ 2 c.before.before.if2.true) n
 
 returns-3 : tie.Need-returns-3

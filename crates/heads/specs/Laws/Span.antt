@@ -4,8 +4,8 @@ use Rattle.std.specs.Prelude.{◌≡◌, refl, List, [], ◌∷◌, ◌++◌, �
 use Rattle.std.proofs.Common.{sym, ap, ◌∙◌, append_assoc, arith, add-zero, add-one, length-append, length-take, length-drop, take-append-drop, drop-cons, drop-drop, drop_at, take_at}
 use Rattle.heads.specs.Span.{Span}
 
-pub part_length : (s : List ℕ) (p k : ℕ) → p + k ≤ length s → length (take k (drop p s)) ≡ k
-part_length s p k le = simp (length-take, length-drop) (omega arith)
+pub part_length_lem : (s : List ℕ) (p k : ℕ) → p + k ≤ length s → length (take k (drop p s)) ≡ k
+part_length_lem s p k le = simp (length-take, length-drop) (omega arith)
 
 pub span_none : (s : List ℕ) (a : ℕ) → Span s a a []
 span_none s a = record { is = refl; ends = sym (add-zero a) }
@@ -19,7 +19,7 @@ span-join {s} {a} {b} {c} {u} {v} p q = record {
 pub span-part : (s : List ℕ) (p k : ℕ) → p + k ≤ length s → Span s p (p + k) (take k (drop p s))
 span-part s p k le = record {
   is = rw (← drop-drop k p s) (sym (take-append-drop k (drop p s)));
-  ends = rw (part_length s p k le);
+  ends = rw (part_length_lem s p k le);
 }
 
 pub span-one : (s : List ℕ) (p : ℕ) → p < length s → Span s p (p + 1) (get_or s p 0 ∷ [])

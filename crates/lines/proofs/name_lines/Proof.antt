@@ -5,7 +5,7 @@ use native.Mathlib.Nat.{pos_of_ne-zero}
 use native.Mathlib.Omega.{arith}
 use lib.ListN.{length, take, drop}
 use Rattle.text.specs.Laws.Put.{put-length, put_as}
-use Rattle.lines.specs.Texts.{nameText}
+use Rattle.lines.specs.Texts.{name_text}
 use Rattle.lines.specs.Lines.{line}
 use Rattle.lines.specs.Laws.Texts.{name-line-few}
 use Rattle.lines.specs.Laws.Lines.{GoingFrom, from_start, from-none, from_more, from-full, from-done}
@@ -13,7 +13,7 @@ use Rattle.lines.proofs.name_lines.Statement.{statement}
 use Rattle.lines.proofs.name_lines.Tie as tie
 
 abbrev invariant-loop : tie.invariant-loop
-invariant-loop names size buffer₀ at₀ i₀ from₀ buffer at i from = GoingFrom nameText size names i from buffer₀ buffer at
+invariant-loop names size buffer₀ at₀ i₀ from₀ buffer at i from = GoingFrom name_text size names i from buffer₀ buffer at
 
 abbrev decreases-loop : tie.decreases-loop
 decreases-loop names size buffer₀ at₀ i₀ from₀ buffer at i from = length names - from
@@ -25,7 +25,7 @@ sub-if2 : tie.Need-overflow-sub-if2 invariant-loop decreases-loop
 sub-if2 c = let g = c.before.loop.invariant.going in let l = put-length g.put in omega (arith, g.inside)
 
 returns-2 : tie.Need-returns-2 invariant-loop decreases-loop
-returns-2 c = let g = c.before.before.loop.invariant in let l = put-length g.going.put in from-full nameText _ _ g (omega arith)
+returns-2 c = let g = c.before.before.loop.invariant in let l = put-length g.going.put in from-full name_text _ _ g (omega arith)
 
 loop-again : tie.Need-loop-preserved invariant-loop decreases-loop
 loop-again c =
@@ -34,8 +34,8 @@ loop-again c =
     let p = c.before.before.before.before.before.before.before.loop in
     let e : size ≡ (p.from + size) - p.from = omega arith in
     let l = put-length p.invariant.going.put in
-    from_more nameText _ _ p.invariant c.before.before.before.before.before.before.before.before.if1.false c.before.before.before.before.before.before.loop-test.true (subst (λ (n : ℕ). size < n - p.at) l c.before.before.before.before.before.if2.false) (name-line-few _)
-    (put_as c.before.before.put-name.ensures (ap (λ (n : ℕ). line nameText (take n (drop p.from names))) e))
+    from_more name_text _ _ p.invariant c.before.before.before.before.before.before.before.before.if1.false c.before.before.before.before.before.before.loop-test.true (subst (λ (n : ℕ). size < n - p.at) l c.before.before.before.before.before.if2.false) (name-line-few _)
+    (put_as c.before.before.put-name.ensures (ap (λ (n : ℕ). line name_text (take n (drop p.from names))) e))
 
 pub name-lines-spec : {M : Type 1} → statement M
 name-lines-spec =
@@ -43,8 +43,8 @@ name-lines-spec =
     (tie.spec
     invariant-loop
     decreases-loop
-    (λ c. from-none nameText _ _ _ c.if1.true)
-    (λ c. from_start nameText _ _ _)
+    (λ c. from-none name_text _ _ _ c.if1.true)
+    (λ c. from_start name_text _ _ _)
     (λ c. omega (arith, c.loop.invariant.within))
     sub-if2
     (λ c. put-length c.before.before.loop.invariant.going.put)
@@ -58,4 +58,4 @@ name-lines-spec =
     (λ c. falls _ _ _ c.before.before.before.before.before.before.before.before.if1.false c.before.before.before.before.before.before.loop-test.true)
     loop-again
     (λ c. put-length c.before.loop.invariant.going.put)
-    (λ c. from-done nameText _ _ c.before.loop.invariant c.loop-test.false))
+    (λ c. from-done name_text _ _ c.before.loop.invariant c.loop-test.false))

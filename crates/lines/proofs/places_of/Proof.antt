@@ -1,12 +1,12 @@
 -- Each arm is a power of ten; what is left is none of them.
 use mathlib.Core.Path.{sym, ap, ◌∙◌}
-use Rattle.lines.specs.Texts.{placesBelow, places_of}
+use Rattle.lines.specs.Texts.{places_below, places_of}
 use Rattle.lines.specs.Laws.Texts.{places-past}
 use Rattle.lines.proofs.places_of.Statement.{statement}
 use Rattle.lines.proofs.places_of.Tie as tie
 
 endless : tie.Need-returns-11
-unfolding placesBelow places_of
+unfolding places_below places_of
 endless c =
     let d = c.before.args.divisor in
     let no = c.match.rest in
@@ -23,7 +23,7 @@ endless c =
     ∙ places-past 0 d no.0.0.0.0.0.0.0.0.0.1)
 
 pub places-of-spec : {M : Type 1} → statement M
-unfolding placesBelow places_of
+unfolding places_below places_of
 places-of-spec =
     tie.close
     (tie.spec

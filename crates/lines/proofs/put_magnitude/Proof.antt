@@ -5,7 +5,7 @@ use borrow.Author.Rules.{rules}
 use Rattle.text.specs.Decimal.{decimal}
 use Rattle.text.specs.Laws.Put.{put-more, put_as}
 use Rattle.lines.specs.declared.Places.{Places}
-use Rattle.lines.specs.Texts.{quotientText}
+use Rattle.lines.specs.Texts.{quotient_text}
 use Rattle.lines.specs.Laws.Texts.{places-positive}
 use Rattle.lines.proofs.put_magnitude.Statement.{statement}
 use Rattle.lines.proofs.put_magnitude.Tie as tie
@@ -17,13 +17,13 @@ returns : tie.Need-returns
 returns c =
     let a = c.before.before.before.before.before.before.before.before.before.before.before.before.args in
     put_as (put-more c.before.before.before.before.before.before.put-decimal.ensures c.before.before.put-fraction.ensures)
-    (ap (λ (p : Places). quotientText p a.divisor a.number) (sym c.before.before.before.before.before.before.before.before.before.before.before.before.requires ∙ c.before.before.before.before.before.before.before.before.before.places.given.1))
+    (ap (λ (p : Places). quotient_text p a.divisor a.number) (sym c.before.before.before.before.before.before.before.before.before.before.before.before.requires ∙ c.before.before.before.before.before.before.before.before.before.places.given.1))
 
 returns-2 : tie.Need-returns-2
 returns-2 c =
     let a = c.before.before.before.before.before.before.before.before.before.before.before.before.before.before.before.args in
     put_as (put-more (put-more c.before.before.before.before.before.before.before.before.before.before.put-decimal2.ensures c.before.before.before.before.before.before.put_byte.ensures) c.before.before.put-decimal3.ensures)
-    (ap (λ (p : Places). quotientText p a.divisor a.number) (sym c.before.before.before.before.before.before.before.before.before.before.before.before.before.before.before.requires ∙ c.before.before.before.before.before.before.before.before.before.before.before.before.enum_told.given.1)
+    (ap (λ (p : Places). quotient_text p a.divisor a.number) (sym c.before.before.before.before.before.before.before.before.before.before.before.before.before.before.before.requires ∙ c.before.before.before.before.before.before.before.before.before.before.before.before.enum_told.given.1)
     ∙ sym (append_assoc (decimal a.number) (47 ∷ []) (decimal a.divisor)))
 
 pub put-magnitude-spec : {M : Type 1} → statement M

@@ -11,7 +11,7 @@ use Rattle.std.proofs.Math.ListN.{length, take, length-set}
 use Rattle.std.proofs.Math.Seq.{drop-cons, take-suc-set, drop-set-lt, drop-length}
 use Rattle.text.specs.Decimal.{glyph}
 use Rattle.lines.specs.Texts.{digits}
-use Rattle.lines.specs.Decimals.{placesText}
+use Rattle.lines.specs.Decimals.{places_text}
 use Rattle.lines.specs.Figures.{figures, value_of, glyphs, trimmed}
 
 -- A product
@@ -137,8 +137,8 @@ unfolding figures glyphs digits
 glyphs-figures zero n = refl
 glyphs-figures (suc k) n = rw (glyphs-figures k (n / 10))
 
-pub trimmed-figures : (k n : ℕ) → trimmed (figures k n) ≡ placesText k n
-unfolding figures trimmed placesText
+pub trimmed-figures : (k n : ℕ) → trimmed (figures k n) ≡ places_text k n
+unfolding figures trimmed places_text
 trimmed-figures zero n = refl
 trimmed-figures (suc k) n = rw (trimmed-figures k (n / 10), glyphs-figures (suc k) n)
 

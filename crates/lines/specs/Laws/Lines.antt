@@ -8,7 +8,7 @@ use Rattle.std.proofs.lemmas.Bool.{lt-leb}
 use Rattle.text.specs.Put.{Put}
 use Rattle.text.specs.Laws.Put.{put-none, put-more, put_as, put-fits, put-length}
 use Rattle.lines.specs.declared.Gathered.{Gathered}
-use Rattle.lines.specs.Lines.{line, lines, gathered, Lines, namesFrom, namesIn}
+use Rattle.lines.specs.Lines.{line, lines, gathered, Lines, names_from, names_in}
 
 -- The lines of `done` stand in the buffer, and those of `rest` are still to come.
 pub record Going {A : Type 0} (text : A → List ℕ) (room : ℕ) (done rest : List A) (old now : List ℕ) (at : ℕ) : Type 0 where
@@ -102,18 +102,18 @@ module _ {A : Type 0} (text : A → List ℕ) (room : ℕ) (xs : List A) where
 
 -- Names in bytes: those before `from` are put
 
-names-one : (size : ℕ) (s : List ℕ) → 0 < size → size ≤ length s → namesIn size s ≡ take size s ∷ namesIn size (drop size s)
-unfolding namesIn namesFrom
+names-one : (size : ℕ) (s : List ℕ) → 0 < size → size ≤ length s → names_in size s ≡ take size s ∷ names_in size (drop size s)
+unfolding names_in names_from
 names-one size s p h =
     let e : length s / size ≡ suc (length (drop size s) / size) = div-eq-sub-div p h ∙ add-one ((length s - size) / size) ∙ rw (length-drop size s) in
     rw e
 
-names-none : (size : ℕ) (s : List ℕ) → length s < size → namesIn size s ≡ []
-unfolding namesIn namesFrom
+names-none : (size : ℕ) (s : List ℕ) → length s < size → names_in size s ≡ []
+unfolding names_in names_from
 names-none size s h = rw (div-eq_of_lt h)
 
-pub names-of-none : (s : List ℕ) → namesIn 0 s ≡ []
-unfolding namesIn namesFrom
+pub names-of-none : (s : List ℕ) → names_in 0 s ≡ []
+unfolding names_in names_from
 names-of-none s = rw (div-zero (length s))
 
 pub record GoingFrom (text : List ℕ → List ℕ) (size : ℕ) (s : List ℕ) (i from : ℕ) (old now : List ℕ) (at : ℕ) : Type 0 where
@@ -121,16 +121,16 @@ pub record GoingFrom (text : List ℕ → List ℕ) (size : ℕ) (s : List ℕ) 
   pub slow : i ≤ from
   pub done : List (List ℕ)
   pub count : length done ≡ i
-  pub parts : done ++ namesIn size (drop from s) ≡ namesIn size s
-  pub going : Going text (size + 1) done (namesIn size (drop from s)) old now at
+  pub parts : done ++ names_in size (drop from s) ≡ names_in size s
+  pub going : Going text (size + 1) done (names_in size (drop from s)) old now at
 
 module _ (text : List ℕ → List ℕ) (size : ℕ) (s : List ℕ) where
   pub from_start : (old : List ℕ) → GoingFrom text size s 0 0 old old 0
-  from_start old = record { within = omega arith; slow = omega arith; done = []; count = refl; parts = refl; going = going_start text (size + 1) (namesIn size s) old }
+  from_start old = record { within = omega arith; slow = omega arith; done = []; count = refl; parts = refl; going = going_start text (size + 1) (names_in size s) old }
 
   -- no name has no bytes
-  pub from-none : (old : List ℕ) → size ≡ 0 → Lines text (size + 1) (namesIn size s) old old (record { values = 0; bytes = 0 })
-  from-none old z = going_done text (size + 1) (going_start text (size + 1) (namesIn size s) old) refl refl (ap (λ (n : ℕ). namesIn n s) z ∙ names-of-none s)
+  pub from-none : (old : List ℕ) → size ≡ 0 → Lines text (size + 1) (names_in size s) old old (record { values = 0; bytes = 0 })
+  from-none old z = going_done text (size + 1) (going_start text (size + 1) (names_in size s) old) refl refl (ap (λ (n : ℕ). names_in n s) z ∙ names-of-none s)
 
   module _ {i from : ℕ} {old now : List ℕ} {at : ℕ} (g : GoingFrom text size s i from old now at) where
     pub from_more : {next : List ℕ} {end : ℕ} → (size ≡ 0 → ⊥) → size ≤ length s - from → size < length old - at
@@ -139,22 +139,22 @@ module _ (text : List ℕ → List ℕ) (size : ℕ) (s : List ℕ) where
     from_more {next} {end} z h r few p =
         let l = length-drop from s in
         let t = length-take-le size (drop from s) (omega arith) in
-        let e : namesIn size (drop from s) ≡ take size (drop from s) ∷ namesIn size (drop (from + size) s) = names-one size (drop from s) (pos_of_ne-zero z) (omega arith) ∙ rw (drop-drop size from s) in
-        let k : Going text (size + 1) g.done (take size (drop from s) ∷ namesIn size (drop (from + size) s)) old now at = rw e at g.going in
+        let e : names_in size (drop from s) ≡ take size (drop from s) ∷ names_in size (drop (from + size) s) = names-one size (drop from s) (pos_of_ne-zero z) (omega arith) ∙ rw (drop-drop size from s) in
+        let k : Going text (size + 1) g.done (take size (drop from s) ∷ names_in size (drop (from + size) s)) old now at = rw e at g.going in
         let n = length-append g.done (take size (drop from s) ∷ []) in
         record {
           within = omega (arith, g.within);
           slow = omega (arith, g.slow, pos_of_ne-zero z);
           done = g.done ++ (take size (drop from s) ∷ []);
           count = omega (arith, g.count);
-          parts = append_assoc g.done (take size (drop from s) ∷ []) (namesIn size (drop (from + size) s)) ∙ ap (λ (l : List (List ℕ)). g.done ++ l) (sym e) ∙ g.parts;
+          parts = append_assoc g.done (take size (drop from s) ∷ []) (names_in size (drop (from + size) s)) ∙ ap (λ (l : List (List ℕ)). g.done ++ l) (sym e) ∙ g.parts;
           going = going_more text (size + 1) k (omega arith) (omega arith) p;
         }
 
-    pub from-full : length old - at ≤ size → Lines text (size + 1) (namesIn size s) old now (record { values = i; bytes = at })
+    pub from-full : length old - at ≤ size → Lines text (size + 1) (names_in size s) old now (record { values = i; bytes = at })
     from-full h = going-full text (size + 1) g.going g.parts g.count (omega arith)
 
-    pub from-done : length s - from < size → Lines text (size + 1) (namesIn size s) old now (record { values = i; bytes = at })
+    pub from-done : length s - from < size → Lines text (size + 1) (names_in size s) old now (record { values = i; bytes = at })
     from-done h = let l = length-drop from s in going_done text (size + 1) g.going g.parts g.count (names-none size (drop from s) (omega arith))
 
 -- How many lines there are
@@ -179,16 +179,16 @@ module _ {A : Type 0} {text : A → List ℕ} {room : ℕ} {xs : List A} {old ne
       go [] n e = absurd (omega arith)
       go (x ∷ l) n e = omega (arith, e, gathered-one text room (length old) x l k)
 
-namesFrom-length : (n size : ℕ) (s : List ℕ) → length (namesFrom n size s) ≡ n
-unfolding namesFrom
-namesFrom-length zero size s = refl
-namesFrom-length (suc n) size s = ap suc (namesFrom-length n size (drop size s))
+names_from-length : (n size : ℕ) (s : List ℕ) → length (names_from n size s) ≡ n
+unfolding names_from
+names_from-length zero size s = refl
+names_from-length (suc n) size s = ap suc (names_from-length n size (drop size s))
 
 -- the names put as lines are all in the bytes
-pub names-most : {text : List ℕ → List ℕ} {room : ℕ} (size : ℕ) (s : List ℕ) {old new : List ℕ} {r : Gathered} → Lines text room (namesIn size s) old new r → r.values * size ≤ length s
-unfolding namesIn
+pub names-most : {text : List ℕ → List ℕ} {room : ℕ} (size : ℕ) (s : List ℕ) {old new : List ℕ} {r : Gathered} → Lines text room (names_in size s) old new r → r.values * size ≤ length s
+unfolding names_in
 names-most zero s {r = r} h = rw (mul-zero r.values) (omega arith)
 names-most (suc size) s {r = r} h =
     let m = lines-most h in
-    let e = namesFrom-length (length s / suc size) (suc size) s in
+    let e = names_from-length (length s / suc size) (suc size) s in
     (le-div_iff_mul-le {k = suc size} {x = r.values} {y = length s} (omega arith)).0 (omega arith)

@@ -3,13 +3,13 @@ use mathlib.Core.Path.{◌≡◌, refl, ◌∙◌}
 use Prim.Native.Nat.{◌-◌}
 use lib.ListN.{length}
 use borrow.Author.Rules.{rules}
-use Rattle.meanings.specs.Steps.{lineEnd}
+use Rattle.meanings.specs.Steps.{line_end}
 use Rattle.meanings.specs.Laws.Steps.{line-here, line-next, line-last}
 use Rattle.meanings.proofs.line_end.Statement.{statement}
 use Rattle.meanings.proofs.line_end.Tie as tie
 
 abbrev invariant-loop : tie.invariant-loop
-invariant-loop bytes at i₀ i = lineEnd bytes i ≡ lineEnd bytes at
+invariant-loop bytes at i₀ i = line_end bytes i ≡ line_end bytes at
 
 abbrev decreases-loop : tie.decreases-loop
 decreases-loop bytes at i₀ i = length bytes - i

@@ -2,14 +2,14 @@
 use mathlib.Core.Path.{refl, sym, ◌∙◌}
 use borrow.Author.Rules.{rules}
 use Rattle.text.specs.Laws.Put.{put_as}
-use Rattle.meanings.specs.Meanings.{meanings, meaningOf}
+use Rattle.meanings.specs.Meanings.{meanings, meaning_of}
 use Rattle.meanings.specs.Steps.{rows_of}
 use Rattle.meanings.specs.Laws.Steps.{table-words}
 use Rattle.meanings.proofs.put_meaning.Statement.{statement}
 use Rattle.meanings.proofs.put_meaning.Tie as tie
 
 returns : tie.Need-returns
-unfolding meaningOf rows_of meanings
+unfolding meaning_of rows_of meanings
 returns c =
     let number = c.before.before.before.before.before.before.before.args.number in
     put_as c.before.before.put.ensures (sym (c.before.before.before.before.words-in.ensures ∙ table-words meanings number refl refl))

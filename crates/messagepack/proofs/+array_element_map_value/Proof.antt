@@ -3,10 +3,10 @@
 use Rattle.std.proofs.Common.{◌≡◌, ℕ, ◌+◌, ◌-◌, ◌*◌, ◌<◌, Bool, true, false, List, sym, refl, ap, ◌∙◌, pos_of_ne-zero, arith, rules}
 use borrow.Fn.Kinds.{In}
 use borrow.Fn.PlainCycle.{Measures, is, falls, and}
-use Rattle.heads.specs.Head.{kind_at, headAt}
+use Rattle.heads.specs.Head.{kind_at, head_at}
 use Rattle.heads.specs.declared.Kind.{Kind}
 use Rattle.heads.specs.declared.Head.{Head}
-use Rattle.messagepack.specs.Walk.{value_at, manyAt}
+use Rattle.messagepack.specs.Walk.{value_at, many_at}
 use Rattle.messagepack.specs.Keys.{Free, Kept, KeysWalked, ValueWalked, EntriesNoted, ValueNoted}
 use Rattle.messagepack.specs.declared.Walk.{Walk}
 use Rattle.messagepack.specs.Laws.Walk as w
@@ -111,7 +111,7 @@ value-claims t = (
 
 abbrev array-Inv-loop : array-lts.invariant-loop
 array-Inv-loop leads file n at depth starts₀ prints₀ left₀ p₀ starts prints left p =
-    Kept depth starts₀ starts × Kept depth prints₀ prints × (manyAt (value_at file depth) n at ≡ manyAt (value_at file depth) left p)
+    Kept depth starts₀ starts × Kept depth prints₀ prints × (many_at (value_at file depth) n at ≡ many_at (value_at file depth) left p)
 
 abbrev array-μ-loop : array-lts.decreases-loop
 array-μ-loop leads file n at depth starts₀ prints₀ left₀ p₀ starts prints left p = left
@@ -220,23 +220,23 @@ unchanged : {leads file : List ℕ} {depth : ℕ} {starts prints : List ℕ} {r 
 unchanged {depth = depth} x e = record { answer = e; starts-kept = kept-all depth x.starts-long; prints-kept = kept-all depth x.prints-long }
 
 -- is a kind that of a map?
-abbrev isMap : Kind → Bool
-isMap Kind.Map = true
-isMap Kind.Missing = false
-isMap Kind.Outside = false
-isMap Kind.Unsigned = false
-isMap Kind.Signed = false
-isMap Kind.Float = false
-isMap Kind.Str = false
-isMap Kind.Bin = false
-isMap Kind.Array = false
+abbrev is_map : Kind → Bool
+is_map Kind.Map = true
+is_map Kind.Missing = false
+is_map Kind.Outside = false
+is_map Kind.Unsigned = false
+is_map Kind.Signed = false
+is_map Kind.Float = false
+is_map Kind.Str = false
+is_map Kind.Bin = false
+is_map Kind.Array = false
 
 -- nothing is noted of a value that is no map
-no-map : {file : List ℕ} {depth at : ℕ} {r : Walk} {starts : List ℕ} (k : Kind) → isMap k ≡ false → kind_at file at ≡ k → ValueNoted file depth at r starts
-no-map k f e = record { says = λ n p end m h q. let z : true ≡ false = ap isMap (sym m ∙ e) ∙ f in let y : ◌≡◌ {A = ℕ} 0 1 = cc in absurd (omega arith) }
+no-map : {file : List ℕ} {depth at : ℕ} {r : Walk} {starts : List ℕ} (k : Kind) → is_map k ≡ false → kind_at file at ≡ k → ValueNoted file depth at r starts
+no-map k f e = record { says = λ n p end m h q. let z : true ≡ false = ap is_map (sym m ∙ e) ∙ f in let y : ◌≡◌ {A = ℕ} 0 1 = cc in absurd (omega arith) }
 
 -- what is noted of the entries is noted of the map with their head
-map-noted : {file : List ℕ} {depth at n p : ℕ} {r : Walk} {starts : List ℕ} → headAt file at ≡ Head.At n p → EntriesNoted file (depth - 1) n p r starts → ValueNoted file depth at r starts
+map-noted : {file : List ℕ} {depth at n p : ℕ} {r : Walk} {starts : List ℕ} → head_at file at ≡ Head.At n p → EntriesNoted file (depth - 1) n p r starts → ValueNoted file depth at r starts
 map-noted {n = n} {p = p} g f = record {
   says = λ m q e k h end.
       let i : m ≡ n = cc in
@@ -245,7 +245,7 @@ map-noted {n = n} {p = p} g f = record {
 }
 
 -- a value that is no map, by its kind
-plain : {leads file : List ℕ} {depth at : ℕ} {starts prints : List ℕ} {r : Walk} (k : Kind) → isMap k ≡ false → Free leads file depth starts prints → kind_at file at ≡ k → (kind_at file at ≡ k → r ≡ value_at file depth at) → ValueWalked file depth at starts prints r starts prints × ValueNoted file depth at r starts
+plain : {leads file : List ℕ} {depth at : ℕ} {starts prints : List ℕ} {r : Walk} (k : Kind) → is_map k ≡ false → Free leads file depth starts prints → kind_at file at ≡ k → (kind_at file at ≡ k → r ≡ value_at file depth at) → ValueWalked file depth at starts prints r starts prints × ValueNoted file depth at r starts
 plain k f x e a = (unchanged x (a e), no-map k f e)
 
 value-returns : (t : ℕ) → value-lts.Need-returns (value-claims t) (value-at t) value.Post

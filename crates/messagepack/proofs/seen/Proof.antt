@@ -2,14 +2,14 @@
 -- with this print is compared.
 use Rattle.std.proofs.Common.{◌≡◌, ◌-◌, ◌≤◌, true, false, sym, refl, ◌∙◌, subst, arith, rules}
 use Rattle.messagepack.specs.Walk.{among}
-use Rattle.messagepack.specs.Keys.{keyHere, keysIn, KeyThere, RowHolds}
+use Rattle.messagepack.specs.Keys.{key_here, keys_in, KeyThere, RowHolds}
 use Rattle.messagepack.specs.Laws.Tables.{row-holds, row-differs, row_same, none_seen, seen_none, seen_next}
 use Rattle.messagepack.proofs.seen.Statement.{statement}
 use Rattle.messagepack.proofs.seen.Tie as tie
 
 abbrev invariant-loop : tie.invariant-loop
 invariant-loop leads file starts prints base end at print i₀ i =
-    (base ≤ i) × (i ≤ end) × (among (keyHere file at) (keysIn file starts base end) ≡ among (keyHere file at) (keysIn file starts base i))
+    (base ≤ i) × (i ≤ end) × (among (key_here file at) (keys_in file starts base end) ≡ among (key_here file at) (keys_in file starts base i))
 
 abbrev decreases-loop : tie.decreases-loop
 decreases-loop leads file starts prints base end at print i₀ i = i
@@ -41,7 +41,7 @@ same-key-requires : tie.Need-same-key-requires invariant-loop decreases-loop
 same-key-requires c κs =
     let a = c.before.before.before.before.before.before.before.before.before.args in
     let i = c.before.before.before.before.before.loop.i in
-    let key = keyHere a.file.now a.at in
+    let key = key_here a.file.now a.at in
     let r : RowHolds a.file.now a.starts.now a.prints.now (i - 1) = row-holds _ _ a.base _ (a.end - a.base) c.before.before.before.before.before.before.before.before.before.requires.1.rows.stored (i - 1) (omega arith) (omega (arith, c.before.before.before.before.before.before.before.before.before.requires.1.rows.order)) in
     (c.before.before.before.before.before.before.before.before.before.requires.0, c.before.before.before.before.before.before.before.before.before.requires.1.key, subst (KeyThere a.file.now) (sym c.u32-to-usize.ensures) r.key)
 
@@ -49,7 +49,7 @@ returns-2 : tie.Need-returns-2 invariant-loop decreases-loop
 returns-2 c =
     let a = c.before.before.before.before.before.before.before.before.before.before.before.args in
     let i = c.before.before.before.before.before.before.before.loop.i in
-    let key = keyHere a.file.now a.at in
+    let key = key_here a.file.now a.at in
     let r : RowHolds a.file.now a.starts.now a.prints.now (i - 1) = row-holds _ _ a.base _ (a.end - a.base) c.before.before.before.before.before.before.before.before.before.before.before.requires.1.rows.stored (i - 1) (omega arith) (omega (arith, c.before.before.before.before.before.before.before.before.before.before.before.requires.1.rows.order)) in
     let e = row_same a.file.now a.starts.now (i - 1) a.at c.before.before.u32-to-usize.ensures (sym c.if3.true ∙ c.before.same_key.ensures) in
     sym (c.before.before.before.before.before.before.before.loop.invariant.2 ∙ seen_next _ _ a.base key i true (omega arith) e)
@@ -58,7 +58,7 @@ loop-again : tie.Need-loop-preserved invariant-loop decreases-loop
 loop-again c =
     let a = c.before.before.before.before.before.before.before.before.before.before.before.args in
     let i = c.before.before.before.before.before.before.before.loop.i in
-    let key = keyHere a.file.now a.at in
+    let key = key_here a.file.now a.at in
     let r : RowHolds a.file.now a.starts.now a.prints.now (i - 1) = row-holds _ _ a.base _ (a.end - a.base) c.before.before.before.before.before.before.before.before.before.before.before.requires.1.rows.stored (i - 1) (omega arith) (omega (arith, c.before.before.before.before.before.before.before.before.before.before.before.requires.1.rows.order)) in
     let e = row_same a.file.now a.starts.now (i - 1) a.at c.before.before.u32-to-usize.ensures (sym c.if3.false ∙ c.before.same_key.ensures) in
     (omega arith, omega arith, c.before.before.before.before.before.before.before.loop.invariant.2 ∙ seen_next _ _ a.base key i false (omega arith) e)
@@ -67,7 +67,7 @@ loop-again-2 : tie.Need-loop-preserved-2 invariant-loop decreases-loop
 loop-again-2 c =
     let a = c.before.before.before.before.before.before.before.args in
     let i = c.before.before.before.loop.i in
-    let key = keyHere a.file.now a.at in
+    let key = key_here a.file.now a.at in
     let r : RowHolds a.file.now a.starts.now a.prints.now (i - 1) = row-holds _ _ a.base _ (a.end - a.base) c.before.before.before.before.before.before.before.requires.1.rows.stored (i - 1) (omega arith) (omega (arith, c.before.before.before.before.before.before.before.requires.1.rows.order)) in
     let e = row-differs key r c.before.before.before.before.before.before.before.requires.1.is c.if2.false in
     (omega arith, omega arith, c.before.before.before.loop.invariant.2 ∙ seen_next _ _ a.base key i false (omega arith) e)

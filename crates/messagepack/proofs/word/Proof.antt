@@ -1,7 +1,7 @@
 -- The number in a part of four bytes is the number in the whole.
 use Rattle.std.proofs.Common.{◌≡◌, ◌+◌, ◌-◌, ap, ◌∙◌, add-zero, arith, lit≤, rules}
-use Rattle.numbers.specs.BigEndian.{unsignedAt}
-use Rattle.numbers.specs.Laws.BigEndian.{unsignedAt-part}
+use Rattle.numbers.specs.BigEndian.{unsigned_at}
+use Rattle.numbers.specs.Laws.BigEndian.{unsigned_at-part}
 use Rattle.messagepack.proofs.word.Statement.{statement}
 use Rattle.messagepack.proofs.word.Tie as tie
 
@@ -9,7 +9,7 @@ returns : tie.Need-returns
 returns c =
     let a = c.before.before.before.args in
     let four : a.at + 4 - a.at ≡ 4 = omega arith in
-    (rw four at c.read_u32.ensures) ∙ unsignedAt-part 4 a.bytes.now a.at 4 0 c.before.before.before.requires (lit≤ tt) ∙ ap (unsignedAt 4 a.bytes.now) (add-zero a.at)
+    (rw four at c.read_u32.ensures) ∙ unsigned_at-part 4 a.bytes.now a.at 4 0 c.before.before.before.requires (lit≤ tt) ∙ ap (unsigned_at 4 a.bytes.now) (add-zero a.at)
 
 pub word-spec : {M : Type 1} → statement M
 word-spec = tie.close (tie.spec (λ c. search rules) (λ c. search rules) (λ c. search rules) (λ c. search rules) (λ c κs. search rules) returns)

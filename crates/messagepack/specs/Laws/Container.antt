@@ -6,16 +6,16 @@ use Rattle.std.proofs.Math.Path.{refl, ap, subst}
 use Rattle.std.proofs.Common.{sym, ◌∙◌, append-nil, zero-add, arith, lit<, lit≤}
 use Rattle.std.proofs.Math.Seq.{drop-length}
 use borrow.Author.Tests.{eqb-true, eq-eqb, leb-true, le-leb}
-use Rattle.refusal.specs.Table.{accepted, fileOverLimit, bytesAfter}
+use Rattle.refusal.specs.Table.{accepted, file_over_limit, bytes_after}
 use Rattle.numbers.specs.BigEndian.{Bytes}
 use Rattle.numbers.specs.Laws.Tests.{either}
-use Rattle.heads.specs.Head.{kind_at, headAt}
+use Rattle.heads.specs.Head.{kind_at, head_at}
 use Rattle.heads.specs.declared.Kind.{Kind}
 use Rattle.heads.specs.Laws.Head.{head-told}
-use Rattle.messagepack.specs.Limits.{fileLimit, nestingLimit}
+use Rattle.messagepack.specs.Limits.{file_limit, nesting_limit}
 use Rattle.messagepack.specs.Document.{Entries, map, Writes}
 use Rattle.messagepack.specs.Rules.{Container}
-use Rattle.messagepack.specs.Walk.{value_at, ended, outer, containerNumber}
+use Rattle.messagepack.specs.Walk.{value_at, ended, outer, container_number}
 use Rattle.messagepack.specs.declared.Walk.{Walk}
 use Rattle.messagepack.specs.Laws.Walk as w
 use Rattle.messagepack.specs.Laws.Refused.{Sure, refused, value-sure}
@@ -24,16 +24,16 @@ use Rattle.messagepack.specs.Laws.Complete.{value-of}
 
 module _ (s : List ℕ) (bytes : Bytes s) where
   -- a number that is 0 says that the walk ended at the end
-  ended-zero : (v : Walk) → value_at s nestingLimit 0 ≡ v → Sure v → ended s v ≡ 0 → value_at s nestingLimit 0 ≡ Walk.End (length s)
+  ended-zero : (v : Walk) → value_at s nesting_limit 0 ≡ v → Sure v → ended s v ≡ 0 → value_at s nesting_limit 0 ≡ Walk.End (length s)
   ended-zero (Walk.Refused n) q (refused h l) k = absurd (omega arith)
   ended-zero (Walk.End p) q o k = go (p == length s) refl k
     where
-      go : (b : Bool) → (p == length s) ≡ b → cond b accepted bytesAfter ≡ 0 → value_at s nestingLimit 0 ≡ Walk.End (length s)
+      go : (b : Bool) → (p == length s) ≡ b → cond b accepted bytes_after ≡ 0 → value_at s nesting_limit 0 ≡ Walk.End (length s)
       go true e k = q ∙ ap Walk.End (eqb-true p (length s) e)
       go false e k = absurd (omega arith)
 
-  outer-zero : (k : Kind) → kind_at s 0 ≡ k → outer s k ≡ 0 → (kind_at s 0 ≡ Kind.Map) × (value_at s nestingLimit 0 ≡ Walk.End (length s))
-  outer-zero Kind.Map e h = (e, ended-zero (value_at s nestingLimit 0) refl (value-sure s nestingLimit 0) h)
+  outer-zero : (k : Kind) → kind_at s 0 ≡ k → outer s k ≡ 0 → (kind_at s 0 ≡ Kind.Map) × (value_at s nesting_limit 0 ≡ Walk.End (length s))
+  outer-zero Kind.Map e h = (e, ended-zero (value_at s nesting_limit 0) refl (value-sure s nesting_limit 0) h)
   outer-zero Kind.Missing e h = absurd (omega arith)
   outer-zero Kind.Outside e h = absurd (omega arith)
   outer-zero Kind.Unsigned e h = absurd (omega arith)
@@ -48,15 +48,15 @@ module _ (s : List ℕ) (bytes : Bytes s) where
   unfolding Writes
   map_first es wr = subst (λ (x : List ℕ). kind_at x 0 ≡ Kind.Map) (sym wr.is) (head-told (wr.h ++ wr.v) 0 wr.v wr.head refl).kind
 
-  container-there : (b : Bool) → nat_le (length s) fileLimit ≡ b → cond b (outer s (kind_at s 0)) fileOverLimit ≡ 0 → Container s
+  container-there : (b : Bool) → nat_le (length s) file_limit ≡ b → cond b (outer s (kind_at s 0)) file_over_limit ≡ 0 → Container s
   container-there false e h = absurd (omega arith)
   container-there true e h =
       let o = outer-zero (kind_at s 0) refl h in
-      let q = sym (w.value-map s nestingLimit 0 (lit< tt) o.0) ∙ o.1 in
-      let m : MapIn s nestingLimit 0 (length s) = map-in s bytes 11 (value_in s bytes 11) 0 (length s) o.0 (headAt s 0) refl q in
+      let q = sym (w.value-map s nesting_limit 0 (lit< tt) o.0) ∙ o.1 in
+      let m : MapIn s nesting_limit 0 (length s) = map-in s bytes 11 (value_in s bytes 11) 0 (length s) o.0 (head_at s 0) refl q in
       let all : m.w ≡ s = sym (append-nil m.w) ∙ ap (λ (t : List ℕ). m.w ++ t) (sym (drop-length s)) ∙ sym m.span.is in
       record {
-        fits = leb-true (length s) fileLimit e;
+        fits = leb-true (length s) file_limit e;
         entries = m.entries;
         writes = subst (λ (t : List ℕ). Writes (map m.entries) t) all m.writes;
         nested = m.deep;
@@ -64,29 +64,29 @@ module _ (s : List ℕ) (bytes : Bytes s) where
       }
 
   -- the number is 0 exactly when the file is a writing of a map that keeps limits and rules
-  pub container-exactly : (containerNumber s ≡ 0) ↔ Container s
-  unfolding containerNumber
-  container-exactly = (container-there (nat_le (length s) fileLimit) refl, back)
+  pub container-exactly : (container_number s ≡ 0) ↔ Container s
+  unfolding container_number
+  container-exactly = (container-there (nat_le (length s) file_limit) refl, back)
     where
-      back : Container s → cond (nat_le (length s) fileLimit) (outer s (kind_at s 0)) fileOverLimit ≡ 0
+      back : Container s → cond (nat_le (length s) file_limit) (outer s (kind_at s 0)) file_over_limit ≡ 0
       back c =
-          let v : value_at s nestingLimit 0 ≡ Walk.End (length s) = value-of s (map c.entries) s nestingLimit 0 [] c.writes c.nested c.keeps (sym (append-nil s)) ∙ ap Walk.End (zero-add (length s)) in
-          rw (le-leb (length s) fileLimit c.fits, map_first c.entries c.writes, v, eq-eqb (length s) (length s) refl)
+          let v : value_at s nesting_limit 0 ≡ Walk.End (length s) = value-of s (map c.entries) s nesting_limit 0 [] c.writes c.nested c.keeps (sym (append-nil s)) ∙ ap Walk.End (zero-add (length s)) in
+          rw (le-leb (length s) file_limit c.fits, map_first c.entries c.writes, v, eq-eqb (length s) (length s) refl)
 
 -- the number is at most 11
-pub container-most : (s : List ℕ) → containerNumber s ≤ bytesAfter
-unfolding containerNumber
-container-most s = either Most (nat_le (length s) fileLimit) (outer-most (kind_at s 0)) (lit≤ tt)
+pub container-most : (s : List ℕ) → container_number s ≤ bytes_after
+unfolding container_number
+container-most s = either Most (nat_le (length s) file_limit) (outer-most (kind_at s 0)) (lit≤ tt)
   where
     Most : ℕ → Type 0
-    Most n = n ≤ bytesAfter
+    Most n = n ≤ bytes_after
 
-    ended-most : (v : Walk) → Sure v → ended s v ≤ bytesAfter
+    ended-most : (v : Walk) → Sure v → ended s v ≤ bytes_after
     ended-most (Walk.End p) o = either Most (p == length s) (lit≤ tt) (lit≤ tt)
     ended-most (Walk.Refused n) (refused h l) = l
 
-    outer-most : (k : Kind) → outer s k ≤ bytesAfter
-    outer-most Kind.Map = ended-most (value_at s nestingLimit 0) (value-sure s nestingLimit 0)
+    outer-most : (k : Kind) → outer s k ≤ bytes_after
+    outer-most Kind.Map = ended-most (value_at s nesting_limit 0) (value-sure s nesting_limit 0)
     outer-most Kind.Missing = lit≤ tt
     outer-most Kind.Outside = lit≤ tt
     outer-most Kind.Unsigned = lit≤ tt

@@ -4,35 +4,35 @@ use Rattle.std.specs.Prelude.{◌≡◌, ℕ, zero, suc, ◌+◌, ◌-◌, ◌<�
 use Rattle.std.proofs.Math.Path.{refl}
 use Rattle.std.proofs.Common.{◌∙◌, not-suc-le-zero, sub-one, arith, leb-true, le-leb}
 use Rattle.std.proofs.lemmas.Bool.{lt-leb}
-use Rattle.refusal.specs.Table.{fileOverLimit, cutShort, leadByteUnknown, unsignedTooLarge, stringNotUtf8, nestedTooDeep, tooManyEntries, keyRepeated}
-use Rattle.numbers.specs.Ranges.{integerLimit}
-use Rattle.utf8.specs.Check.{isUtf8}
-use Rattle.heads.specs.Head.{kind_at, headAt}
+use Rattle.refusal.specs.Table.{file_over_limit, cut_short, lead_byte_unknown, unsigned_too_large, string_not_utf8, nested_too_deep, too_many_entries, key_repeated}
+use Rattle.numbers.specs.Ranges.{integer_limit}
+use Rattle.utf8.specs.Check.{is_utf8}
+use Rattle.heads.specs.Head.{kind_at, head_at}
 use Rattle.heads.specs.declared.Kind.{Kind}
 use Rattle.heads.specs.declared.Head.{Head}
-use Rattle.messagepack.specs.Limits.{fileLimit, entryLimit}
-use Rattle.messagepack.specs.Walk.{onHead, onText, body_at, textBody, textHead, textAt, keyOfKind, key_at, among, manyAt, entriesFrom, entries_at, value_at, outer, containerNumber}
+use Rattle.messagepack.specs.Limits.{file_limit, entry_limit}
+use Rattle.messagepack.specs.Walk.{on_head, on_text, body_at, text_body, text_head, text_at, key_of_kind, key_at, among, many_at, entries_from, entries_at, value_at, outer, container_number}
 use Rattle.messagepack.specs.declared.Walk.{Walk}
 use Rattle.messagepack.specs.declared.Text.{Text}
 
 -- an array's values, one at a time
 module _ (f : ℕ → Walk) where
-  pub many-none : (n p : ℕ) → n ≤ 0 → manyAt f n p ≡ Walk.End p
-  unfolding manyAt
+  pub many-none : (n p : ℕ) → n ≤ 0 → many_at f n p ≡ Walk.End p
+  unfolding many_at
   many-none zero p h = refl
   many-none (suc n) p h = absurd (not-suc-le-zero h)
 
-  pub many-end : (n p : ℕ) {q : ℕ} → 0 < n → f p ≡ Walk.End q → manyAt f n p ≡ manyAt f (n - 1) q
-  unfolding manyAt
+  pub many-end : (n p : ℕ) {q : ℕ} → 0 < n → f p ≡ Walk.End q → many_at f n p ≡ many_at f (n - 1) q
+  unfolding many_at
   many-end zero p h e = absurd (not-suc-le-zero h)
   many-end (suc n) p h e = rw (e, sub-one)
 
-  pub many-suc : (n p : ℕ) {q : ℕ} → f p ≡ Walk.End q → manyAt f (suc n) p ≡ manyAt f n q
-  unfolding manyAt
+  pub many-suc : (n p : ℕ) {q : ℕ} → f p ≡ Walk.End q → many_at f (suc n) p ≡ many_at f n q
+  unfolding many_at
   many-suc n p e = rw e
 
-  pub many-refused : (n p : ℕ) {r : ℕ} → 0 < n → f p ≡ Walk.Refused r → manyAt f n p ≡ Walk.Refused r
-  unfolding manyAt
+  pub many-refused : (n p : ℕ) {r : ℕ} → 0 < n → f p ≡ Walk.Refused r → many_at f n p ≡ Walk.Refused r
+  unfolding many_at
   many-refused zero p h e = absurd (not-suc-le-zero h)
   many-refused (suc n) p h e = rw e
 
@@ -43,7 +43,7 @@ module _ (s : List ℕ) where
   unfolding body_at
   body-in n p le = rw (le-leb (p + n) (length s) le)
 
-  pub body-out : (n p : ℕ) → length s < p + n → body_at s n p ≡ Walk.Refused cutShort
+  pub body-out : (n p : ℕ) → length s < p + n → body_at s n p ≡ Walk.Refused cut_short
   unfolding body_at
   body-out n p lt = rw (lt-leb (p + n) (length s) lt)
 
@@ -51,7 +51,7 @@ module _ (s : List ℕ) where
   unfolding body_at
   body_end n p {e} h = go (nat_le (p + n) (length s)) refl h
     where
-      go : (t : Bool) → nat_le (p + n) (length s) ≡ t → cond t (Walk.End (p + n)) (Walk.Refused cutShort) ≡ Walk.End e → (p + n ≤ length s) × (e ≡ p + n)
+      go : (t : Bool) → nat_le (p + n) (length s) ≡ t → cond t (Walk.End (p + n)) (Walk.Refused cut_short) ≡ Walk.End e → (p + n ≤ length s) × (e ≡ p + n)
       go true t k = (leb-true (p + n) (length s) t, cc)
       go false t k = let z : ◌≡◌ {A = ℕ} 0 1 = cc in absurd (omega arith)
 
@@ -59,53 +59,53 @@ module _ (s : List ℕ) where
 
   -- what a string that is found is
   pub record TextIs (at p n : ℕ) : Type 0 where
-    pub head : headAt s at ≡ Head.At n p
+    pub head : head_at s at ≡ Head.At n p
     pub inside : p + n ≤ length s
-    pub utf8 : isUtf8 (take n (drop p s)) ≡ true
+    pub utf8 : is_utf8 (take n (drop p s)) ≡ true
 
-  pub text-is : (at : ℕ) {p n : ℕ} → textAt s at ≡ Text.At p n → TextIs at p n
-  unfolding textAt
-  text-is at {p} {n} h = head (headAt s at) refl h
+  pub text-is : (at : ℕ) {p n : ℕ} → text_at s at ≡ Text.At p n → TextIs at p n
+  unfolding text_at
+  text-is at {p} {n} h = head (head_at s at) refl h
     where
-      utf : (m q : ℕ) → headAt s at ≡ Head.At m q → q + m ≤ length s → (b : Bool) → isUtf8 (take m (drop q s)) ≡ b → cond b (Text.At q m) (Text.Refused stringNotUtf8) ≡ Text.At p n → TextIs at p n
+      utf : (m q : ℕ) → head_at s at ≡ Head.At m q → q + m ≤ length s → (b : Bool) → is_utf8 (take m (drop q s)) ≡ b → cond b (Text.At q m) (Text.Refused string_not_utf8) ≡ Text.At p n → TextIs at p n
       utf m q g le true u k =
           let i : q ≡ p = cc in
           let j : m ≡ n = cc in
           record { head = rw (i, j) at g; inside = rw (← i, ← j) le; utf8 = rw (← i, ← j) u }
       utf m q g le false u k = let z : ◌≡◌ {A = ℕ} 0 1 = cc in absurd (omega arith)
 
-      body : (m q : ℕ) → headAt s at ≡ Head.At m q → (w : Walk) → body_at s m q ≡ w → textBody s m q w ≡ Text.At p n → TextIs at p n
+      body : (m q : ℕ) → head_at s at ≡ Head.At m q → (w : Walk) → body_at s m q ≡ w → text_body s m q w ≡ Text.At p n → TextIs at p n
       body m q g (Walk.Refused e) b k = let z : ◌≡◌ {A = ℕ} 0 1 = cc in absurd (omega arith)
-      body m q g (Walk.End e) b k = utf m q g (body_end m q b).0 (isUtf8 (take m (drop q s))) refl k
+      body m q g (Walk.End e) b k = utf m q g (body_end m q b).0 (is_utf8 (take m (drop q s))) refl k
 
-      head : (g : Head) → headAt s at ≡ g → textHead s g ≡ Text.At p n → TextIs at p n
+      head : (g : Head) → head_at s at ≡ g → text_head s g ≡ Text.At p n → TextIs at p n
       head Head.Cut g k = let z : ◌≡◌ {A = ℕ} 0 1 = cc in absurd (omega arith)
       head (Head.At m q) g k = body m q g (body_at s m q) refl k
 
-  pub text-cut : (at : ℕ) → headAt s at ≡ Head.Cut → textAt s at ≡ Text.Refused cutShort
-  unfolding textAt
+  pub text-cut : (at : ℕ) → head_at s at ≡ Head.Cut → text_at s at ≡ Text.Refused cut_short
+  unfolding text_at
   text-cut at g = rw g
 
-  pub text-short : (at : ℕ) {n p e : ℕ} → headAt s at ≡ Head.At n p → body_at s n p ≡ Walk.Refused e → textAt s at ≡ Text.Refused e
-  unfolding textAt
+  pub text-short : (at : ℕ) {n p e : ℕ} → head_at s at ≡ Head.At n p → body_at s n p ≡ Walk.Refused e → text_at s at ≡ Text.Refused e
+  unfolding text_at
   text-short at g b = rw (g, b)
 
-  pub text-tested : (at : ℕ) {n p e : ℕ} (t : Bool) → headAt s at ≡ Head.At n p → body_at s n p ≡ Walk.End e → isUtf8 (take n (drop p s)) ≡ t → textAt s at ≡ cond t (Text.At p n) (Text.Refused stringNotUtf8)
-  unfolding textAt
+  pub text-tested : (at : ℕ) {n p e : ℕ} (t : Bool) → head_at s at ≡ Head.At n p → body_at s n p ≡ Walk.End e → is_utf8 (take n (drop p s)) ≡ t → text_at s at ≡ cond t (Text.At p n) (Text.Refused string_not_utf8)
+  unfolding text_at
   text-tested at t g b u = rw (g, b, u)
 
   -- keys
 
-  pub key-by : (at : ℕ) {k : Kind} → kind_at s at ≡ k → key_at s at ≡ keyOfKind s at k
+  pub key-by : (at : ℕ) {k : Kind} → kind_at s at ≡ k → key_at s at ≡ key_of_kind s at k
   unfolding key_at
   key-by at e = rw e
 
   -- a key that is found is a string
-  pub key-is : (at : ℕ) {p n : ℕ} → key_at s at ≡ Text.At p n → (kind_at s at ≡ Kind.Str) × (textAt s at ≡ Text.At p n)
+  pub key-is : (at : ℕ) {p n : ℕ} → key_at s at ≡ Text.At p n → (kind_at s at ≡ Kind.Str) × (text_at s at ≡ Text.At p n)
   unfolding key_at
   key-is at {p} {n} h = go (kind_at s at) refl h
     where
-      go : (k : Kind) → kind_at s at ≡ k → keyOfKind s at k ≡ Text.At p n → (kind_at s at ≡ Kind.Str) × (textAt s at ≡ Text.At p n)
+      go : (k : Kind) → kind_at s at ≡ k → key_of_kind s at k ≡ Text.At p n → (kind_at s at ≡ Kind.Str) × (text_at s at ≡ Text.At p n)
       go Kind.Str e q = (e, q)
       go Kind.Missing e q = let z : ◌≡◌ {A = ℕ} 0 1 = cc in absurd (omega arith)
       go Kind.Outside e q = let z : ◌≡◌ {A = ℕ} 0 1 = cc in absurd (omega arith)
@@ -118,116 +118,116 @@ module _ (s : List ℕ) where
 
   -- values, by their kind
 
-  pub value-missing : (d at : ℕ) → kind_at s at ≡ Kind.Missing → value_at s d at ≡ Walk.Refused cutShort
+  pub value-missing : (d at : ℕ) → kind_at s at ≡ Kind.Missing → value_at s d at ≡ Walk.Refused cut_short
   unfolding value_at
   value-missing zero at k = rw k
   value-missing (suc d) at k = rw k
 
-  pub value-outside : (d at : ℕ) → kind_at s at ≡ Kind.Outside → value_at s d at ≡ Walk.Refused leadByteUnknown
+  pub value-outside : (d at : ℕ) → kind_at s at ≡ Kind.Outside → value_at s d at ≡ Walk.Refused lead_byte_unknown
   unfolding value_at
   value-outside zero at k = rw k
   value-outside (suc d) at k = rw k
 
-  pub value-unsigned : (d at : ℕ) → kind_at s at ≡ Kind.Unsigned → value_at s d at ≡ onHead (headAt s at) (λ n p. cond (nat_le n integerLimit) (Walk.End p) (Walk.Refused unsignedTooLarge))
+  pub value-unsigned : (d at : ℕ) → kind_at s at ≡ Kind.Unsigned → value_at s d at ≡ on_head (head_at s at) (λ n p. cond (nat_le n integer_limit) (Walk.End p) (Walk.Refused unsigned_too_large))
   unfolding value_at
   value-unsigned zero at k = rw k
   value-unsigned (suc d) at k = rw k
 
-  pub value-signed : (d at : ℕ) → kind_at s at ≡ Kind.Signed → value_at s d at ≡ onHead (headAt s at) (λ n p. Walk.End p)
+  pub value-signed : (d at : ℕ) → kind_at s at ≡ Kind.Signed → value_at s d at ≡ on_head (head_at s at) (λ n p. Walk.End p)
   unfolding value_at
   value-signed zero at k = rw k
   value-signed (suc d) at k = rw k
 
-  pub value-float : (d at : ℕ) → kind_at s at ≡ Kind.Float → value_at s d at ≡ onHead (headAt s at) (λ n p. Walk.End p)
+  pub value-float : (d at : ℕ) → kind_at s at ≡ Kind.Float → value_at s d at ≡ on_head (head_at s at) (λ n p. Walk.End p)
   unfolding value_at
   value-float zero at k = rw k
   value-float (suc d) at k = rw k
 
-  pub value-bin : (d at : ℕ) → kind_at s at ≡ Kind.Bin → value_at s d at ≡ onHead (headAt s at) (λ n p. body_at s n p)
+  pub value-bin : (d at : ℕ) → kind_at s at ≡ Kind.Bin → value_at s d at ≡ on_head (head_at s at) (λ n p. body_at s n p)
   unfolding value_at
   value-bin zero at k = rw k
   value-bin (suc d) at k = rw k
 
-  pub value-str : (d at : ℕ) → kind_at s at ≡ Kind.Str → value_at s d at ≡ onText (textAt s at) (λ p n. Walk.End (p + n))
+  pub value-str : (d at : ℕ) → kind_at s at ≡ Kind.Str → value_at s d at ≡ on_text (text_at s at) (λ p n. Walk.End (p + n))
   unfolding value_at
   value-str zero at k = rw k
   value-str (suc d) at k = rw k
 
-  pub value-array : (d at : ℕ) → 0 < d → kind_at s at ≡ Kind.Array → value_at s d at ≡ onHead (headAt s at) (manyAt (value_at s (d - 1)))
+  pub value-array : (d at : ℕ) → 0 < d → kind_at s at ≡ Kind.Array → value_at s d at ≡ on_head (head_at s at) (many_at (value_at s (d - 1)))
   unfolding value_at
   value-array zero at h k = absurd (not-suc-le-zero h)
   value-array (suc d) at h k = rw (k, sub-one)
 
-  pub value-map : (d at : ℕ) → 0 < d → kind_at s at ≡ Kind.Map → value_at s d at ≡ onHead (headAt s at) (entries_at s (value_at s (d - 1)))
+  pub value-map : (d at : ℕ) → 0 < d → kind_at s at ≡ Kind.Map → value_at s d at ≡ on_head (head_at s at) (entries_at s (value_at s (d - 1)))
   unfolding value_at
   value-map zero at h k = absurd (not-suc-le-zero h)
   value-map (suc d) at h k = rw (k, sub-one)
 
-  pub array-cut : (d at : ℕ) → 0 < d → kind_at s at ≡ Kind.Array → headAt s at ≡ Head.Cut → value_at s d at ≡ Walk.Refused cutShort
+  pub array-cut : (d at : ℕ) → 0 < d → kind_at s at ≡ Kind.Array → head_at s at ≡ Head.Cut → value_at s d at ≡ Walk.Refused cut_short
   array-cut d at h k g = value-array d at h k ∙ rw g
 
-  pub array_at : (d at : ℕ) {n p : ℕ} → 0 < d → kind_at s at ≡ Kind.Array → headAt s at ≡ Head.At n p → value_at s d at ≡ manyAt (value_at s (d - 1)) n p
+  pub array_at : (d at : ℕ) {n p : ℕ} → 0 < d → kind_at s at ≡ Kind.Array → head_at s at ≡ Head.At n p → value_at s d at ≡ many_at (value_at s (d - 1)) n p
   array_at d at h k g = value-array d at h k ∙ rw g
 
-  pub map-cut : (d at : ℕ) → 0 < d → kind_at s at ≡ Kind.Map → headAt s at ≡ Head.Cut → value_at s d at ≡ Walk.Refused cutShort
+  pub map-cut : (d at : ℕ) → 0 < d → kind_at s at ≡ Kind.Map → head_at s at ≡ Head.Cut → value_at s d at ≡ Walk.Refused cut_short
   map-cut d at h k g = value-map d at h k ∙ rw g
 
-  pub map_at : (d at : ℕ) {n p : ℕ} → 0 < d → kind_at s at ≡ Kind.Map → headAt s at ≡ Head.At n p → value_at s d at ≡ entries_at s (value_at s (d - 1)) n p
+  pub map_at : (d at : ℕ) {n p : ℕ} → 0 < d → kind_at s at ≡ Kind.Map → head_at s at ≡ Head.At n p → value_at s d at ≡ entries_at s (value_at s (d - 1)) n p
   map_at d at h k g = value-map d at h k ∙ rw g
 
-  pub deep-array : (d at : ℕ) → d ≡ 0 → kind_at s at ≡ Kind.Array → value_at s d at ≡ Walk.Refused nestedTooDeep
+  pub deep-array : (d at : ℕ) → d ≡ 0 → kind_at s at ≡ Kind.Array → value_at s d at ≡ Walk.Refused nested_too_deep
   unfolding value_at
   deep-array d at h k = rw (h, k)
 
-  pub deep-map : (d at : ℕ) → d ≡ 0 → kind_at s at ≡ Kind.Map → value_at s d at ≡ Walk.Refused nestedTooDeep
+  pub deep-map : (d at : ℕ) → d ≡ 0 → kind_at s at ≡ Kind.Map → value_at s d at ≡ Walk.Refused nested_too_deep
   unfolding value_at
   deep-map d at h k = rw (h, k)
 
 -- a map's entries, one at a time
 module _ (s : List ℕ) (f : ℕ → Walk) where
-  pub entries-many : (n p : ℕ) → entryLimit < n → entries_at s f n p ≡ Walk.Refused tooManyEntries
+  pub entries-many : (n p : ℕ) → entry_limit < n → entries_at s f n p ≡ Walk.Refused too_many_entries
   unfolding entries_at
-  entries-many n p h = rw (lt-leb n entryLimit h)
+  entries-many n p h = rw (lt-leb n entry_limit h)
 
-  pub entries-few : (n p : ℕ) → n ≤ entryLimit → entries_at s f n p ≡ entriesFrom s f n [] p
+  pub entries-few : (n p : ℕ) → n ≤ entry_limit → entries_at s f n p ≡ entries_from s f n [] p
   unfolding entries_at
-  entries-few n p h = rw (le-leb n entryLimit h)
+  entries-few n p h = rw (le-leb n entry_limit h)
 
-  pub entries_none : (n p : ℕ) (ks : List (List ℕ)) → n ≤ 0 → entriesFrom s f n ks p ≡ Walk.End p
-  unfolding entriesFrom
+  pub entries_none : (n p : ℕ) (ks : List (List ℕ)) → n ≤ 0 → entries_from s f n ks p ≡ Walk.End p
+  unfolding entries_from
   entries_none zero p ks h = refl
   entries_none (suc n) p ks h = absurd (not-suc-le-zero h)
 
-  pub entries-key : (n p : ℕ) (ks : List (List ℕ)) {e : ℕ} → 0 < n → key_at s p ≡ Text.Refused e → entriesFrom s f n ks p ≡ Walk.Refused e
-  unfolding entriesFrom
+  pub entries-key : (n p : ℕ) (ks : List (List ℕ)) {e : ℕ} → 0 < n → key_at s p ≡ Text.Refused e → entries_from s f n ks p ≡ Walk.Refused e
+  unfolding entries_from
   entries-key zero p ks h k = absurd (not-suc-le-zero h)
   entries-key (suc n) p ks h k = rw k
 
-  pub entries_twice : (n p : ℕ) (ks : List (List ℕ)) {a m : ℕ} → 0 < n → key_at s p ≡ Text.At a m → among (take m (drop a s)) ks ≡ true → entriesFrom s f n ks p ≡ Walk.Refused keyRepeated
-  unfolding entriesFrom
+  pub entries_twice : (n p : ℕ) (ks : List (List ℕ)) {a m : ℕ} → 0 < n → key_at s p ≡ Text.At a m → among (take m (drop a s)) ks ≡ true → entries_from s f n ks p ≡ Walk.Refused key_repeated
+  unfolding entries_from
   entries_twice zero p ks h k b = absurd (not-suc-le-zero h)
   entries_twice (suc n) p ks h k b = rw (k, b)
 
-  pub entries-value : (n p : ℕ) (ks : List (List ℕ)) {a m e : ℕ} → 0 < n → key_at s p ≡ Text.At a m → among (take m (drop a s)) ks ≡ false → f (a + m) ≡ Walk.Refused e → entriesFrom s f n ks p ≡ Walk.Refused e
-  unfolding entriesFrom
+  pub entries-value : (n p : ℕ) (ks : List (List ℕ)) {a m e : ℕ} → 0 < n → key_at s p ≡ Text.At a m → among (take m (drop a s)) ks ≡ false → f (a + m) ≡ Walk.Refused e → entries_from s f n ks p ≡ Walk.Refused e
+  unfolding entries_from
   entries-value zero p ks h k b v = absurd (not-suc-le-zero h)
   entries-value (suc n) p ks h k b v = rw (k, b, v)
 
-  pub entries-end : (n p : ℕ) (ks : List (List ℕ)) {a m q : ℕ} → 0 < n → key_at s p ≡ Text.At a m → among (take m (drop a s)) ks ≡ false → f (a + m) ≡ Walk.End q → entriesFrom s f n ks p ≡ entriesFrom s f (n - 1) (take m (drop a s) ∷ ks) q
-  unfolding entriesFrom
+  pub entries-end : (n p : ℕ) (ks : List (List ℕ)) {a m q : ℕ} → 0 < n → key_at s p ≡ Text.At a m → among (take m (drop a s)) ks ≡ false → f (a + m) ≡ Walk.End q → entries_from s f n ks p ≡ entries_from s f (n - 1) (take m (drop a s) ∷ ks) q
+  unfolding entries_from
   entries-end zero p ks h k b v = absurd (not-suc-le-zero h)
   entries-end (suc n) p ks h k b v = rw (k, b, v, sub-one)
 
-  pub entries-suc : (n p : ℕ) (ks : List (List ℕ)) {a m q : ℕ} → key_at s p ≡ Text.At a m → among (take m (drop a s)) ks ≡ false → f (a + m) ≡ Walk.End q → entriesFrom s f (suc n) ks p ≡ entriesFrom s f n (take m (drop a s) ∷ ks) q
-  unfolding entriesFrom
+  pub entries-suc : (n p : ℕ) (ks : List (List ℕ)) {a m q : ℕ} → key_at s p ≡ Text.At a m → among (take m (drop a s)) ks ≡ false → f (a + m) ≡ Walk.End q → entries_from s f (suc n) ks p ≡ entries_from s f n (take m (drop a s) ∷ ks) q
+  unfolding entries_from
   entries-suc n p ks k b v = rw (k, b, v)
 
 -- the whole file
 module _ (s : List ℕ) where
-  pub file-over : fileLimit < length s → containerNumber s ≡ fileOverLimit
-  unfolding containerNumber
-  file-over h = rw (lt-leb (length s) fileLimit h)
+  pub file-over : file_limit < length s → container_number s ≡ file_over_limit
+  unfolding container_number
+  file-over h = rw (lt-leb (length s) file_limit h)
 
-  pub file-by : {k : Kind} → length s ≤ fileLimit → kind_at s 0 ≡ k → containerNumber s ≡ outer s k
-  unfolding containerNumber
-  file-by h k = rw (le-leb (length s) fileLimit h, k)
+  pub file-by : {k : Kind} → length s ≤ file_limit → kind_at s 0 ≡ k → container_number s ≡ outer s k
+  unfolding container_number
+  file-by h k = rw (le-leb (length s) file_limit h, k)

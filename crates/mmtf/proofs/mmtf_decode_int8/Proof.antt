@@ -2,7 +2,7 @@
 use mathlib.Core.Path.{ap, ◌∙◌}
 use borrow.Author.Rules.{rules}
 use Rattle.refusal.specs.declared.Answer.{Answer}
-use Rattle.refusal.specs.Answer.{answerNumber, answerCount}
+use Rattle.refusal.specs.Answer.{answer_number, answer_count}
 use Rattle.mmtf.proofs.mmtf_decode_int8.Statement.{statement}
 use Rattle.mmtf.proofs.mmtf_decode_int8.Tie as tie
 
@@ -11,7 +11,7 @@ returns c =
     let a = c.before.before.before.before.before.before.args in
     let e = c.before.before.before.decode-int8.ensures in
     let h = c.hand-count.ensures in
-    (h.0 ∙ ap answerNumber e.0, (h.1 ∙ ap (λ (x : Answer). answerCount x a.count.now) e.0, e.1))
+    (h.0 ∙ ap answer_number e.0, (h.1 ∙ ap (λ (x : Answer). answer_count x a.count.now) e.0, e.1))
 
 pub mmtf-decode-int8-spec : {M : Type 1} → statement M
 mmtf-decode-int8-spec = tie.close (tie.spec (λ c κs. search rules) (λ c κs. search rules) (λ c. search rules) returns)

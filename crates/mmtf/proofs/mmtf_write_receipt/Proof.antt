@@ -2,7 +2,7 @@
 use mathlib.Core.Path.{sym, ap, ◌∙◌}
 use borrow.Author.Rules.{rules}
 use Rattle.refusal.specs.declared.Answer.{Answer}
-use Rattle.refusal.specs.Answer.{answerNumber, answerCount}
+use Rattle.refusal.specs.Answer.{answer_number, answer_count}
 use Rattle.receipt.specs.Laws.File.{answered-number}
 use Rattle.mmtf.proofs.mmtf_write_receipt.Statement.{statement}
 use Rattle.mmtf.proofs.mmtf_write_receipt.Tie as tie
@@ -11,13 +11,13 @@ returns : tie.Need-returns
 returns c =
     let a = c.before.before.before.before.before.before.before.before.before.args in
     let e = sym c.before.number.given.1 ∙ c.before.before.before.before.before.write.ensures.0 in
-    (ap answerNumber e, (ap (λ (o : Answer). answerCount o a.written.now) e, (c.before.before.before.before.before.write.ensures.1.0, λ z. absurd (answered-number _ _ _ _ _ e z))))
+    (ap answer_number e, (ap (λ (o : Answer). answer_count o a.written.now) e, (c.before.before.before.before.before.write.ensures.1.0, λ z. absurd (answered-number _ _ _ _ _ e z))))
 
 returns-2 : tie.Need-returns-2
 returns-2 c =
     let a = c.before.before.before.before.before.before.before.before.before.args in
     let e = sym c.before.size.given.1 ∙ c.before.before.before.before.before.write.ensures.0 in
-    (ap answerNumber e, (ap (λ (o : Answer). answerCount o a.written.now) e, (c.before.before.before.before.before.write.ensures.1.0, λ z. c.before.before.before.before.before.write.ensures.1.1 _ c.before.size.given.1)))
+    (ap answer_number e, (ap (λ (o : Answer). answer_count o a.written.now) e, (c.before.before.before.before.before.write.ensures.1.0, λ z. c.before.before.before.before.before.write.ensures.1.1 _ c.before.size.given.1)))
 
 pub mmtf-write-receipt-spec : {M : Type 1} → statement M
 mmtf-write-receipt-spec =

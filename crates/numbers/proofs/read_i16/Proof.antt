@@ -6,10 +6,10 @@ use mir.Val.{to_z}
 use borrow.Author.Rules.{rules}
 use Rattle.numbers.proofs.read_i16.Statement.{statement}
 use Rattle.numbers.proofs.read_i16.Tie as tie
-use Rattle.numbers.specs.BigEndian.{signedAt}
+use Rattle.numbers.specs.BigEndian.{signed_at}
 
 returns : tie.Need-returns
-unfolding signedAt
+unfolding signed_at
 returns c = to_z-of_z {w = w16} (record { sfits = c.to-i16.type-inv }) ∙ c.to-i16.ensures ∙ ap (to_z w16) c.before.read-u16.ensures
 
 pub read-i16-spec : {M : Type 1} → statement M

@@ -6,10 +6,10 @@ use mir.Val.{to_z}
 use borrow.Author.Rules.{rules}
 use Rattle.numbers.proofs.read_i32.Statement.{statement}
 use Rattle.numbers.proofs.read_i32.Tie as tie
-use Rattle.numbers.specs.BigEndian.{signedAt}
+use Rattle.numbers.specs.BigEndian.{signed_at}
 
 returns : tie.Need-returns
-unfolding signedAt
+unfolding signed_at
 returns c = to_z-of_z {w = w32} (record { sfits = c.to-i32.type-inv }) ∙ c.to-i32.ensures ∙ ap (to_z w32) c.before.read_u32.ensures
 
 pub read-i32-spec : {M : Type 1} → statement M

@@ -1,4 +1,4 @@
--- The bytes inside, stored one after the other, are the written buffer (`writtenAt-stores`); outside nothing is written.
+-- The bytes inside, stored one after the other, are the written buffer (`written_at-stores`); outside nothing is written.
 use mathlib.Core.Path.{sym}
 use Prim.Native.Nat.{◌+◌, ◌≤◌, ◌<◌}
 use native.Mathlib.Nat.{add-zero}
@@ -7,20 +7,20 @@ use lib.ListN.{length, length-set}
 use borrow.Author.Rules.{rules}
 use Rattle.numbers.proofs.write_u32.Statement.{statement}
 use Rattle.numbers.proofs.write_u32.Tie as tie
-use Rattle.numbers.specs.Laws.BigEndian.{writtenAt-stores, writtenAt-out}
+use Rattle.numbers.specs.Laws.BigEndian.{written_at-stores, written_at-out}
 
 returns : tie.Need-returns
 returns c =
     let a = c.before.before.before.before.before.before.before.args in
     let inside : a.at + 4 ≤ length a.buffer.now = omega arith in
     rw (c.before.before.before.low_byte.ensures, c.before.before.low-byte2.ensures, c.before.low-byte3.ensures, c.low-byte4.ensures)
-    (rw (writtenAt-stores 4 a.buffer.now a.at a.value inside, add-zero))
+    (rw (written_at-stores 4 a.buffer.now a.at a.value inside, add-zero))
 
 returns-2 : tie.Need-returns-2
 returns-2 c =
     let a = c.before.before.before.args in
     let outside : length a.buffer.now < a.at + 4 = omega arith in
-    sym (writtenAt-out 4 a.buffer.now a.at a.value outside)
+    sym (written_at-out 4 a.buffer.now a.at a.value outside)
 
 pub write-u32-spec : {M : Type 1} → statement M
 write-u32-spec =

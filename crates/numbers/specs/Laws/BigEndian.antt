@@ -10,7 +10,7 @@ use mir.Val.{bits, SFits, of_z}
 use Rattle.std.proofs.Math.Facts.{Fits-of_z}
 use Rattle.std.proofs.lemmas.Bool.{lt-leb}
 use Rattle.numbers.specs.Steps.{Loaded}
-use Rattle.numbers.specs.BigEndian.{Bytes, number_of, bytes_of, inside, unsignedAt, bytesIn, signedAt, writtenAt}
+use Rattle.numbers.specs.BigEndian.{Bytes, number_of, bytes_of, inside, unsigned_at, bytes_in, signed_at, written_at}
 
 pow_pos : (k : ℕ) → 0 < 256 ^ k
 pow_pos k = one-le-pow k 256 (lit< tt)
@@ -51,91 +51,91 @@ drop-bytes k s h i lt = rw get_or-drop (h (k + i) (omega (arith, length-drop k s
 
 -- bytes_of
 
-pub length-bytesOf : (k n : ℕ) → length (bytes_of k n) ≡ k
+pub length-bytes_of : (k n : ℕ) → length (bytes_of k n) ≡ k
 unfolding bytes_of
-length-bytesOf zero n = refl
-length-bytesOf (suc k) n = ap suc (length-bytesOf k n)
+length-bytes_of zero n = refl
+length-bytes_of (suc k) n = ap suc (length-bytes_of k n)
 
-pub bytesOf-Bytes : (k n : ℕ) → Bytes (bytes_of k n)
+pub bytes_of-Bytes : (k n : ℕ) → Bytes (bytes_of k n)
 unfolding bytes_of Bytes
-bytesOf-Bytes zero n = λ i lt. absurd (omega arith)
-bytesOf-Bytes (suc k) n = cons-bytes ((n / 256 ^ k) % 256) (bytes_of k n) (mod-lt (n / 256 ^ k) (lit< tt)) (bytesOf-Bytes k n)
+bytes_of-Bytes zero n = λ i lt. absurd (omega arith)
+bytes_of-Bytes (suc k) n = cons-bytes ((n / 256 ^ k) % 256) (bytes_of k n) (mod-lt (n / 256 ^ k) (lit< tt)) (bytes_of-Bytes k n)
 
 -- one byte more, at the low end
-pub bytesOf-snoc : (k n : ℕ) → bytes_of (suc k) n ≡ bytes_of k (n / 256) ++ (n % 256 ∷ [])
+pub bytes_of-snoc : (k n : ℕ) → bytes_of (suc k) n ≡ bytes_of k (n / 256) ++ (n % 256 ∷ [])
 unfolding bytes_of
-bytesOf-snoc zero n = rw (div-one n)
-bytesOf-snoc (suc k) n =
+bytes_of-snoc zero n = rw (div-one n)
+bytes_of-snoc (suc k) n =
     let e : n / 256 ^ suc k ≡ n / 256 / 256 ^ k = rw (pow-succ' 256 k, div-div-eq-div-mul n 256 (256 ^ k)) in
-    rw (e, bytesOf-snoc k n)
+    rw (e, bytes_of-snoc k n)
 
 -- what is above the k bytes is not written
-pub bytesOf-above : (k q n : ℕ) → bytes_of k (q * 256 ^ k + n) ≡ bytes_of k n
+pub bytes_of-above : (k q n : ℕ) → bytes_of k (q * 256 ^ k + n) ≡ bytes_of k n
 unfolding bytes_of
-bytesOf-above zero q n = refl
-bytesOf-above (suc k) q n =
+bytes_of-above zero q n = refl
+bytes_of-above (suc k) q n =
     let e : q * 256 ^ suc k ≡ q * 256 * 256 ^ k = rw (pow-succ' 256 k, mul_assoc) in
-    rw (e, mul-add-div_right (pow_pos k) (q * 256) n, mul-add-mod_self_right q 256 (n / 256 ^ k), bytesOf-above k (q * 256) n)
+    rw (e, mul-add-div_right (pow_pos k) (q * 256) n, mul-add-mod_self_right q 256 (n / 256 ^ k), bytes_of-above k (q * 256) n)
 
 -- only the low bytes of a number are written
 pub bytes_of_mod : (k n : ℕ) → bytes_of k (n % 256 ^ k) ≡ bytes_of k n
-bytes_of_mod k n = sym (bytesOf-above k (n / 256 ^ k) (n % 256 ^ k)) ∙ ap (bytes_of k) (div-add-mod' n (256 ^ k))
+bytes_of_mod k n = sym (bytes_of-above k (n / 256 ^ k) (n % 256 ^ k)) ∙ ap (bytes_of k) (div-add-mod' n (256 ^ k))
 
 -- number_of
 
-pub numberOf-bound : (xs : List ℕ) → Bytes xs → number_of xs < 256 ^ length xs
+pub number_of-bound : (xs : List ℕ) → Bytes xs → number_of xs < 256 ^ length xs
 unfolding number_of
-numberOf-bound [] h = lit< tt
-numberOf-bound (x ∷ xs) h = rw (pow-succ' 256 (length xs)) (digits_lt (head_byte x xs h) (numberOf-bound xs (tail-bytes x xs h)))
+number_of-bound [] h = lit< tt
+number_of-bound (x ∷ xs) h = rw (pow-succ' 256 (length xs)) (digits_lt (head_byte x xs h) (number_of-bound xs (tail-bytes x xs h)))
 
 -- k bytes hold what is left of a larger number
-pub numberOf-bytesOf-mod : (k n : ℕ) → number_of (bytes_of k n) ≡ n % 256 ^ k
+pub number_of-bytes_of-mod : (k n : ℕ) → number_of (bytes_of k n) ≡ n % 256 ^ k
 unfolding number_of bytes_of
-numberOf-bytesOf-mod zero n = sym (rw (pow-zero 256) (mod-one n))
-numberOf-bytesOf-mod (suc k) n =
-    rw (length-bytesOf k n, numberOf-bytesOf-mod k n, pow-succ' 256 k) (sym (mod-mul n (lit< tt) (pow_pos k)))
+number_of-bytes_of-mod zero n = sym (rw (pow-zero 256) (mod-one n))
+number_of-bytes_of-mod (suc k) n =
+    rw (length-bytes_of k n, number_of-bytes_of-mod k n, pow-succ' 256 k) (sym (mod-mul n (lit< tt) (pow_pos k)))
 
-pub numberOf-bytesOf : (k n : ℕ) → n < 256 ^ k → number_of (bytes_of k n) ≡ n
-numberOf-bytesOf k n h = numberOf-bytesOf-mod k n ∙ mod-eq_of_lt h
+pub number_of-bytes_of : (k n : ℕ) → n < 256 ^ k → number_of (bytes_of k n) ≡ n
+number_of-bytes_of k n h = number_of-bytes_of-mod k n ∙ mod-eq_of_lt h
 
-pub bytesOf-numberOf : (xs : List ℕ) → Bytes xs → bytes_of (length xs) (number_of xs) ≡ xs
+pub bytes_of-number_of : (xs : List ℕ) → Bytes xs → bytes_of (length xs) (number_of xs) ≡ xs
 unfolding number_of bytes_of
-bytesOf-numberOf [] h = refl
-bytesOf-numberOf (x ∷ xs) h =
-    let b : number_of xs < 256 ^ length xs = numberOf-bound xs (tail-bytes x xs h) in
-    rw (digits_div x b, mod-eq_of_lt (head_byte x xs h), bytesOf-above (length xs) x (number_of xs), bytesOf-numberOf xs (tail-bytes x xs h))
+bytes_of-number_of [] h = refl
+bytes_of-number_of (x ∷ xs) h =
+    let b : number_of xs < 256 ^ length xs = number_of-bound xs (tail-bytes x xs h) in
+    rw (digits_div x b, mod-eq_of_lt (head_byte x xs h), bytes_of-above (length xs) x (number_of xs), bytes_of-number_of xs (tail-bytes x xs h))
 
 -- one byte more, at the low end
-pub numberOf-snoc : (xs : List ℕ) (x : ℕ) → number_of (xs ++ (x ∷ [])) ≡ number_of xs * 256 + x
+pub number_of-snoc : (xs : List ℕ) (x : ℕ) → number_of (xs ++ (x ∷ [])) ≡ number_of xs * 256 + x
 unfolding number_of
-numberOf-snoc [] x = omega arith
-numberOf-snoc (y ∷ xs) x =
+number_of-snoc [] x = omega arith
+number_of-snoc (y ∷ xs) x =
     let e : y * 256 ^ (length xs + 1) ≡ y * 256 ^ length xs * 256 = rw (add-one, pow-suc 256 (length xs), mul_assoc) in
-    rw (length-append xs (x ∷ []), numberOf-snoc xs x) (omega arith)
+    rw (length-append xs (x ∷ []), number_of-snoc xs x) (omega arith)
 
--- unsignedAt
+-- unsigned_at
 
-pub unsignedAt-in : (k : ℕ) (s : List ℕ) (at : ℕ) → at + k ≤ length s → unsignedAt k s at ≡ number_of (take k (drop at s))
-unfolding unsignedAt
-unsignedAt-in k s at h = rw (le-leb (at + k) (length s) h)
+pub unsigned_at-in : (k : ℕ) (s : List ℕ) (at : ℕ) → at + k ≤ length s → unsigned_at k s at ≡ number_of (take k (drop at s))
+unfolding unsigned_at
+unsigned_at-in k s at h = rw (le-leb (at + k) (length s) h)
 
-pub unsignedAt-out : (k : ℕ) (s : List ℕ) (at : ℕ) → length s < at + k → unsignedAt k s at ≡ 0
-unfolding unsignedAt
-unsignedAt-out k s at h = rw (lt-leb (at + k) (length s) h)
+pub unsigned_at-out : (k : ℕ) (s : List ℕ) (at : ℕ) → length s < at + k → unsigned_at k s at ≡ 0
+unfolding unsigned_at
+unsigned_at-out k s at h = rw (lt-leb (at + k) (length s) h)
 
 -- k bytes loaded one after the other, as code does, hold the number
 abbrev pub loads : ℕ → List ℕ → ℕ → ℕ
 loads zero s at = 0
 loads (suc k) s at = loads k s at * 256 + get_or s (at + k) 0
 
-pub unsignedAt-loads : (k : ℕ) (s : List ℕ) (at : ℕ) → at + k ≤ length s → unsignedAt k s at ≡ loads k s at
+pub unsigned_at-loads : (k : ℕ) (s : List ℕ) (at : ℕ) → at + k ≤ length s → unsigned_at k s at ≡ loads k s at
 unfolding number_of
-unsignedAt-loads zero s at h = unsignedAt-in 0 s at h
-unsignedAt-loads (suc k) s at h =
+unsigned_at-loads zero s at h = unsigned_at-in 0 s at h
+unsigned_at-loads (suc k) s at h =
     let b : k < length (drop at s) = simp length-drop (omega arith) in
-    let e : number_of (take k (drop at s)) ≡ loads k s at = sym (unsignedAt-in k s at (omega arith)) ∙ unsignedAt-loads k s at (omega arith) in
-    unsignedAt-in (suc k) s at h
-    ∙ rw (take-suc (drop at s) k 0 b, get_or-drop at s k 0) (numberOf-snoc (take k (drop at s)) (get_or s (at + k) 0) ∙ rw e)
+    let e : number_of (take k (drop at s)) ≡ loads k s at = sym (unsigned_at-in k s at (omega arith)) ∙ unsigned_at-loads k s at (omega arith) in
+    unsigned_at-in (suc k) s at h
+    ∙ rw (take-suc (drop at s) k 0 b, get_or-drop at s k 0) (number_of-snoc (take k (drop at s)) (get_or s (at + k) 0) ∙ rw e)
 
 -- one byte, and one more at the low end of those that are loaded
 pub loaded-one : (s : List ℕ) (at i a : ℕ) → a ≡ get_or s (at + i) 0 → a < 256 → Loaded 1 s at i a
@@ -155,89 +155,89 @@ module _ (s : List ℕ) (a m : ℕ) (le : a + m ≤ length s) where
       let b : get_or (take m (drop a s)) (i + k) 0 ≡ get_or s (a + i + k) 0 = get_or-take m (drop a s) (i + k) 0 (omega arith) ∙ get_or-drop a s (i + k) 0 ∙ ap (λ (j : ℕ). get_or s j 0) (sym (add_assoc a i k)) in
       rw (loads-part k i (omega arith), b)
 
-pub unsignedAt-part : (k : ℕ) (s : List ℕ) (a m i : ℕ) → a + m ≤ length s → i + k ≤ m → unsignedAt k (take m (drop a s)) i ≡ unsignedAt k s (a + i)
-unsignedAt-part k s a m i le h =
+pub unsigned_at-part : (k : ℕ) (s : List ℕ) (a m i : ℕ) → a + m ≤ length s → i + k ≤ m → unsigned_at k (take m (drop a s)) i ≡ unsigned_at k s (a + i)
+unsigned_at-part k s a m i le h =
     let l : length (take m (drop a s)) ≡ m = simp (length-take, length-drop) (omega arith) in
-    unsignedAt-loads k (take m (drop a s)) i (rw l h) ∙ loads-part s a m le k i h ∙ sym (unsignedAt-loads k s (a + i) (omega arith))
+    unsigned_at-loads k (take m (drop a s)) i (rw l h) ∙ loads-part s a m le k i h ∙ sym (unsigned_at-loads k s (a + i) (omega arith))
 
--- writtenAt
+-- written_at
 
-pub writtenAt-in : (k : ℕ) (s : List ℕ) (at n : ℕ) → at + k ≤ length s → writtenAt k s at n ≡ take at s ++ bytes_of k n ++ drop (at + k) s
-unfolding writtenAt
-writtenAt-in k s at n h = rw (le-leb (at + k) (length s) h)
+pub written_at-in : (k : ℕ) (s : List ℕ) (at n : ℕ) → at + k ≤ length s → written_at k s at n ≡ take at s ++ bytes_of k n ++ drop (at + k) s
+unfolding written_at
+written_at-in k s at n h = rw (le-leb (at + k) (length s) h)
 
-pub writtenAt-out : (k : ℕ) (s : List ℕ) (at n : ℕ) → length s < at + k → writtenAt k s at n ≡ s
-unfolding writtenAt
-writtenAt-out k s at n h = rw (lt-leb (at + k) (length s) h)
+pub written_at-out : (k : ℕ) (s : List ℕ) (at n : ℕ) → length s < at + k → written_at k s at n ≡ s
+unfolding written_at
+written_at-out k s at n h = rw (lt-leb (at + k) (length s) h)
 
-pub length-writtenAt : (k : ℕ) (s : List ℕ) (at n : ℕ) → length (writtenAt k s at n) ≡ length s
-length-writtenAt k s at n = by-test (inside k s at) refl
+pub length-written_at : (k : ℕ) (s : List ℕ) (at n : ℕ) → length (written_at k s at n) ≡ length s
+length-written_at k s at n = by-test (inside k s at) refl
   where
-    by-test : (b : Bool) → inside k s at ≡ b → length (writtenAt k s at n) ≡ length s
+    by-test : (b : Bool) → inside k s at ≡ b → length (written_at k s at n) ≡ length s
     by-test true e =
         let h : at + k ≤ length s = leb-true (at + k) (length s) e in
         let l : length (take at s) ≡ at = length-take-le at s (omega arith) in
-        rw (writtenAt-in k s at n h) (simp (length-append, length-bytesOf, length-drop) (omega arith))
-    by-test false e = ap length (writtenAt-out k s at n (leb-false (at + k) (length s) e))
+        rw (written_at-in k s at n h) (simp (length-append, length-bytes_of, length-drop) (omega arith))
+    by-test false e = ap length (written_at-out k s at n (leb-false (at + k) (length s) e))
 
 -- k bytes stored one after the other, as code does, are the written ones
 abbrev pub stores : ℕ → List ℕ → ℕ → ℕ → List ℕ
 stores zero s at n = s
 stores (suc k) s at n = set (stores k s at (n / 256)) (at + k) (n % 256)
 
-pub writtenAt-stores : (k : ℕ) (s : List ℕ) (at n : ℕ) → at + k ≤ length s → writtenAt k s at n ≡ stores k s at n
+pub written_at-stores : (k : ℕ) (s : List ℕ) (at n : ℕ) → at + k ≤ length s → written_at k s at n ≡ stores k s at n
 unfolding bytes_of
-writtenAt-stores zero s at n h = writtenAt-in zero s at n h ∙ rw (append-nil, add-zero) (take-append-drop at s)
-writtenAt-stores (suc k) s at n h =
-    let l : length (take at s ++ bytes_of k (n / 256)) ≡ at + k = length-append (take at s) (bytes_of k (n / 256)) ∙ rw (length-take-le at s (omega arith), length-bytesOf k (n / 256)) in
+written_at-stores zero s at n h = written_at-in zero s at n h ∙ rw (append-nil, add-zero) (take-append-drop at s)
+written_at-stores (suc k) s at n h =
+    let l : length (take at s ++ bytes_of k (n / 256)) ≡ at + k = length-append (take at s) (bytes_of k (n / 256)) ∙ rw (length-take-le at s (omega arith), length-bytes_of k (n / 256)) in
     let b : at + k < length s = omega arith in
     let e : at + suc k ≡ suc (at + k) = omega arith in
     let f : stores k s at (n / 256) ≡ take at s ++ bytes_of k (n / 256) ++ (get_or s (at + k) 0 ∷ drop (suc (at + k)) s) =
-    sym (writtenAt-stores k s at (n / 256) (omega arith)) ∙ writtenAt-in k s at (n / 256) (omega arith) ∙ rw (drop-cons s (at + k) 0 b) in
-    writtenAt-in (suc k) s at n h
-    ∙ rw (f, set_at (take at s ++ bytes_of k (n / 256)) (get_or s (at + k) 0) (drop (suc (at + k)) s) (n % 256) (at + k) l, bytesOf-snoc k n, e)
+    sym (written_at-stores k s at (n / 256) (omega arith)) ∙ written_at-in k s at (n / 256) (omega arith) ∙ rw (drop-cons s (at + k) 0 b) in
+    written_at-in (suc k) s at n h
+    ∙ rw (f, set_at (take at s ++ bytes_of k (n / 256)) (get_or s (at + k) 0) (drop (suc (at + k)) s) (n % 256) (at + k) l, bytes_of-snoc k n, e)
     (simp append_assoc)
 
 -- what was written is read back
-pub unsignedAt-writtenAt : (k : ℕ) (s : List ℕ) (at n : ℕ) → at + k ≤ length s → n < 256 ^ k → unsignedAt k (writtenAt k s at n) at ≡ n
-unsignedAt-writtenAt k s at n h b =
+pub unsigned_at-written_at : (k : ℕ) (s : List ℕ) (at n : ℕ) → at + k ≤ length s → n < 256 ^ k → unsigned_at k (written_at k s at n) at ≡ n
+unsigned_at-written_at k s at n h b =
     let l : length (take at s) ≡ at = length-take-le at s (omega arith) in
-    unsignedAt-in k (writtenAt k s at n) at (rw (length-writtenAt k s at n) h)
-    ∙ rw (writtenAt-in k s at n h, append_assoc, drop_at (take at s) (bytes_of k n ++ drop (at + k) s) at l, take_at (bytes_of k n) (drop (at + k) s) k (length-bytesOf k n))
-    (numberOf-bytesOf k n b)
+    unsigned_at-in k (written_at k s at n) at (rw (length-written_at k s at n) h)
+    ∙ rw (written_at-in k s at n h, append_assoc, drop_at (take at s) (bytes_of k n ++ drop (at + k) s) at l, take_at (bytes_of k n) (drop (at + k) s) k (length-bytes_of k n))
+    (number_of-bytes_of k n b)
 
 -- the numbers of a width are those of its bytes
-pow-bytesIn : (w : Width) → 2 ^ bits w ≡ 256 ^ bytesIn w
-pow-bytesIn w8 = refl
-pow-bytesIn w16 = refl
-pow-bytesIn w32 = refl
-pow-bytesIn w64 = refl
-pow-bytesIn w128 = refl
+pow-bytes_in : (w : Width) → 2 ^ bits w ≡ 256 ^ bytes_in w
+pow-bytes_in w8 = refl
+pow-bytes_in w16 = refl
+pow-bytes_in w32 = refl
+pow-bytes_in w64 = refl
+pow-bytes_in w128 = refl
 
-pub signedAt-writtenAt : (w : Width) (s : List ℕ) (at : ℕ) (z : ℤ) → at + bytesIn w ≤ length s → SFits w z → signedAt w (writtenAt (bytesIn w) s at (of_z w z)) at ≡ z
-unfolding signedAt
-signedAt-writtenAt w s at z h f =
-    let b : of_z w z < 256 ^ bytesIn w = rw (pow-bytesIn w) at (Fits-of_z {w = w} f).fits in
-    rw (unsignedAt-writtenAt (bytesIn w) s at (of_z w z) h b) (to_z-of_z {w = w} f)
+pub signed_at-written_at : (w : Width) (s : List ℕ) (at : ℕ) (z : ℤ) → at + bytes_in w ≤ length s → SFits w z → signed_at w (written_at (bytes_in w) s at (of_z w z)) at ≡ z
+unfolding signed_at
+signed_at-written_at w s at z h f =
+    let b : of_z w z < 256 ^ bytes_in w = rw (pow-bytes_in w) at (Fits-of_z {w = w} f).fits in
+    rw (unsigned_at-written_at (bytes_in w) s at (of_z w z) h b) (to_z-of_z {w = w} f)
 
 -- Numbers in joined lists
 
 -- a number of k bytes behind others
-pub unsignedAt-behind : (k n at : ℕ) (a b : List ℕ) → length a ≡ at → n < 256 ^ k → unsignedAt k (a ++ (bytes_of k n ++ b)) at ≡ n
-unsignedAt-behind k n at a b l h =
-    let g = length-bytesOf k n in
+pub unsigned_at-behind : (k n at : ℕ) (a b : List ℕ) → length a ≡ at → n < 256 ^ k → unsigned_at k (a ++ (bytes_of k n ++ b)) at ≡ n
+unsigned_at-behind k n at a b l h =
+    let g = length-bytes_of k n in
     let i : at + k ≤ length (a ++ (bytes_of k n ++ b)) = simp length-append (omega arith) in
-    unsignedAt-in k (a ++ (bytes_of k n ++ b)) at i ∙ rw (drop_at a (bytes_of k n ++ b) at l, take_at (bytes_of k n) b k g) (numberOf-bytesOf k n h)
+    unsigned_at-in k (a ++ (bytes_of k n ++ b)) at i ∙ rw (drop_at a (bytes_of k n ++ b) at l, take_at (bytes_of k n) b k g) (number_of-bytes_of k n h)
 
 -- a number that is read is written so before what follows it
-pub bytesOf-unsignedAt : (s : List ℕ) → Bytes s → (k at : ℕ) → at + k ≤ length s → bytes_of k (unsignedAt k s at) ++ drop (at + k) s ≡ drop at s
-bytesOf-unsignedAt s b k at h =
+pub bytes_of-unsigned_at : (s : List ℕ) → Bytes s → (k at : ℕ) → at + k ≤ length s → bytes_of k (unsigned_at k s at) ++ drop (at + k) s ≡ drop at s
+bytes_of-unsigned_at s b k at h =
     let l : length (take k (drop at s)) ≡ k = length-take-le k (drop at s) (rw length-drop (omega arith)) in
-    let e : bytes_of k (number_of (take k (drop at s))) ≡ take k (drop at s) = rw l at (bytesOf-numberOf (take k (drop at s)) (part_bytes s at k h b)) in
-    rw (unsignedAt-in k s at h, e, ← drop-drop k at s) (take-append-drop k (drop at s))
+    let e : bytes_of k (number_of (take k (drop at s))) ≡ take k (drop at s) = rw l at (bytes_of-number_of (take k (drop at s)) (part_bytes s at k h b)) in
+    rw (unsigned_at-in k s at h, e, ← drop-drop k at s) (take-append-drop k (drop at s))
 
 -- a number behind others that are left out
-pub unsignedAt-drop : (k : ℕ) (s : List ℕ) (at i : ℕ) → at + i + k ≤ length s → unsignedAt k (drop at s) i ≡ unsignedAt k s (at + i)
-unsignedAt-drop k s at i h =
+pub unsigned_at-drop : (k : ℕ) (s : List ℕ) (at i : ℕ) → at + i + k ≤ length s → unsigned_at k (drop at s) i ≡ unsigned_at k s (at + i)
+unsigned_at-drop k s at i h =
     let l = length-drop at s in
-    unsignedAt-in k (drop at s) i (omega arith) ∙ ap (λ (t : List ℕ). number_of (take k t)) (drop-drop i at s) ∙ sym (unsignedAt-in k s (at + i) h)
+    unsigned_at-in k (drop at s) i (omega arith) ∙ ap (λ (t : List ℕ). number_of (take k t)) (drop-drop i at s) ∙ sym (unsigned_at-in k s (at + i) h)

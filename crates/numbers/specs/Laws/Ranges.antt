@@ -7,38 +7,38 @@ use mathlib.Core.List.{List, [], ◌∷◌, ◌++◌}
 use Prim.Native.Nat.{ℕ, zero, suc, ◌-◌, ◌≤◌, ◌<◌}
 use Rattle.std.specs.Int.Signed.{lt_z, le_z}
 use Rattle.std.specs.Int.{w32}
-use Rattle.numbers.specs.Ranges.{integerLimit, allPass, below, lastIndex}
+use Rattle.numbers.specs.Ranges.{integer_limit, all_pass, below, last_index}
 
 module _ (test : ℤ → Bool) where
-  pub allPass-append : (p q : List ℤ) → allPass test (p ++ q) ≡ (allPass test p && allPass test q)
-  unfolding allPass
-  allPass-append [] q = refl
-  allPass-append (x ∷ p) q = by (test x) (allPass-append p q)
+  pub all_pass-append : (p q : List ℤ) → all_pass test (p ++ q) ≡ (all_pass test p && all_pass test q)
+  unfolding all_pass
+  all_pass-append [] q = refl
+  all_pass-append (x ∷ p) q = by (test x) (all_pass-append p q)
     where
-      by : (t : Bool) → allPass test (p ++ q) ≡ (allPass test p && allPass test q) → (t && allPass test (p ++ q)) ≡ ((t && allPass test p) && allPass test q)
+      by : (t : Bool) → all_pass test (p ++ q) ≡ (all_pass test p && all_pass test q) → (t && all_pass test (p ++ q)) ≡ ((t && all_pass test p) && all_pass test q)
       by true e = e
       by false e = refl
 
-  pub allPass-same : (k : ℕ) (x : ℤ) → 1 ≤ k → allPass test (replicate k x) ≡ test x
-  unfolding allPass
-  allPass-same zero x h = absurd (omega arith)
-  allPass-same (suc zero) x h = by (test x)
+  pub all_pass-same : (k : ℕ) (x : ℤ) → 1 ≤ k → all_pass test (replicate k x) ≡ test x
+  unfolding all_pass
+  all_pass-same zero x h = absurd (omega arith)
+  all_pass-same (suc zero) x h = by (test x)
     where
       by : (t : Bool) → (t && true) ≡ t
       by true = refl
       by false = refl
-  allPass-same (suc (suc k)) x h = by (test x) (allPass-same (suc k) x (omega arith))
+  all_pass-same (suc (suc k)) x h = by (test x) (all_pass-same (suc k) x (omega arith))
     where
-      by : (t : Bool) → allPass test (replicate (suc k) x) ≡ t → (t && allPass test (replicate (suc k) x)) ≡ t
+      by : (t : Bool) → all_pass test (replicate (suc k) x) ≡ t → (t && all_pass test (replicate (suc k) x)) ≡ t
       by true e = e
       by false e = refl
 
   -- the first cells pass, or do not
-  pub allPass-on : (p q : List ℤ) → allPass test p ≡ true → allPass test (p ++ q) ≡ allPass test q
-  allPass-on p q e = allPass-append p q ∙ rw e
+  pub all_pass-on : (p q : List ℤ) → all_pass test p ≡ true → all_pass test (p ++ q) ≡ all_pass test q
+  all_pass-on p q e = all_pass-append p q ∙ rw e
 
-  pub allPass-off : (p q : List ℤ) → allPass test p ≡ false → allPass test (p ++ q) ≡ false
-  allPass-off p q e = allPass-append p q ∙ rw e
+  pub all_pass-off : (p q : List ℤ) → all_pass test p ≡ false → all_pass test (p ++ q) ≡ false
+  all_pass-off p q e = all_pass-append p q ∙ rw e
 
 -- the tests of the code
 
@@ -62,17 +62,17 @@ below-index n (pos i) e = refl
 below-index n (negsuc i) e = let y : ◌≡◌ {A = ℕ} 0 1 = cc in absurd (omega arith)
 
 -- the last index
-pub last-zero : {n : ℕ} → n ≡ 0 → lastIndex n ≡ negsuc 0
-last-zero e = ap lastIndex e
+pub last-zero : {n : ℕ} → n ≡ 0 → last_index n ≡ negsuc 0
+last-zero e = ap last_index e
 
-pub last-suc : (n : ℕ) → (n ≡ 0 → ⊥) → n ≤ integerLimit → lastIndex n ≡ pos (n - 1)
+pub last-suc : (n : ℕ) → (n ≡ 0 → ⊥) → n ≤ integer_limit → last_index n ≡ pos (n - 1)
 last-suc zero h l = absurd (h refl)
-last-suc (suc n) h l = let i : n ≡ suc n - 1 = omega arith in rw (le-leb n integerLimit (omega arith)) (ap pos i)
+last-suc (suc n) h l = let i : n ≡ suc n - 1 = omega arith in rw (le-leb n integer_limit (omega arith)) (ap pos i)
 
-pub last-long : (n : ℕ) → integerLimit < n → lastIndex n ≡ pos integerLimit
+pub last-long : (n : ℕ) → integer_limit < n → last_index n ≡ pos integer_limit
 last-long zero l = absurd (omega arith)
-last-long (suc n) l = go (leb n integerLimit) refl
+last-long (suc n) l = go (leb n integer_limit) refl
   where
-    go : (b : Bool) → leb n integerLimit ≡ b → pos (cond b n integerLimit) ≡ pos integerLimit
-    go true e = let i : n ≡ integerLimit = omega (arith, leb-true n integerLimit e) in ap pos i
+    go : (b : Bool) → leb n integer_limit ≡ b → pos (cond b n integer_limit) ≡ pos integer_limit
+    go true e = let i : n ≡ integer_limit = omega (arith, leb-true n integer_limit e) in ap pos i
     go false e = refl

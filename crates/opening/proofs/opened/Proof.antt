@@ -2,7 +2,7 @@
 use mathlib.Core.Path.{refl}
 use borrow.Author.Rules.{rules}
 use borrow.Author.Tests.{le-leb, lt-leb}
-use Rattle.fields.specs.Table.{fieldCount}
+use Rattle.fields.specs.Table.{field_count}
 use Rattle.opening.specs.Laws.Opening.{opening-document, opening-short, opening-accepted}
 use Rattle.opening.proofs.opened.Statement.{statement}
 use Rattle.opening.proofs.opened.Tie as tie
@@ -17,13 +17,13 @@ returns-2 : tie.Need-returns-2
 returns-2 c =
     let r = c.before.before.before.before.before.before.requires.1 in
     let q = c.before.before.document-refusal.ensures r.container.fits c.before.before.before.before.before.before.requires.0 r.container.entries r.fields in
-    (opening-short r.container r.passed _ _ _ q c.before.if1.false (rw (lt-leb fieldCount _ c.if2.true)), (refl, refl))
+    (opening-short r.container r.passed _ _ _ q c.before.if1.false (rw (lt-leb field_count _ c.if2.true)), (refl, refl))
 
 returns-3 : tie.Need-returns-3
 returns-3 c =
     let r = c.before.before.before.before.before.before.before.requires.1 in
     let q = c.before.before.before.document-refusal.ensures r.container.fits c.before.before.before.before.before.before.before.requires.0 r.container.entries r.fields in
-    (opening-short r.container r.passed _ _ _ q c.before.before.if1.false (rw (le-leb fieldCount _ c.before.if2.false, lt-leb fieldCount _ c.if3.true)), (refl, refl))
+    (opening-short r.container r.passed _ _ _ q c.before.before.if1.false (rw (le-leb field_count _ c.before.if2.false, lt-leb field_count _ c.if3.true)), (refl, refl))
 
 put-parts-requires : tie.Need-put-parts-requires
 put-parts-requires c κs = (c.before.before.before.before.before.before.before.before.before.before.before.before.before.requires.0, (c.before.before.before.before.before.before.before.before.before.before.before.before.before.requires.1.spans, (c.before.before.before.before.before.before.before.if2.false, c.before.before.before.before.before.before.if3.false)))

@@ -7,22 +7,22 @@ use lib.ListN.{length, take, drop, set, length-set}
 use borrow.Author.Rules.{rules}
 use Rattle.values.specs.declared.Part.{Part}
 use Rattle.payloads.specs.Laws.Writing.{laid_next, laid-all}
-use Rattle.fields.specs.Table.{fieldCount}
-use Rattle.opening.specs.Opening.{startsOf, lengthsOf}
+use Rattle.fields.specs.Table.{field_count}
+use Rattle.opening.specs.Opening.{starts_of, lengths_of}
 use Rattle.opening.specs.Laws.Opening.{starts-count, lengths-count, start-noted, length-noted}
 use Rattle.opening.proofs.put_parts.Statement.{statement}
 use Rattle.opening.proofs.put_parts.Tie as tie
 
 abbrev invariant-loop : tie.invariant-loop
 invariant-loop leads file places ends starts₀ lengths₀ i₀ starts lengths i =
-    (i ≤ fieldCount)
+    (i ≤ field_count)
     × (length starts ≡ length starts₀)
     × (length lengths ≡ length lengths₀)
-    × (starts ≡ take i (startsOf file) ++ drop i starts₀)
-    × (lengths ≡ take i (lengthsOf file) ++ drop i lengths₀)
+    × (starts ≡ take i (starts_of file) ++ drop i starts₀)
+    × (lengths ≡ take i (lengths_of file) ++ drop i lengths₀)
 
 abbrev decreases-loop : tie.decreases-loop
-decreases-loop leads file places ends starts₀ lengths₀ i₀ starts lengths i = fieldCount - i
+decreases-loop leads file places ends starts₀ lengths₀ i₀ starts lengths i = field_count - i
 
 loop-holds : tie.Need-loop-init invariant-loop decreases-loop
 loop-holds c =
@@ -36,14 +36,14 @@ loop-again : tie.Need-loop-preserved invariant-loop decreases-loop
 loop-again c =
     let a = c.before.before.before.before.before.before.before.before.args in
     let l = c.before.before.before.before.loop in
-    let t : l.i < fieldCount = c.before.before.before.loop-test.true in
+    let t : l.i < field_count = c.before.before.before.loop-test.true in
     let n = c.before.before.before.before.before.before.before.before.requires.1 in
     let e = c.part_at.ensures in (
       omega arith,
       length-set l.starts l.i _ ∙ l.invariant.1,
       length-set l.lengths l.i _ ∙ l.invariant.2,
-      laid_next (startsOf a.file.now) a.starts.now l.starts l.i _ 0 (omega (arith, starts-count a.file.now)) (omega (arith, starts-count a.file.now, n.1.0)) (ap (λ (p : Part). p.at) e ∙ start-noted n.0 l.i t) l.invariant.3,
-      laid_next (lengthsOf a.file.now) a.lengths.now l.lengths l.i _ 0 (omega (arith, lengths-count a.file.now)) (omega (arith, lengths-count a.file.now, n.1.1)) (ap (λ (p : Part). p.count) e ∙ length-noted n.0 l.i t) l.invariant.4,
+      laid_next (starts_of a.file.now) a.starts.now l.starts l.i _ 0 (omega (arith, starts-count a.file.now)) (omega (arith, starts-count a.file.now, n.1.0)) (ap (λ (p : Part). p.at) e ∙ start-noted n.0 l.i t) l.invariant.3,
+      laid_next (lengths_of a.file.now) a.lengths.now l.lengths l.i _ 0 (omega (arith, lengths-count a.file.now)) (omega (arith, lengths-count a.file.now, n.1.1)) (ap (λ (p : Part). p.count) e ∙ length-noted n.0 l.i t) l.invariant.4,
     )
 
 returns : tie.Need-returns invariant-loop decreases-loop
@@ -51,8 +51,8 @@ returns c =
     let a = c.before.before.before.before.before.args in
     let l = c.before.loop in
     let t = c.loop-test.false in (
-      laid-all (startsOf a.file.now) a.starts.now l.starts l.i (omega (arith, starts-count a.file.now, l.invariant.0)) l.invariant.3,
-      laid-all (lengthsOf a.file.now) a.lengths.now l.lengths l.i (omega (arith, lengths-count a.file.now, l.invariant.0)) l.invariant.4,
+      laid-all (starts_of a.file.now) a.starts.now l.starts l.i (omega (arith, starts-count a.file.now, l.invariant.0)) l.invariant.3,
+      laid-all (lengths_of a.file.now) a.lengths.now l.lengths l.i (omega (arith, lengths-count a.file.now, l.invariant.0)) l.invariant.4,
     )
 
 pub put-parts-spec : {M : Type 1} → statement M

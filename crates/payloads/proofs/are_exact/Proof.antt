@@ -1,13 +1,13 @@
 -- The total tells of each result, so that those before the place are judged (`summed-next`), and at the end all are (`summed-end`).
 use Rattle.std.proofs.Common.{◌≡◌, ℕ, ◌+◌, ◌-◌, ◌≤◌, cond, List, length, ℤ, sym, ap, ◌∙◌, arith, to_z-of_z, w32, to_z, of_z, rules}
 use mathlib.Core.Option.{some}
-use Rattle.numbers.specs.BigEndian.{signedAt}
+use Rattle.numbers.specs.BigEndian.{signed_at}
 use Rattle.steps.specs.declared.Size.{Size}
 use Rattle.steps.specs.declared.Form.TheVariants.{Packed}
 use Rattle.steps.specs.Width.{width_of, upper, lower}
-use Rattle.steps.specs.Delta.{plusDelta}
-use Rattle.steps.specs.Packing.{isLimit}
-use Rattle.steps.specs.Payload.{readIn}
+use Rattle.steps.specs.Delta.{plus_delta}
+use Rattle.steps.specs.Packing.{is_limit}
+use Rattle.steps.specs.Payload.{read_in}
 use Rattle.steps.specs.Laws.Numbers.{size-pos}
 use Rattle.payloads.specs.Laws.Totals.{Summed, summed-start, summed-next, summed-end}
 use Rattle.payloads.proofs.are_exact.Statement.{statement}
@@ -15,7 +15,7 @@ use Rattle.payloads.proofs.are_exact.Tie as tie
 
 abbrev invariant-loop : tie.invariant-loop
 invariant-loop payload two delta size k i₀ total₀ exact₀ i total exact =
-    (i ≤ length payload) × ((l : List ℤ) (e : readIn (Packed size) payload ≡ some l) → (count : ℕ) × Summed size delta payload l e i count exact (to_z w32 total))
+    (i ≤ length payload) × ((l : List ℤ) (e : read_in (Packed size) payload ≡ some l) → (count : ℕ) × Summed size delta payload l e i count exact (to_z w32 total))
 
 abbrev decreases-loop : tie.decreases-loop
 decreases-loop payload two delta size k i₀ total₀ exact₀ i total exact = length payload - i
@@ -24,14 +24,14 @@ loop-holds : tie.Need-loop-init invariant-loop decreases-loop
 loop-holds c = let a = c.before.before.before.args in (omega arith, (λ l e. (0, summed-start c.before.packed-size.result a.delta a.payload.now l e)))
 
 -- the number that was read, and the total with it
-number : (c : tie.After-is-limit invariant-loop decreases-loop) → to_z w32 (of_z w32 c.before.before.number_at.result) ≡ signedAt (width_of c.before.before.before.before.before.before.packed-size.result) c.before.before.before.before.before.before.before.before.args.payload.now c.before.before.before.before.loop.i
+number : (c : tie.After-is-limit invariant-loop decreases-loop) → to_z w32 (of_z w32 c.before.before.number_at.result) ≡ signed_at (width_of c.before.before.before.before.before.before.packed-size.result) c.before.before.before.before.before.before.before.before.args.payload.now c.before.before.before.before.loop.i
 number c = to_z-of_z {w = w32} (record { sfits = c.before.before.number_at.type-inv }) ∙ c.before.before.number_at.ensures
 
-total : (c : tie.After-is-limit invariant-loop decreases-loop) → to_z w32 (of_z w32 c.before.add-delta.result) ≡ plusDelta (to_z w32 c.before.before.before.before.loop.total) (signedAt (width_of c.before.before.before.before.before.before.packed-size.result) c.before.before.before.before.before.before.before.before.args.payload.now c.before.before.before.before.loop.i)
-total c = to_z-of_z {w = w32} (record { sfits = c.before.add-delta.type-inv }) ∙ c.before.add-delta.ensures ∙ ap (plusDelta (to_z w32 c.before.before.before.before.loop.total)) (number c)
+total : (c : tie.After-is-limit invariant-loop decreases-loop) → to_z w32 (of_z w32 c.before.add-delta.result) ≡ plus_delta (to_z w32 c.before.before.before.before.loop.total) (signed_at (width_of c.before.before.before.before.before.before.packed-size.result) c.before.before.before.before.before.before.before.before.args.payload.now c.before.before.before.before.loop.i)
+total c = to_z-of_z {w = w32} (record { sfits = c.before.add-delta.type-inv }) ∙ c.before.add-delta.ensures ∙ ap (plus_delta (to_z w32 c.before.before.before.before.loop.total)) (number c)
 
-limit : (c : tie.After-is-limit invariant-loop decreases-loop) → isLimit (upper c.before.before.before.before.before.before.packed-size.result) (lower c.before.before.before.before.before.before.packed-size.result) (signedAt (width_of c.before.before.before.before.before.before.packed-size.result) c.before.before.before.before.before.before.before.before.args.payload.now c.before.before.before.before.loop.i) ≡ c.is-limit.result
-limit c = let z = c.before.before.before.before.before.before.packed-size.result in sym (c.is-limit.ensures ∙ ap (isLimit (upper z) (lower z)) (number c))
+limit : (c : tie.After-is-limit invariant-loop decreases-loop) → is_limit (upper c.before.before.before.before.before.before.packed-size.result) (lower c.before.before.before.before.before.before.packed-size.result) (signed_at (width_of c.before.before.before.before.before.before.packed-size.result) c.before.before.before.before.before.before.before.before.args.payload.now c.before.before.before.before.loop.i) ≡ c.is-limit.result
+limit c = let z = c.before.before.before.before.before.before.packed-size.result in sym (c.is-limit.ensures ∙ ap (is_limit (upper z) (lower z)) (number c))
 
 loop-less : tie.Need-loop-smaller invariant-loop decreases-loop
 loop-less c = let o = size-pos c.before.before.before.before.before.before.before.before.packed-size.result in omega (arith, c.before.before.before.before.before.before.before.bytes.ensures)
@@ -55,7 +55,7 @@ returns c l e =
     let z = c.before.before.before.packed-size.result in
     let k = c.before.before.bytes.ensures in
     let p = c.before.loop in
-    let f : readIn (Packed c.before.before.before.packed-size.result) a.payload.now ≡ some l = ap (λ (t : Size). readIn (Packed t) a.payload.now) c.before.before.before.packed-size.ensures ∙ e in
+    let f : read_in (Packed c.before.before.before.packed-size.result) a.payload.now ≡ some l = ap (λ (t : Size). read_in (Packed t) a.payload.now) c.before.before.before.packed-size.ensures ∙ e in
     let w = p.invariant.1 l f in
     (summed-end z a.delta a.payload.now l f p.i w.0 p.exact (to_z w32 p.total) w.1 (omega arith)).1
 

@@ -5,25 +5,25 @@ use borrow.Author.Tests.{not-false}
 use Rattle.steps.specs.declared.Size.{Size}
 use Rattle.steps.specs.declared.Form.TheVariants.{Packed}
 use Rattle.steps.specs.Width.{size_of}
-use Rattle.steps.specs.Payload.{readIn}
-use Rattle.payloads.specs.Items.{outcomeRefusal}
-use Rattle.payloads.specs.Scan.{scanOf}
-use Rattle.payloads.specs.Limits.{packedSize}
+use Rattle.steps.specs.Payload.{read_in}
+use Rattle.payloads.specs.Items.{outcome_refusal}
+use Rattle.payloads.specs.Scan.{scan_of}
+use Rattle.payloads.specs.Limits.{packed_size}
 use Rattle.payloads.specs.Laws.Limits.{count-within, limits-few, limits-unfinished, limits-other, limits-all}
 use Rattle.payloads.specs.Laws.Refusal.{outcome-scan}
 use Rattle.payloads.proofs.count_packed.Statement.{statement}
 use Rattle.payloads.proofs.count_packed.Tie as tie
 
 -- so many numbers are inside, and fewer bytes than one has are left
-inside : (c : tie.After-count-of) → (size_of (packedSize c.before.before.args.two) * c.count_of.result ≤ length c.before.before.args.payload.now) × (length c.before.before.args.payload.now - size_of (packedSize c.before.before.args.two) * c.count_of.result < size_of (packedSize c.before.before.args.two))
-inside c = let a = c.before.before.args in rw c.count_of.ensures (count-within (packedSize a.two) (length a.payload.now))
+inside : (c : tie.After-count-of) → (size_of (packed_size c.before.before.args.two) * c.count_of.result ≤ length c.before.before.args.payload.now) × (length c.before.before.args.payload.now - size_of (packed_size c.before.before.args.two) * c.count_of.result < size_of (packed_size c.before.before.args.two))
+inside c = let a = c.before.before.args in rw c.count_of.ensures (count-within (packed_size a.two) (length a.payload.now))
 
 returns : tie.Need-returns
 returns c =
     let a = c.before.before.before.before.before.before.before.before.args in
-    c.refusal-in.ensures ∙ ap outcomeRefusal c.before.scan-packed.ensures
-    ∙ ap (λ (z : Size). outcomeRefusal (scanOf (Packed z) false a.length (readIn (Packed z) a.payload.now))) c.before.before.packed-size.ensures
-    ∙ outcome-scan (Packed (packedSize a.two)) false a.length (readIn (Packed (packedSize a.two)) a.payload.now)
+    c.refusal-in.ensures ∙ ap outcome_refusal c.before.scan-packed.ensures
+    ∙ ap (λ (z : Size). outcome_refusal (scan_of (Packed z) false a.length (read_in (Packed z) a.payload.now))) c.before.before.packed-size.ensures
+    ∙ outcome-scan (Packed (packed_size a.two)) false a.length (read_in (Packed (packed_size a.two)) a.payload.now)
 
 returns-2 : tie.Need-returns-2
 returns-2 c =
@@ -33,7 +33,7 @@ returns-2 c =
     limits-unfinished a.two a.length a.payload.now k i.0 i.1 (c.before.before.before.sums-fit.ensures (not-false _ c.before.before.if1.false)) (sym c.before.ends-at-limit.ensures ∙ c.if2.true)
 
 sub-if3 : tie.Need-overflow-sub-if3
-sub-if3 c = let a = c.before.before.before.before.before.before.before.args in let e = c.before.before.before.before.count-limits.ensures in omega (arith, limits-few (packedSize a.two) a.payload.now 0 c.before.before.before.before.before.count_of.result)
+sub-if3 c = let a = c.before.before.before.before.before.before.before.args in let e = c.before.before.before.before.count-limits.ensures in omega (arith, limits-few (packed_size a.two) a.payload.now 0 c.before.before.before.before.before.count_of.result)
 
 returns-3 : tie.Need-returns-3
 returns-3 c =

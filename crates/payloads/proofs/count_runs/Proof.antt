@@ -1,12 +1,12 @@
 -- What is kept of the runs before the place (`kept_run`) says the refusal at the end (`kept-end`).
 use Rattle.std.proofs.Common.{◌≡◌, ◌-◌, ◌≤◌, Bool, true, false, cond, not, ◌&&◌, ◌||◌, eqb, length, refl, ap, ◌∙◌, arith, rules}
-use Rattle.refusal.specs.Table.{lengthDiffers}
+use Rattle.refusal.specs.Table.{length_differs}
 use Rattle.steps.specs.declared.Form.TheVariants.{Runs}
-use Rattle.steps.specs.Payload.{readIn}
+use Rattle.steps.specs.Payload.{read_in}
 use Rattle.payloads.specs.Exact.{exact}
 use Rattle.payloads.specs.declared.Item.TheVariants.{Run}
 use Rattle.payloads.specs.declared.Outcome.TheVariants.{Fine, Refused}
-use Rattle.payloads.specs.Items.{outcomeRefusal}
+use Rattle.payloads.specs.Items.{outcome_refusal}
 use Rattle.payloads.specs.Laws.Items.{Gives, item-read}
 use Rattle.payloads.specs.Laws.Scan.{Kept, kept-start, kept_run, kept-wrong, kept-end}
 use Rattle.payloads.specs.Laws.Refusal.{outcome-scan}
@@ -41,11 +41,11 @@ returns : tie.Need-returns invariant-loop decreases-loop
 returns c =
     let a = c.before.before.before.before.before.args in
     let p = c.before.before.before.loop in
-    ap outcomeRefusal (kept-wrong a.range false a.length a.payload.now p.at p.left p.over p.invariant.1 p.invariant.2 (item-read (Runs a.range) a.payload.now p.at c.before.before.run-item.ensures c.enum_told.given.1))
-    ∙ outcome-scan (Runs a.range) false a.length (readIn (Runs a.range) a.payload.now)
+    ap outcome_refusal (kept-wrong a.range false a.length a.payload.now p.at p.left p.over p.invariant.1 p.invariant.2 (item-read (Runs a.range) a.payload.now p.at c.before.before.run-item.ensures c.enum_told.given.1))
+    ∙ outcome-scan (Runs a.range) false a.length (read_in (Runs a.range) a.payload.now)
 
 -- whether the results are exact is not told
-same : (b ok : Bool) → outcomeRefusal (cond b (Refused lengthDiffers) (Fine false)) ≡ outcomeRefusal (cond b (Refused lengthDiffers) (Fine ok))
+same : (b ok : Bool) → outcome_refusal (cond b (Refused length_differs) (Fine false)) ≡ outcome_refusal (cond b (Refused length_differs) (Fine ok))
 same true ok = refl
 same false ok = refl
 
@@ -53,9 +53,9 @@ returns-2 : tie.Need-returns-2 invariant-loop decreases-loop
 returns-2 c =
     let a = c.before.before.before.before.before.before.before.args in
     let p = c.before.before.before.before.before.loop in
-    c.refusal-in.ensures ∙ ap outcomeRefusal c.before.judged.ensures ∙ same (p.over || not (eqb p.left 0)) p.invariant.1
-    ∙ ap outcomeRefusal (kept-end a.range false a.length a.payload.now p.at p.left p.over p.invariant.1 p.invariant.2 (item-read (Runs a.range) a.payload.now p.at c.before.before.before.before.run-item.ensures c.before.before.enum-told2.given.1))
-    ∙ outcome-scan (Runs a.range) false a.length (readIn (Runs a.range) a.payload.now)
+    c.refusal-in.ensures ∙ ap outcome_refusal c.before.judged.ensures ∙ same (p.over || not (eqb p.left 0)) p.invariant.1
+    ∙ ap outcome_refusal (kept-end a.range false a.length a.payload.now p.at p.left p.over p.invariant.1 p.invariant.2 (item-read (Runs a.range) a.payload.now p.at c.before.before.before.before.run-item.ensures c.before.before.enum-told2.given.1))
+    ∙ outcome-scan (Runs a.range) false a.length (read_in (Runs a.range) a.payload.now)
 
 pub count-runs-spec : {M : Type 1} → statement M
 count-runs-spec =

@@ -1,6 +1,6 @@
 -- Where each block has a number that is no limit, no row of limits is long (`broken-more`, `broken-rows`).
 use Rattle.std.proofs.Common.{◌≡◌, ℕ, ◌-◌, ◌≤◌, ap, ◌∙◌, arith}
-use Rattle.payloads.specs.Limits.{packedSize, limitsIn}
+use Rattle.payloads.specs.Limits.{packed_size, limits_in}
 use Rattle.payloads.specs.Laws.Limits.{block_within, Broken, broken-start, broken-more, broken-rows}
 use Rattle.payloads.proofs.has_row.Statement.{statement}
 use Rattle.payloads.proofs.has_row.Tie as tie
@@ -21,7 +21,7 @@ loop-again : tie.Need-loop-preserved invariant-loop decreases-loop
 loop-again c =
     let a = c.before.before.before.before.before.before.args in
     let p = c.before.before.before.before.loop in
-    let f = c.before.limits-in.ensures ∙ ap (λ (at : ℕ). limitsIn (packedSize a.two) a.payload.now at 256) c.before.before.place_of.ensures in
+    let f = c.before.limits-in.ensures ∙ ap (λ (at : ℕ). limits_in (packed_size a.two) a.payload.now at 256) c.before.before.place_of.ensures in
     (omega arith, broken-more a.two a.payload.now p.i p.invariant.1 (λ q. c.if1.false (f ∙ q)))
 
 returns-2 : tie.Need-returns-2 invariant-loop decreases-loop
@@ -35,8 +35,8 @@ has-row-spec =
     decreases-loop
     loop-holds
     (λ c. omega (arith, c.loop.invariant.0))
-    (λ c κs. let a = c.before.before.before in let p = c.before.loop in let h = block_within (packedSize a.args.two) p.i 256 a.args.count (omega (arith, p.invariant.0)) in let l = a.requires in omega arith)
-    (λ c κs. let a = c.before.before.before.before in let p = c.before.before.loop in let h = block_within (packedSize a.args.two) p.i 256 a.args.count (omega (arith, p.invariant.0)) in let l = a.requires in let e = c.place_of.ensures in (omega arith, omega arith))
+    (λ c κs. let a = c.before.before.before in let p = c.before.loop in let h = block_within (packed_size a.args.two) p.i 256 a.args.count (omega (arith, p.invariant.0)) in let l = a.requires in omega arith)
+    (λ c κs. let a = c.before.before.before.before in let p = c.before.before.loop in let h = block_within (packed_size a.args.two) p.i 256 a.args.count (omega (arith, p.invariant.0)) in let l = a.requires in let e = c.place_of.ensures in (omega arith, omega arith))
     returns
     (λ c. omega (arith, c.before.before.before.before.loop.invariant.0))
     (λ c. omega (arith, c.before.before.before.before.loop.invariant.0))

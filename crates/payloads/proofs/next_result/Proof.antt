@@ -1,6 +1,6 @@
 -- With delta the sum, else the value itself.
 use Rattle.std.proofs.Common.{Bool, sym, ap, ◌∙◌, ap₂, to_z-of_z, w32, rules}
-use Rattle.steps.specs.Delta.{plusDelta, advance}
+use Rattle.steps.specs.Delta.{plus_delta, advance}
 use Rattle.payloads.proofs.next_result.Statement.{statement}
 use Rattle.payloads.proofs.next_result.Tie as tie
 
@@ -8,7 +8,7 @@ returns : tie.Need-returns
 returns c =
     let a = c.before.before in
     to_z-of_z {w = w32} (record { sfits = c.add-delta.type-inv }) ∙ c.add-delta.ensures
-    ∙ ap₂ plusDelta (to_z-of_z {w = w32} a.ranges.sum) (to_z-of_z {w = w32} a.ranges.value)
+    ∙ ap₂ plus_delta (to_z-of_z {w = w32} a.ranges.sum) (to_z-of_z {w = w32} a.ranges.value)
     ∙ ap (λ (d : Bool). advance d a.args.sum a.args.value) (sym c.before.if1.true)
 
 returns-2 : tie.Need-returns-2

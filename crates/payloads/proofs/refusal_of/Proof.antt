@@ -2,8 +2,8 @@
 use Rattle.std.proofs.Common.{false, refl, ap, ◌∙◌, rules}
 use Rattle.steps.specs.declared.Size.TheVariants.{One, Two, Four}
 use Rattle.steps.specs.declared.Form.TheVariants.{Plain, Packed, Runs}
-use Rattle.steps.specs.Payload.{readIn}
-use Rattle.payloads.specs.Items.{outcomeRefusal}
+use Rattle.steps.specs.Payload.{read_in}
+use Rattle.payloads.specs.Items.{outcome_refusal}
 use Rattle.payloads.specs.Laws.Refusal.{outcome-scan, refusal-held, names-as}
 use Rattle.payloads.specs.Laws.Scan.{part-whole}
 use Rattle.payloads.proofs.refusal_of.Statement.{statement}
@@ -23,7 +23,7 @@ returns-3 : tie.Need-returns-3
 returns-3 c =
     let a = c.before.before.before.before.before.before.before.before.before.args in
     refusal-held (Packed Four) a.form a.size a.length a.payload.now c.refusal-in.result refl (c.before.before.before.before.before.before.form.given.1 ∙ ap Packed c.before.before.before.enum-told3.given.1)
-    (c.refusal-in.ensures ∙ ap outcomeRefusal (rw part-whole at c.before.scan-packed.ensures) ∙ outcome-scan (Packed Four) false a.length (readIn (Packed Four) a.payload.now))
+    (c.refusal-in.ensures ∙ ap outcome_refusal (rw part-whole at c.before.scan-packed.ensures) ∙ outcome-scan (Packed Four) false a.length (read_in (Packed Four) a.payload.now))
 
 returns-4 : tie.Need-returns-4
 returns-4 c =
@@ -34,7 +34,7 @@ returns-5 : tie.Need-returns-5
 returns-5 c =
     let a = c.before.before.before.before.before.before.args in
     let z = c.before.before.before.form3.given.0.0 in
-    refusal-held (Plain z) a.form a.size a.length a.payload.now c.refusal-in2.result refl c.before.before.before.form3.given.1 (c.refusal-in2.ensures ∙ ap outcomeRefusal c.before.scan-plain.ensures ∙ outcome-scan (Plain z) false a.length (readIn (Plain z) a.payload.now))
+    refusal-held (Plain z) a.form a.size a.length a.payload.now c.refusal-in2.result refl c.before.before.before.form3.given.1 (c.refusal-in2.ensures ∙ ap outcome_refusal c.before.scan-plain.ensures ∙ outcome-scan (Plain z) false a.length (read_in (Plain z) a.payload.now))
 
 returns-6 : tie.Need-returns-6
 returns-6 c = let a = c.before.before.before.before.before.args in names-as a.form a.size a.length a.payload.now c.names-refusal.result c.before.before.enum-told4.given.1 (rw part-whole at c.names-refusal.ensures)

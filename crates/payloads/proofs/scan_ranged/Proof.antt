@@ -2,15 +2,15 @@
 use Rattle.std.proofs.Common.{◌≡◌, ℕ, Bool, List, sym, ap, ◌∙◌, rules}
 use Rattle.steps.specs.declared.Range.{Range}
 use Rattle.steps.specs.declared.Form.TheVariants.{Runs}
-use Rattle.steps.specs.Payload.{readIn}
+use Rattle.steps.specs.Payload.{read_in}
 use Rattle.payloads.specs.declared.Outcome.{Outcome}
-use Rattle.payloads.specs.Scan.{scanOf}
+use Rattle.payloads.specs.Scan.{scan_of}
 use Rattle.payloads.proofs.scan_ranged.Statement.{statement}
 use Rattle.payloads.proofs.scan_ranged.Tie as tie
 
 -- what is said of the range that the arm names
-named : (delta : Bool) (length : ℕ) (s : List ℕ) {o : Outcome} {r t : Range} → o ≡ scanOf (Runs t) delta length (readIn (Runs t) s) → r ≡ t → o ≡ scanOf (Runs r) delta length (readIn (Runs r) s)
-named delta length s e q = e ∙ ap (λ (r : Range). scanOf (Runs r) delta length (readIn (Runs r) s)) (sym q)
+named : (delta : Bool) (length : ℕ) (s : List ℕ) {o : Outcome} {r t : Range} → o ≡ scan_of (Runs t) delta length (read_in (Runs t) s) → r ≡ t → o ≡ scan_of (Runs r) delta length (read_in (Runs r) s)
+named delta length s e q = e ∙ ap (λ (r : Range). scan_of (Runs r) delta length (read_in (Runs r) s)) (sym q)
 
 pub scan-ranged-spec : {M : Type 1} → statement M
 scan-ranged-spec =

@@ -4,7 +4,7 @@ use Rattle.std.proofs.Common.{sym, ap, ap₂, ◌∙◌, add-zero, mul-zero, div
 use Rattle.std.proofs.Math.Option.{Option, none, some}
 use Rattle.std.proofs.Math.Nat.{mul-mod_left}
 use Rattle.std.proofs.lemmas.Bool.{eqb-false}
-use Rattle.refusal.specs.Table.{numberNotAllowed, lengthDiffers}
+use Rattle.refusal.specs.Table.{number_not_allowed, length_differs}
 use Rattle.refusal.specs.First.{unless}
 use Rattle.numbers.specs.BigEndian.{Bytes}
 use Rattle.steps.specs.declared.Size.{Size}
@@ -12,88 +12,88 @@ use Rattle.steps.specs.declared.Size.TheVariants.{One}
 use Rattle.steps.specs.declared.Range.TheVariants.{Ascii}
 use Rattle.steps.specs.declared.Form.{Form}
 use Rattle.steps.specs.declared.Form.TheVariants.{Packed, Names}
-use Rattle.steps.specs.Numbers.{numbersIn}
-use Rattle.steps.specs.Delta.{sumsIf}
-use Rattle.steps.specs.Payload.{allIn, padded, allowed, only_if, readIn, heldIn}
+use Rattle.steps.specs.Numbers.{numbers_in}
+use Rattle.steps.specs.Delta.{sums_if}
+use Rattle.steps.specs.Payload.{all_in, padded, allowed, only_if, read_in, held_in}
 use Rattle.steps.specs.Laws.Names.{names-length, allowed-bytes}
-use Rattle.columns.specs.Table.{elements, isNames}
+use Rattle.columns.specs.Table.{elements, is_names}
 use Rattle.payloads.specs.declared.Outcome.TheVariants.{Fine, Refused}
-use Rattle.payloads.specs.Exact.{allExact}
-use Rattle.payloads.specs.Items.{outcomeRefusal}
+use Rattle.payloads.specs.Exact.{all_exact}
+use Rattle.payloads.specs.Items.{outcome_refusal}
 use Rattle.payloads.specs.Results.{ResultsJudged}
-use Rattle.payloads.specs.Scan.{judgesExact, scanOf, refusalOf}
+use Rattle.payloads.specs.Scan.{judges_exact, scan_of, refusal_of}
 use Rattle.payloads.specs.Laws.Scan.{held-read, elements-one}
 
 module _ (f : Form) (d : Bool) (n : ℕ) where
   -- what a scan says
-  pub outcome-scan : (o : Option (List ℤ)) → outcomeRefusal (scanOf f d n o) ≡ refusalOf n o
+  pub outcome-scan : (o : Option (List ℤ)) → outcome_refusal (scan_of f d n o) ≡ refusal_of n o
   outcome-scan none = refl
   outcome-scan (some l) = by (length l == n)
     where
-      by : (t : Bool) → outcomeRefusal (cond t (Fine (judgesExact f d && allExact (sumsIf d l))) (Refused lengthDiffers)) ≡ unless t lengthDiffers
+      by : (t : Bool) → outcome_refusal (cond t (Fine (judges_exact f d && all_exact (sums_if d l))) (Refused length_differs)) ≡ unless t length_differs
       by true = refl
       by false = refl
 
 -- what is read of the payload of a form other than names is what it holds
-pub refusal-held : (f g : Form) (m n : ℕ) (s : List ℕ) (r : ℕ) → isNames f ≡ false → g ≡ f → r ≡ refusalOf n (readIn f s)
-    → r ≡ refusalOf (elements g n m) (heldIn g m s)
+pub refusal-held : (f g : Form) (m n : ℕ) (s : List ℕ) (r : ℕ) → is_names f ≡ false → g ≡ f → r ≡ refusal_of n (read_in f s)
+    → r ≡ refusal_of (elements g n m) (held_in g m s)
 refusal-held f g m n s r h q e =
-    e ∙ ap (refusalOf n) (sym (held-read f m s h)) ∙ ap (λ (c : ℕ). refusalOf c (heldIn f m s)) (sym (elements-one f n m h))
-    ∙ ap (λ (x : Form). refusalOf (elements x n m) (heldIn x m s)) (sym q)
+    e ∙ ap (refusal_of n) (sym (held-read f m s h)) ∙ ap (λ (c : ℕ). refusal_of c (held_in f m s)) (sym (elements-one f n m h))
+    ∙ ap (λ (x : Form). refusal_of (elements x n m) (held_in x m s)) (sym q)
 
 -- a scan by its refusal
-pub refusal-scanned : (f : Form) (d : Bool) (n r : ℕ) (o : Option (List ℤ)) → r ≡ refusalOf n o → (r ≢ 0) → Refused r ≡ scanOf f d n o
+pub refusal-scanned : (f : Form) (d : Bool) (n r : ℕ) (o : Option (List ℤ)) → r ≡ refusal_of n o → (r ≢ 0) → Refused r ≡ scan_of f d n o
 refusal-scanned f d n r none e h = ap Refused e
 refusal-scanned f d n r (some l) e h = by (length l == n) e
   where
-    by : (t : Bool) → r ≡ unless t lengthDiffers → Refused r ≡ cond t (Fine (judgesExact f d && allExact (sumsIf d l))) (Refused lengthDiffers)
+    by : (t : Bool) → r ≡ unless t length_differs → Refused r ≡ cond t (Fine (judges_exact f d && all_exact (sums_if d l))) (Refused length_differs)
     by true q = absurd (h q)
     by false q = ap Refused q
 
-pub names-scanned : (c m : ℕ) (s : List ℕ) (r : ℕ) → r ≡ refusalOf c (heldIn Names m s) → (r ≢ 0) → Refused r ≡ scanOf Names false c (heldIn Names m s)
-names-scanned c m s r e h = refusal-scanned Names false c r (heldIn Names m s) e h
+pub names-scanned : (c m : ℕ) (s : List ℕ) (r : ℕ) → r ≡ refusal_of c (held_in Names m s) → (r ≢ 0) → Refused r ≡ scan_of Names false c (held_in Names m s)
+names-scanned c m s r e h = refusal-scanned Names false c r (held_in Names m s) e h
 
 -- packed numbers that are not refused, by whether their results are exact
-pub packed-scanned : (z : Size) (d : Bool) (n : ℕ) (s : List ℕ) (ok : Bool) → 0 ≡ refusalOf n (readIn (Packed z) s) → ResultsJudged z d s ok → Fine ok ≡ scanOf (Packed z) d n (readIn (Packed z) s)
-packed-scanned z d n s ok e h = by (readIn (Packed z) s) e h
+pub packed-scanned : (z : Size) (d : Bool) (n : ℕ) (s : List ℕ) (ok : Bool) → 0 ≡ refusal_of n (read_in (Packed z) s) → ResultsJudged z d s ok → Fine ok ≡ scan_of (Packed z) d n (read_in (Packed z) s)
+packed-scanned z d n s ok e h = by (read_in (Packed z) s) e h
   where
-    tested : (l : List ℤ) (t : Bool) → 0 ≡ unless t lengthDiffers → ok ≡ allExact (sumsIf d l) → Fine ok ≡ cond t (Fine (allExact (sumsIf d l))) (Refused lengthDiffers)
+    tested : (l : List ℤ) (t : Bool) → 0 ≡ unless t length_differs → ok ≡ all_exact (sums_if d l) → Fine ok ≡ cond t (Fine (all_exact (sums_if d l))) (Refused length_differs)
     tested l true q g = ap Fine g
     tested l false q g = absurd (omega arith)
 
-    by : (o : Option (List ℤ)) → 0 ≡ refusalOf n o → ((l : List ℤ) → o ≡ some l → ok ≡ allExact (sumsIf d l)) → Fine ok ≡ scanOf (Packed z) d n o
+    by : (o : Option (List ℤ)) → 0 ≡ refusal_of n o → ((l : List ℤ) → o ≡ some l → ok ≡ all_exact (sums_if d l)) → Fine ok ≡ scan_of (Packed z) d n o
     by none q g = absurd (omega arith)
     by (some l) q g = tested l (length l == n) q (g l refl)
 
-pub names-fine : (c m : ℕ) (s : List ℕ) → 0 ≡ refusalOf c (heldIn Names m s) → Fine false ≡ scanOf Names false c (heldIn Names m s)
-names-fine c m s e = by (heldIn Names m s) e
+pub names-fine : (c m : ℕ) (s : List ℕ) → 0 ≡ refusal_of c (held_in Names m s) → Fine false ≡ scan_of Names false c (held_in Names m s)
+names-fine c m s e = by (held_in Names m s) e
   where
-    tested : (t : Bool) → 0 ≡ unless t lengthDiffers → Fine false ≡ cond t (Fine false) (Refused lengthDiffers)
+    tested : (t : Bool) → 0 ≡ unless t length_differs → Fine false ≡ cond t (Fine false) (Refused length_differs)
     tested true q = refl
     tested false q = absurd (omega arith)
 
-    by : (o : Option (List ℤ)) → 0 ≡ refusalOf c o → Fine false ≡ scanOf Names false c o
+    by : (o : Option (List ℤ)) → 0 ≡ refusal_of c o → Fine false ≡ scan_of Names false c o
     by none q = absurd (omega arith)
     by (some l) q = tested (length l == c) q
 
 -- Names, by their bytes
 
 -- the refusal by whether names are allowed, and whether they are as many as stated
-abbrev namesBy : Bool → Bool → ℕ
-namesBy t u = cond t (unless u lengthDiffers) numberNotAllowed
+abbrev names_by : Bool → Bool → ℕ
+names_by t u = cond t (unless u length_differs) number_not_allowed
 
-pub names-told : (n m : ℕ) (s : List ℕ) (t u : Bool) → Bytes s → t ≡ allowed Names m (map pos s) → u ≡ (length s == n * m) → namesBy t u ≡ refusalOf (elements Names n m) (heldIn Names m s)
-unfolding heldIn readIn
+pub names-told : (n m : ℕ) (s : List ℕ) (t u : Bool) → Bytes s → t ≡ allowed Names m (map pos s) → u ≡ (length s == n * m) → names_by t u ≡ refusal_of (elements Names n m) (held_in Names m s)
+unfolding held_in read_in
 names-told n m s t u b e f =
-    ap₂ namesBy (e ∙ sym (allowed-bytes m s b)) (f ∙ ap (λ (l : ℕ). nat_eq l (n * m)) (sym (names-length s))) ∙ by (allIn Ascii (numbersIn One s)) (padded Names m (numbersIn One s)) refl
+    ap₂ names_by (e ∙ sym (allowed-bytes m s b)) (f ∙ ap (λ (l : ℕ). nat_eq l (n * m)) (sym (names-length s))) ∙ by (all_in Ascii (numbers_in One s)) (padded Names m (numbers_in One s)) refl
   where
-    by : (v w : Bool) → padded Names m (numbersIn One s) ≡ w → namesBy (v && w) (length (numbersIn One s) == n * m) ≡ refusalOf (n * m) (only_if (padded Names m) (cond v (some (numbersIn One s)) none))
+    by : (v w : Bool) → padded Names m (numbers_in One s) ≡ w → names_by (v && w) (length (numbers_in One s) == n * m) ≡ refusal_of (n * m) (only_if (padded Names m) (cond v (some (numbers_in One s)) none))
     by true true q = rw q
     by true false q = rw q
     by false w q = refl
 
-pub names-as : (g : Form) (m n : ℕ) (s : List ℕ) (r : ℕ) → g ≡ Names → r ≡ refusalOf (elements Names n m) (heldIn Names m s) → r ≡ refusalOf (elements g n m) (heldIn g m s)
-names-as g m n s r q e = e ∙ ap (λ (x : Form). refusalOf (elements x n m) (heldIn x m s)) (sym q)
+pub names-as : (g : Form) (m n : ℕ) (s : List ℕ) (r : ℕ) → g ≡ Names → r ≡ refusal_of (elements Names n m) (held_in Names m s) → r ≡ refusal_of (elements g n m) (held_in g m s)
+names-as g m n s r q e = e ∙ ap (λ (x : Form). refusal_of (elements x n m) (held_in x m s)) (sym q)
 
 -- a length by its quotient and its remainder
 module _ (all n size : ℕ) where

@@ -7,12 +7,12 @@ use Rattle.std.proofs.Math.Option
 use Rattle.std.proofs.Math.Option.{none, some}
 use Rattle.std.proofs.lemmas.List.{length-replicate, replicate-append-replicate}
 use Rattle.std.specs.Int.{w32}
-use Rattle.numbers.specs.BigEndian.{signedAt}
-use Rattle.numbers.specs.Laws.BigEndian.{unsignedAt-drop}
+use Rattle.numbers.specs.BigEndian.{signed_at}
+use Rattle.numbers.specs.Laws.BigEndian.{unsigned_at-drop}
 use Rattle.steps.specs.declared.Range.{Range}
 use Rattle.steps.specs.declared.Form.{Form}
 use Rattle.steps.specs.declared.Form.TheVariants.{Runs}
-use Rattle.steps.specs.Payload.{in_range, readIn}
+use Rattle.steps.specs.Payload.{in_range, read_in}
 use Rattle.steps.specs.Laws.Delta.{results-plain}
 use Rattle.payloads.specs.Results.{paste, Filled, HasResults, Covered, Wrote}
 use Rattle.payloads.specs.Laws.Items.{count_bits, runs-count, runs-run, runs-wrong}
@@ -22,25 +22,25 @@ use Rattle.payloads.specs.Laws.Writing.{map-append, paste-length, paste-set, pas
 -- The next run
 
 -- a number in the part of a payload from a place on is the number of the payload itself
-pub part-number : (s : List ℕ) (at i : ℕ) → at + i + 4 ≤ length s → signedAt w32 (take (length s - at) (drop at s)) i ≡ signedAt w32 s (at + i)
-unfolding signedAt
+pub part-number : (s : List ℕ) (at i : ℕ) → at + i + 4 ≤ length s → signed_at w32 (take (length s - at) (drop at s)) i ≡ signed_at w32 s (at + i)
+unfolding signed_at
 part-number s at i h =
     let l = length-drop at s in
-    rw (take_all (length s - at) (drop at s) (omega arith)) (ap (to_z w32) (unsignedAt-drop 4 s at i h))
+    rw (take_all (length s - at) (drop at s) (omega arith)) (ap (to_z w32) (unsigned_at-drop 4 s at i h))
 
 -- where the payload has results, the value and the count at a place are a run
-pub run-here : (r : Range) (s : List ℕ) (at : ℕ) (t : List ℤ) → at + 8 ≤ length s → readIn (Runs r) (drop at s) ≡ some t
-    → (1 ≤ of_z w32 (signedAt w32 s (at + 4))) × (readIn (Runs r) (drop at s) ≡ Option.map (λ (l : List ℤ). replicate (of_z w32 (signedAt w32 s (at + 4))) (signedAt w32 s at) ++ l) (readIn (Runs r) (drop (at + 8) s)))
-run-here r s at t h e = counted (int_lt (signedAt w32 s (at + 4)) (pos 1)) refl (in_range r (signedAt w32 s at)) refl
+pub run-here : (r : Range) (s : List ℕ) (at : ℕ) (t : List ℤ) → at + 8 ≤ length s → read_in (Runs r) (drop at s) ≡ some t
+    → (1 ≤ of_z w32 (signed_at w32 s (at + 4))) × (read_in (Runs r) (drop at s) ≡ Option.map (λ (l : List ℤ). replicate (of_z w32 (signed_at w32 s (at + 4))) (signed_at w32 s at) ++ l) (read_in (Runs r) (drop (at + 8) s)))
+run-here r s at t h e = counted (int_lt (signed_at w32 s (at + 4)) (pos 1)) refl (in_range r (signed_at w32 s at)) refl
   where
-    never : {A : Type 0} → readIn (Runs r) (drop at s) ≡ none → A
+    never : {A : Type 0} → read_in (Runs r) (drop at s) ≡ none → A
     never q = let z : none ≡ some t = sym q ∙ e in let y : ◌≡◌ {A = ℕ} 0 1 = cc in absurd (omega arith)
 
-    counted : (b : Bool) → int_lt (signedAt w32 s (at + 4)) (pos 1) ≡ b → (c : Bool) → in_range r (signedAt w32 s at) ≡ c
-        → (1 ≤ of_z w32 (signedAt w32 s (at + 4))) × (readIn (Runs r) (drop at s) ≡ Option.map (λ (l : List ℤ). replicate (of_z w32 (signedAt w32 s (at + 4))) (signedAt w32 s at) ++ l) (readIn (Runs r) (drop (at + 8) s)))
+    counted : (b : Bool) → int_lt (signed_at w32 s (at + 4)) (pos 1) ≡ b → (c : Bool) → in_range r (signed_at w32 s at) ≡ c
+        → (1 ≤ of_z w32 (signed_at w32 s (at + 4))) × (read_in (Runs r) (drop at s) ≡ Option.map (λ (l : List ℤ). replicate (of_z w32 (signed_at w32 s (at + 4))) (signed_at w32 s at) ++ l) (read_in (Runs r) (drop (at + 8) s)))
     counted true x c y = never (runs-count r s at h x)
     counted false x false y = never (runs-wrong r s at h x y)
-    counted false x true y = let b = count_bits (signedAt w32 s (at + 4)) x in rw b.0 (b.1, runs-run r s at h x y)
+    counted false x true y = let b = count_bits (signed_at w32 s (at + 4)) x in rw b.0 (b.1, runs-run r s at h x y)
 
 -- Elements
 
@@ -113,21 +113,21 @@ module _ {B : Type 0} (g : ℤ → B) (f : Form) (s : List ℕ) (old : List B) (
   -- the values p are read and stand at the buffer's start; from n on nothing has changed
   abbrev pub Begun : ℕ → ℕ → List B → Type 0
   Begun at o new =
-      (p : List ℤ) × (readIn f s ≡ Option.map (λ (l : List ℤ). p ++ l) (readIn f (drop at s))) × (o ≡ length p) × (length new ≡ length old) × (take o new ≡ map g p) × (drop n new ≡ drop n old)
+      (p : List ℤ) × (read_in f s ≡ Option.map (λ (l : List ℤ). p ++ l) (read_in f (drop at s))) × (o ≡ length p) × (length new ≡ length old) × (take o new ≡ map g p) × (drop n new ≡ drop n old)
 
   pub begun-start : Begun 0 0 old
-  begun-start = ([], map-id (readIn f s), refl, refl, refl, refl)
+  begun-start = ([], map-id (read_in f s), refl, refl, refl, refl)
 
   module _ (at o : ℕ) (new : List B) (w : Begun at o new) where
     -- the rest of the values
-    pub begun-rest : (r : List ℤ) × (readIn f (drop at s) ≡ some r) × (w.0 ++ r ≡ held.0)
-    begun-rest = let r = rest_of w.0 held.0 (readIn f (drop at s)) (sym held.1 ∙ w.1) in (r.0, r.1, sym r.2)
+    pub begun-rest : (r : List ℤ) × (read_in f (drop at s) ≡ some r) × (w.0 ++ r ≡ held.0)
+    begun-rest = let r = rest_of w.0 held.0 (read_in f (drop at s)) (sym held.1 ∙ w.1) in (r.0, r.1, sym r.2)
 
-    module _ (v : ℤ) (k e : ℕ) (q : readIn f (drop at s) ≡ Option.map (λ (l : List ℤ). replicate k v ++ l) (readIn f (drop e s))) where
+    module _ (v : ℤ) (k e : ℕ) (q : read_in f (drop at s) ≡ Option.map (λ (l : List ℤ). replicate k v ++ l) (read_in f (drop e s))) where
       -- there is room for a run
       pub begun-room : o + k ≤ n
       begun-room =
-          let t = rest_of (replicate k v) begun-rest.0 (readIn f (drop e s)) (sym begun-rest.1 ∙ q) in
+          let t = rest_of (replicate k v) begun-rest.0 (read_in f (drop e s)) (sym begun-rest.1 ∙ q) in
           let a = ap length t.2 in
           let b = length-append (replicate k v) t.0 in
           let c = length-replicate k v in
@@ -140,7 +140,7 @@ module _ {B : Type 0} (g : ℤ → B) (f : Form) (s : List ℕ) (old : List B) (
       -- a run more
       pub begun-run : (new' : List B) → Covered (g v) new o k (n - o) new' → Begun e (o + k) new'
       begun-run new' c =
-          let a = w.1 ∙ ap (Option.map (λ (l : List ℤ). w.0 ++ l)) q ∙ map_both (λ (l : List ℤ). w.0 ++ l) (λ (l : List ℤ). replicate k v ++ l) (readIn f (drop e s)) in
+          let a = w.1 ∙ ap (Option.map (λ (l : List ℤ). w.0 ++ l)) q ∙ map_both (λ (l : List ℤ). w.0 ++ l) (λ (l : List ℤ). replicate k v ++ l) (read_in f (drop e s)) in
           let x = length-append w.0 (replicate k v) in
           let y = length-replicate k v in
           let j = w.2 in
@@ -158,7 +158,7 @@ module _ {B : Type 0} (g : ℤ → B) (f : Form) (s : List ℕ) (old : List B) (
           )
 
     -- where the reading ends all is written
-    pub begun-end : readIn f (drop at s) ≡ some [] → Wrote g f false s old new
+    pub begun-end : read_in f (drop at s) ≡ some [] → Wrote g f false s old new
     begun-end q l e =
         let a : some w.0 ≡ some l = sym (w.1 ∙ ap (Option.map (λ (l : List ℤ). w.0 ++ l)) q ∙ ap some (append-nil w.0)) ∙ e in
         let p : w.0 ≡ l = cc in

@@ -6,10 +6,10 @@ use Rattle.std.proofs.Math.Option
 use Rattle.std.proofs.Math.Option.{Option, none, some}
 use Rattle.std.proofs.lemmas.List.{length-map, length-replicate, set_at}
 use Rattle.steps.specs.declared.Form.{Form}
-use Rattle.steps.specs.Delta.{advance, resultsFrom, lastFrom}
-use Rattle.steps.specs.Payload.{readIn}
+use Rattle.steps.specs.Delta.{advance, results_from, last_from}
+use Rattle.steps.specs.Payload.{read_in}
 use Rattle.steps.specs.Laws.Delta.{length-results, results-append, last-append}
-use Rattle.payloads.specs.Exact.{allExact}
+use Rattle.payloads.specs.Exact.{all_exact}
 use Rattle.payloads.specs.Results.{paste, Filled, HasRoom, HasResults, Wrote, ResultsExact}
 use Rattle.payloads.specs.Laws.Exact.{exact-parts}
 use Rattle.payloads.specs.Laws.Scan.{map-id, map_both, rest_of}
@@ -85,34 +85,34 @@ module _ {B : Type 0} (l old : List B) where
 -- A run
 
 -- one value more at the end of a run
-run_more : (d : Bool) (a v : ℤ) (n : ℕ) → resultsFrom d a (replicate (suc n) v) ≡ resultsFrom d a (replicate n v) ++ (advance d (lastFrom d a (replicate n v)) v ∷ [])
-unfolding resultsFrom lastFrom
+run_more : (d : Bool) (a v : ℤ) (n : ℕ) → results_from d a (replicate (suc n) v) ≡ results_from d a (replicate n v) ++ (advance d (last_from d a (replicate n v)) v ∷ [])
+unfolding results_from last_from
 run_more d a v zero = refl
 run_more d a v (suc n) = ap (λ (l : List ℤ). advance d a v ∷ l) (run_more d (advance d a v) v n)
 
-last_more : (d : Bool) (a v : ℤ) (n : ℕ) → lastFrom d a (replicate (suc n) v) ≡ advance d (lastFrom d a (replicate n v)) v
-unfolding lastFrom
+last_more : (d : Bool) (a v : ℤ) (n : ℕ) → last_from d a (replicate (suc n) v) ≡ advance d (last_from d a (replicate n v)) v
+unfolding last_from
 last_more d a v zero = refl
 last_more d a v (suc n) = last_more d (advance d a v) v n
 
 module _ {B : Type 0} (g : ℤ → B) (d : Bool) (a v : ℤ) (old : List B) (from : ℕ) where
   pub filled-start : Filled g d a v old from 0 old a
-  unfolding resultsFrom lastFrom
+  unfolding results_from last_from
   filled-start = (sym (paste_none old from), refl)
 
-  filled-size : (n : ℕ) → length (map g (resultsFrom d a (replicate n v))) ≡ n
-  filled-size n = length-map (resultsFrom d a (replicate n v)) g ∙ length-results d a (replicate n v) ∙ length-replicate n v
+  filled-size : (n : ℕ) → length (map g (results_from d a (replicate n v))) ≡ n
+  filled-size n = length-map (results_from d a (replicate n v)) g ∙ length-results d a (replicate n v) ∙ length-replicate n v
 
   filled_more : (n : ℕ) (new : List B) (x y : ℤ) (e : B) → from + n < length old → Filled g d a v old from n new x → y ≡ advance d x v → Filled g d a v old from (suc n) (slice_set new (from + n) (g y)) y
   filled_more n new x y e h w q =
-      let r = resultsFrom d a (replicate n v) in
+      let r = results_from d a (replicate n v) in
       let s = filled-size n in
-      let z : y ≡ advance d (lastFrom d a (replicate n v)) v = q ∙ ap (λ (t : ℤ). advance d t v) w.1 in
-      let m : map g (resultsFrom d a (replicate (suc n) v)) ≡ map g (resultsFrom d a (replicate n v)) ++ (g y ∷ []) =
-      ap (map g) (run_more d a v n) ∙ map-append g (resultsFrom d a (replicate n v)) (advance d (lastFrom d a (replicate n v)) v ∷ []) ∙ ap (λ (t : ℤ). map g (resultsFrom d a (replicate n v)) ++ (g t ∷ [])) (sym z) in
-      let p : set new (from + n) (g y) ≡ set (paste old from (map g (resultsFrom d a (replicate n v)))) (from + length (map g (resultsFrom d a (replicate n v)))) (g y) =
+      let z : y ≡ advance d (last_from d a (replicate n v)) v = q ∙ ap (λ (t : ℤ). advance d t v) w.1 in
+      let m : map g (results_from d a (replicate (suc n) v)) ≡ map g (results_from d a (replicate n v)) ++ (g y ∷ []) =
+      ap (map g) (run_more d a v n) ∙ map-append g (results_from d a (replicate n v)) (advance d (last_from d a (replicate n v)) v ∷ []) ∙ ap (λ (t : ℤ). map g (results_from d a (replicate n v)) ++ (g t ∷ [])) (sym z) in
+      let p : set new (from + n) (g y) ≡ set (paste old from (map g (results_from d a (replicate n v)))) (from + length (map g (results_from d a (replicate n v)))) (g y) =
       ap₂ (λ (l : List B) (k : ℕ). set l (from + k) (g y)) w.0 (sym s) in
-      (p ∙ paste-set old from (map g (resultsFrom d a (replicate n v))) (g y) e (omega arith) ∙ ap (paste old from) (sym m), z ∙ sym (last_more d a v n))
+      (p ∙ paste-set old from (map g (results_from d a (replicate n v))) (g y) e (omega arith) ∙ ap (paste old from) (sym m), z ∙ sym (last_more d a v n))
 
   pub filled_next : (n : ℕ) (new : List B) (x y : ℤ) (b e : B) → from + n < length old → Filled g d a v old from n new x → y ≡ advance d x v → b ≡ g y → Filled g d a v old from (n + 1) (slice_set new (from + n) b) y
   filled_next n new x y b e h w q z = rw (add-one n, z) (filled_more n new x y e h w q)
@@ -120,31 +120,31 @@ module _ {B : Type 0} (g : ℤ → B) (d : Bool) (a v : ℤ) (old : List B) (fro
 -- Run after run
 
 -- the results of the next run, behind those of the values p, are exact where all are
-pub next-exact : (f : Form) (d : Bool) (s : List ℕ) (p : List ℤ) (x v : ℤ) (k : ℕ) (left left' : Option (List ℤ)) (l : List ℤ) → ResultsExact f d s → readIn f s ≡ some l
-    → readIn f s ≡ Option.map (λ (t : List ℤ). p ++ t) left → x ≡ lastFrom d (pos 0) p → left ≡ Option.map (λ (t : List ℤ). replicate k v ++ t) left'
-    → allExact (resultsFrom d x (replicate k v)) ≡ true
+pub next-exact : (f : Form) (d : Bool) (s : List ℕ) (p : List ℤ) (x v : ℤ) (k : ℕ) (left left' : Option (List ℤ)) (l : List ℤ) → ResultsExact f d s → read_in f s ≡ some l
+    → read_in f s ≡ Option.map (λ (t : List ℤ). p ++ t) left → x ≡ last_from d (pos 0) p → left ≡ Option.map (λ (t : List ℤ). replicate k v ++ t) left'
+    → all_exact (results_from d x (replicate k v)) ≡ true
 next-exact f d s p x v k left left' l h e a y q = by left' (a ∙ ap (Option.map (λ (t : List ℤ). p ++ t)) q)
   where
-    by : (o : Option (List ℤ)) → readIn f s ≡ Option.map (λ (t : List ℤ). p ++ t) (Option.map (λ (t : List ℤ). replicate k v ++ t) o) → allExact (resultsFrom d x (replicate k v)) ≡ true
+    by : (o : Option (List ℤ)) → read_in f s ≡ Option.map (λ (t : List ℤ). p ++ t) (Option.map (λ (t : List ℤ). replicate k v ++ t) o) → all_exact (results_from d x (replicate k v)) ≡ true
     by none z = let y : ◌≡◌ {A = ℕ} 0 1 = cc in absurd (omega arith)
     by (some t) z =
-        let u = (exact-parts (resultsFrom d (pos 0) p) (resultsFrom d (lastFrom d (pos 0) p) (replicate k v ++ t)) (rw results-append at (h (p ++ (replicate k v ++ t)) z))).1 in
-        rw y (exact-parts (resultsFrom d (lastFrom d (pos 0) p) (replicate k v)) (resultsFrom d (lastFrom d (lastFrom d (pos 0) p) (replicate k v)) t) (rw results-append at u)).0
+        let u = (exact-parts (results_from d (pos 0) p) (results_from d (last_from d (pos 0) p) (replicate k v ++ t)) (rw results-append at (h (p ++ (replicate k v ++ t)) z))).1 in
+        rw y (exact-parts (results_from d (last_from d (pos 0) p) (replicate k v)) (results_from d (last_from d (last_from d (pos 0) p) (replicate k v)) t) (rw results-append at u)).0
 
 module _ {B : Type 0} (g : ℤ → B) (f : Form) (d : Bool) (s : List ℕ) (old : List B) (room : HasRoom f s (length old)) where
   -- the values p are read before those that are left, and their results stand at the buffer's start
   abbrev pub WrittenTo : Option (List ℤ) → ℕ → List B → ℤ → Type 0
   WrittenTo left o new x =
-      (p : List ℤ) × (readIn f s ≡ Option.map (λ (l : List ℤ). p ++ l) left) × (o ≡ length p) × (x ≡ lastFrom d (pos 0) p)
-      × (new ≡ map g (resultsFrom d (pos 0) p) ++ drop (length p) old)
+      (p : List ℤ) × (read_in f s ≡ Option.map (λ (l : List ℤ). p ++ l) left) × (o ≡ length p) × (x ≡ last_from d (pos 0) p)
+      × (new ≡ map g (results_from d (pos 0) p) ++ drop (length p) old)
 
   -- those that are left stand from the place `at` on
   abbrev pub Written : ℕ → ℕ → List B → ℤ → Type 0
-  Written at o new x = WrittenTo (readIn f (drop at s)) o new x
+  Written at o new x = WrittenTo (read_in f (drop at s)) o new x
 
   pub written_start : Written 0 0 old (pos 0)
-  unfolding resultsFrom lastFrom
-  written_start = ([], map-id (readIn f s), refl, refl, refl)
+  unfolding results_from last_from
+  written_start = ([], map-id (read_in f s), refl, refl, refl)
 
   module _ (left : Option (List ℤ)) (o : ℕ) (new : List B) (x : ℤ) (w : WrittenTo left o new x) where
     -- the rest of the values
@@ -155,8 +155,8 @@ module _ {B : Type 0} (g : ℤ → B) (f : Form) (d : Bool) (s : List ℕ) (old 
     written-length =
         let a = length-append w.0 written-rest.0 in
         let b = ap length written-rest.2 in
-        let m = length-append (map g (resultsFrom d (pos 0) w.0)) (drop (length w.0) old) in
-        let c = length-map (resultsFrom d (pos 0) w.0) g in
+        let m = length-append (map g (results_from d (pos 0) w.0)) (drop (length w.0) old) in
+        let c = length-map (results_from d (pos 0) w.0) g in
         let e = length-results d (pos 0) w.0 in
         let k = length-drop (length w.0) old in
         let h = room.2 in
@@ -187,39 +187,39 @@ module _ {B : Type 0} (g : ℤ → B) (f : Form) (d : Bool) (s : List ℕ) (old 
           let c = length-replicate k v in
           let j = w.2 in
           let r = written-room in
-          let z = t.1 ∙ ap (λ (y : ℤ). lastFrom d y (replicate k v)) w.3 ∙ sym (last-append d (pos 0) w.0 (replicate k v)) in
+          let z = t.1 ∙ ap (λ (y : ℤ). last_from d y (replicate k v)) w.3 ∙ sym (last-append d (pos 0) w.0 (replicate k v)) in
           (w.0 ++ replicate k v, simp append_assoc a, omega arith, z, t.0 ∙ pasted)
         where
           P : List B
-          P = map g (resultsFrom d (pos 0) w.0)
+          P = map g (results_from d (pos 0) w.0)
 
           Q : List B
-          Q = map g (resultsFrom d x (replicate k v))
+          Q = map g (results_from d x (replicate k v))
 
           size : length P ≡ length w.0
-          size = length-map (resultsFrom d (pos 0) w.0) g ∙ length-results d (pos 0) w.0
+          size = length-map (results_from d (pos 0) w.0) g ∙ length-results d (pos 0) w.0
 
-          whole : P ++ Q ≡ map g (resultsFrom d (pos 0) (w.0 ++ replicate k v))
-          whole = ap (λ (y : ℤ). P ++ map g (resultsFrom d y (replicate k v))) w.3 ∙ sym (map-append g (resultsFrom d (pos 0) w.0) (resultsFrom d (lastFrom d (pos 0) w.0) (replicate k v))) ∙ ap (map g) (sym (results-append d (pos 0) w.0 (replicate k v)))
+          whole : P ++ Q ≡ map g (results_from d (pos 0) (w.0 ++ replicate k v))
+          whole = ap (λ (y : ℤ). P ++ map g (results_from d y (replicate k v))) w.3 ∙ sym (map-append g (results_from d (pos 0) w.0) (results_from d (last_from d (pos 0) w.0) (replicate k v))) ∙ ap (map g) (sym (results-append d (pos 0) w.0 (replicate k v)))
 
           all : length (P ++ Q) ≡ length (w.0 ++ replicate k v)
-          all = ap length whole ∙ length-map (resultsFrom d (pos 0) (w.0 ++ replicate k v)) g ∙ length-results d (pos 0) (w.0 ++ replicate k v)
+          all = ap length whole ∙ length-map (results_from d (pos 0) (w.0 ++ replicate k v)) g ∙ length-results d (pos 0) (w.0 ++ replicate k v)
 
           fits : length P + length Q ≤ length old
           fits =
-              let a = length-map (resultsFrom d x (replicate k v)) g ∙ length-results d x (replicate k v) ∙ length-replicate k v in
+              let a = length-map (results_from d x (replicate k v)) g ∙ length-results d x (replicate k v) ∙ length-replicate k v in
               let r = written-room in
               let n = written-length in
               let j = w.2 in
               omega (arith, size)
 
-          pasted : paste new o Q ≡ map g (resultsFrom d (pos 0) (w.0 ++ replicate k v)) ++ drop (length (w.0 ++ replicate k v)) old
+          pasted : paste new o Q ≡ map g (results_from d (pos 0) (w.0 ++ replicate k v)) ++ drop (length (w.0 ++ replicate k v)) old
           pasted =
               ap₂ (λ (l : List B) (i : ℕ). paste l i Q) (w.4 ∙ ap (λ (i : ℕ). P ++ drop i old) (sym size)) (w.2 ∙ sym size)
               ∙ paste-front old P Q fits ∙ ap₂ (λ (l : List B) (i : ℕ). l ++ drop i old) whole all
 
       -- the results of a run are exact where all are
-      pub written-exact : ResultsExact f d s → allExact (resultsFrom d x (replicate k v)) ≡ true
+      pub written-exact : ResultsExact f d s → all_exact (results_from d x (replicate k v)) ≡ true
       written-exact h = next-exact f d s w.0 x v k left left' room.0 h room.1 w.1 w.3 q
 
       -- one value more
@@ -248,7 +248,7 @@ module _ {B : Type 0} (g : ℤ → B) (f : Form) (d : Bool) (s : List ℕ) (old 
     written-end q l e =
         let a : some w.0 ≡ some l = sym (w.1 ∙ ap (Option.map (λ (l : List ℤ). w.0 ++ l)) q ∙ ap some (append-nil w.0)) ∙ e in
         let p : w.0 ≡ l = cc in
-        w.4 ∙ ap (λ (t : List ℤ). map g (resultsFrom d (pos 0) t) ++ drop (length t) old) p
+        w.4 ∙ ap (λ (t : List ℤ). map g (results_from d (pos 0) t) ++ drop (length t) old) p
 
     -- the reading does not end at a number that is not allowed
     pub written-wrong : {A : Type 0} → left ≡ none → A

@@ -5,13 +5,13 @@ use native.Mathlib.Omega.{arith}
 use lib.ListN.{length, get_or, drop}
 use borrow.Author.Rules.{rules}
 use borrow.Author.Tests.{not-true, not-false}
-use Rattle.receipt.specs.Steps.{digitsAt}
+use Rattle.receipt.specs.Steps.{digits_at}
 use Rattle.receipt.specs.Laws.Lines.{takes-least, takes-most, takes-to, digits-none, digits-feed, digits-other, digits-next}
 use Rattle.receipt.proofs.digits_at.Statement.{statement}
 use Rattle.receipt.proofs.digits_at.Tie as tie
 
 abbrev invariant-loop : tie.invariant-loop
-invariant-loop bytes at number said₀ i₀ said i = digitsAt (drop i bytes) said i ≡ digitsAt (drop at bytes) number at
+invariant-loop bytes at number said₀ i₀ said i = digits_at (drop i bytes) said i ≡ digits_at (drop at bytes) number at
 
 abbrev decreases-loop : tie.decreases-loop
 decreases-loop bytes at number said₀ i₀ said i = length bytes - i
@@ -57,7 +57,7 @@ loop-again c =
     let at = c.before.before.before.before.before.before.loop in
     let s = c.before.before.before.before.before.before.before.before.args.bytes.now in
     let takes = sym c.before.before.takes-digit.ensures ∙ not-false c.before.before.takes-digit.result c.before.if2.false in
-    ap (λ (d : ℕ). digitsAt (drop (at.i + 1) s) (at.said * 10 + d) (at.i + 1)) c.u8-to-u32.ensures.0
+    ap (λ (d : ℕ). digits_at (drop (at.i + 1) s) (at.said * 10 + d) (at.i + 1)) c.u8-to-u32.ensures.0
     ∙ digits-next s at.said at.i c.before.before.before.before.before.loop-test.true c.before.before.before.if1.false takes
     ∙ at.invariant
 

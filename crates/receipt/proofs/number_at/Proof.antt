@@ -4,7 +4,7 @@ use Prim.Native.Nat.{ℕ, ◌+◌}
 use lib.ListN.{get_or, drop}
 use borrow.Author.Rules.{rules}
 use borrow.Author.Tests.{not-true, not-false}
-use Rattle.receipt.specs.Steps.{digitsAt}
+use Rattle.receipt.specs.Steps.{digits_at}
 use Rattle.receipt.specs.Laws.Lines.{digit-least, number-none, number-other, number-begins}
 use Rattle.receipt.proofs.number_at.Statement.{statement}
 use Rattle.receipt.proofs.number_at.Tie as tie
@@ -26,7 +26,7 @@ returns-3 : tie.Need-returns-3
 returns-3 c =
     let a = c.before.before.before.before.before.before.before.args in
     c.digits-at.ensures
-    ∙ ap (λ (d : ℕ). digitsAt (drop (a.at + 1) a.bytes.now) d (a.at + 1)) c.before.u8-to-u32.ensures.0
+    ∙ ap (λ (d : ℕ). digits_at (drop (a.at + 1) a.bytes.now) d (a.at + 1)) c.before.u8-to-u32.ensures.0
     ∙ number-begins a.bytes.now 0 a.at c.before.before.before.before.before.if1.false (sym c.before.before.before.is_digit.ensures ∙ not-false c.before.before.before.is_digit.result c.before.before.if2.false)
 
 pub number-at-spec : {M : Type 1} → statement M

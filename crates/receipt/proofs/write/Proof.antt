@@ -11,7 +11,7 @@ use Rattle.numbers.specs.Laws.BigEndian.{bytes-of}
 use Rattle.text.specs.Laws.Put.{put-length}
 use Rattle.refusal.specs.declared.Answer.TheVariants.{Count}
 use Rattle.receipt.specs.Receipt.{numbered}
-use Rattle.receipt.specs.File.{receiptText}
+use Rattle.receipt.specs.File.{receipt_text}
 use Rattle.receipt.specs.Laws.File.{answered-29, leaves-29, answered-25, leaves-25, answered-written, page-text, buffer-left, call-says}
 use Rattle.receipt.proofs.write.Statement.{statement}
 use Rattle.receipt.proofs.write.Tie as tie
@@ -44,7 +44,7 @@ returns-3 c =
     let bytes = bytes-of a.file.now (λ i. omega (arith, c.before.before.before.before.before.before.before.before.before.before.before.before.before.shared-slice-known.given i)) in
     let h : numbered a.station a.job ≡ true = sym c.before.before.before.before.before.before.before.before.before.before.before.is-numbered.ensures ∙ not-false c.before.before.before.before.before.before.before.before.before.before.before.is-numbered.result c.before.before.before.before.before.before.before.before.before.before.if1.false in
     let page = page-text a.station a.job a.file.now c.before.before.before.before.before.before.before.receipt-of.ensures c.before.before.before.before.before.before.before.before.before.blank.ensures c.before.before.before.before.before.before.put-receipt.ensures in
-    let room : length (receiptText a.station a.job a.file.now) ≤ length a.buffer.now = subst (λ (k : ℕ). k ≤ length a.buffer.now) page.0 c.before.before.before.before.before.if2.false in
+    let room : length (receipt_text a.station a.job a.file.now) ≤ length a.buffer.now = subst (λ (k : ℕ). k ≤ length a.buffer.now) page.0 c.before.before.before.before.before.if2.false in
     call-says a.station a.job a.file.now a.buffer.now _ _ bytes (ap Count page.0 ∙ answered-written _ _ _ _ h room)
     (buffer-left a.station a.job a.file.now h room page.1 c.before.before.put.ensures)
 

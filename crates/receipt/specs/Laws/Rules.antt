@@ -6,15 +6,15 @@ use Prim.Native.String as Text
 use Rattle.refusal.specs.Table.{accepted}
 use Rattle.numbers.specs.Laws.Tests.{and_left, and_right}
 use Rattle.numbers.specs.Ranges.{within}
-use Rattle.counts.specs.Counts.{countLimit}
+use Rattle.counts.specs.Counts.{count_limit}
 use Rattle.text.specs.Decimal.{glyph, decimal}
 use Rattle.text.specs.Put.{Put}
 use Rattle.text.specs.Laws.Decimal.{decimal-one, decimal-more, decimal-few, decimal-some}
 use Rattle.text.specs.Laws.Put.{put-page}
 use Rattle.text.specs.Ascii.{ascii}
 use Rattle.receipt.specs.declared.Receipt.{Receipt}
-use Rattle.receipt.specs.Receipt.{stationLimit, jobLimit, verdictLimit, fieldsLeast, fieldsMost, receiptLimit, pageRoom, numbered, acceptedRight, refusedRight, line, namedLine, written, rulesKept}
-use Rattle.receipt.specs.Steps.{first_lines, countsLines, lastLines}
+use Rattle.receipt.specs.Receipt.{station_limit, job_limit, verdict_limit, fields_least, fields_most, receipt_limit, page_room, numbered, accepted_right, refused_right, line, named_line, written, rules_kept}
+use Rattle.receipt.specs.Steps.{first_lines, counts_lines, last_lines}
 
 -- below 1,000,000,000
 abbrev pub Small : ℕ → Type 0
@@ -68,20 +68,20 @@ few n limit l h = omega (arith, ltb-true limit 1000000000 l, leb-true n limit h)
 fixed : (n m : ℕ) → ltb m 1000000000 ≡ true → eqb n m ≡ true → Small n
 fixed n m l h = omega (arith, ltb-true m 1000000000 l, eqb-true n m h)
 
-accepted-small : (r : Receipt) → acceptedRight r ≡ true → RestSmall r
+accepted-small : (r : Receipt) → accepted_right r ≡ true → RestSmall r
 accepted-small r h =
     let p = apart _ _ _ _ _ _ _ h in
     record {
-      models = few r.models countLimit refl p.0;
-      chains = few r.chains countLimit refl p.1;
-      groups = few r.groups countLimit refl p.2;
-      atoms = few r.atoms countLimit refl p.3;
-      bonds = few r.bonds countLimit refl p.4;
-      fields = few r.fields fieldsMost refl (and_right (leb fieldsLeast r.fields) (leb r.fields fieldsMost) p.5);
+      models = few r.models count_limit refl p.0;
+      chains = few r.chains count_limit refl p.1;
+      groups = few r.groups count_limit refl p.2;
+      atoms = few r.atoms count_limit refl p.3;
+      bonds = few r.bonds count_limit refl p.4;
+      fields = few r.fields fields_most refl (and_right (leb fields_least r.fields) (leb r.fields fields_most) p.5);
       units = fixed r.units 1 refl p.6;
     }
 
-refused-small : (r : Receipt) → refusedRight r ≡ true → RestSmall r
+refused-small : (r : Receipt) → refused_right r ≡ true → RestSmall r
 refused-small r h =
     let p = apart _ _ _ _ _ _ _ h in
     record {
@@ -94,24 +94,24 @@ refused-small r h =
       units = fixed r.units 0 refl p.6;
     }
 
-rest-small : (r : Receipt) (t : Bool) → cond t (acceptedRight r) (refusedRight r) ≡ true → RestSmall r
+rest-small : (r : Receipt) (t : Bool) → cond t (accepted_right r) (refused_right r) ≡ true → RestSmall r
 rest-small r true h = accepted-small r h
 rest-small r false h = refused-small r h
 
 -- the numbers of a receipt that keeps the rules are small
-pub allowed-small : (r : Receipt) → rulesKept r ≡ true → AllSmall r
-unfolding rulesKept
+pub allowed-small : (r : Receipt) → rules_kept r ≡ true → AllSmall r
+unfolding rules_kept
 allowed-small r h =
-    let rest : Bool = cond (eqb r.verdict accepted) (acceptedRight r) (refusedRight r) in
-    let numbers = and_left (numbered r.station r.job) (leb r.verdict verdictLimit && rest) h in
-    let after = and_right (numbered r.station r.job) (leb r.verdict verdictLimit && rest) h in
-    let station = and_left (within 1 stationLimit r.station) (within 1 jobLimit r.job) numbers in
-    let job = and_right (within 1 stationLimit r.station) (within 1 jobLimit r.job) numbers in
-    let s = rest-small r (eqb r.verdict accepted) (and_right (leb r.verdict verdictLimit) rest after) in
+    let rest : Bool = cond (eqb r.verdict accepted) (accepted_right r) (refused_right r) in
+    let numbers = and_left (numbered r.station r.job) (leb r.verdict verdict_limit && rest) h in
+    let after = and_right (numbered r.station r.job) (leb r.verdict verdict_limit && rest) h in
+    let station = and_left (within 1 station_limit r.station) (within 1 job_limit r.job) numbers in
+    let job = and_right (within 1 station_limit r.station) (within 1 job_limit r.job) numbers in
+    let s = rest-small r (eqb r.verdict accepted) (and_right (leb r.verdict verdict_limit) rest after) in
     record {
-      station = few r.station stationLimit refl (and_right (leb 1 r.station) (leb r.station stationLimit) station);
-      job = few r.job jobLimit refl (and_right (leb 1 r.job) (leb r.job jobLimit) job);
-      verdict = few r.verdict verdictLimit refl (and_left (leb r.verdict verdictLimit) rest after);
+      station = few r.station station_limit refl (and_right (leb 1 r.station) (leb r.station station_limit) station);
+      job = few r.job job_limit refl (and_right (leb 1 r.job) (leb r.job job_limit) job);
+      verdict = few r.verdict verdict_limit refl (and_left (leb r.verdict verdict_limit) rest after);
       models = s.models;
       chains = s.chains;
       groups = s.groups;
@@ -122,19 +122,19 @@ allowed-small r h =
     }
 
 -- the ten lines in three parts
-pub written-parts : (r : Receipt) → first_lines r ++ countsLines r ++ lastLines r ≡ written r
+pub written-parts : (r : Receipt) → first_lines r ++ counts_lines r ++ last_lines r ≡ written r
 unfolding written
 written-parts r = simp append_assoc
 
 -- a line has its name, a sign, at most ten digits and a line feed
-line-most : (name : Text.String) (n : ℕ) → length (namedLine name n) ≤ length (ascii name) + 12
+line-most : (name : Text.String) (n : ℕ) → length (named_line name n) ≤ length (ascii name) + 12
 unfolding line
 line-most name n =
     let d : length (decimal n) ≤ 10 = decimal-few n in
     simp length-append (omega arith)
 
 -- ten lines have room on a page
-pub written-most : (r : Receipt) → length (written r) ≤ pageRoom
+pub written-most : (r : Receipt) → length (written r) ≤ page_room
 unfolding written
 written-most r =
     let a = line-most "station" r.station in
@@ -150,7 +150,7 @@ written-most r =
     simp length-append (omega arith)
 
 -- a page has room for them
-pub page-holds : (r : Receipt) {old new : List ℕ} {next : ℕ} → length old ≡ pageRoom → Put old 0 (written r) new next → (next ≡ length (written r)) × (take next new ≡ written r)
+pub page-holds : (r : Receipt) {old new : List ℕ} {next : ℕ} → length old ≡ page_room → Put old 0 (written r) new next → (next ≡ length (written r)) × (take next new ≡ written r)
 page-holds r {old} {new} {next} l p = let m = written-most r in put-page p (omega arith)
 
 -- How long a receipt is that keeps the rules
@@ -165,8 +165,8 @@ decimal-short (suc k) n h f = go (ltb n 10) refl (decimal-short k (n / 10) (let 
     go false e few = rw (decimal-more n (ltb-false n 10 e) (omega arith)) (omega (arith, length-append (decimal (n / 10)) (glyph (n % 10) ∷ [])))
 
 -- the digits of the verdict and of the seven numbers after it
-restDigits : Receipt → ℕ
-restDigits r =
+rest_digits : Receipt → ℕ
+rest_digits r =
     length (decimal r.verdict)
     + length (decimal r.models)
     + length (decimal r.chains)
@@ -190,22 +190,22 @@ fixed-digit n m l h =
     let b = ltb-true m 10 l in
     decimal-short 0 n (omega arith) (omega arith)
 
-rest-most : (r : Receipt) (t : Bool) → eqb r.verdict accepted ≡ t → leb r.verdict verdictLimit ≡ true → cond t (acceptedRight r) (refusedRight r) ≡ true → restDigits r ≤ 44
-unfolding restDigits
+rest-most : (r : Receipt) (t : Bool) → eqb r.verdict accepted ≡ t → leb r.verdict verdict_limit ≡ true → cond t (accepted_right r) (refused_right r) ≡ true → rest_digits r ≤ 44
+unfolding rest_digits
 rest-most r true e v h =
     let p = apart _ _ _ _ _ _ _ h in
     let a : length (decimal r.verdict) ≤ 1 = fixed-digit r.verdict 0 refl e in
-    let b : length (decimal r.models) ≤ 8 = few-digits 7 r.models countLimit refl refl p.0 in
-    let c : length (decimal r.chains) ≤ 8 = few-digits 7 r.chains countLimit refl refl p.1 in
-    let d : length (decimal r.groups) ≤ 8 = few-digits 7 r.groups countLimit refl refl p.2 in
-    let f : length (decimal r.atoms) ≤ 8 = few-digits 7 r.atoms countLimit refl refl p.3 in
-    let g : length (decimal r.bonds) ≤ 8 = few-digits 7 r.bonds countLimit refl refl p.4 in
-    let i : length (decimal r.fields) ≤ 2 = few-digits 1 r.fields fieldsMost refl refl (and_right (leb fieldsLeast r.fields) (leb r.fields fieldsMost) p.5) in
+    let b : length (decimal r.models) ≤ 8 = few-digits 7 r.models count_limit refl refl p.0 in
+    let c : length (decimal r.chains) ≤ 8 = few-digits 7 r.chains count_limit refl refl p.1 in
+    let d : length (decimal r.groups) ≤ 8 = few-digits 7 r.groups count_limit refl refl p.2 in
+    let f : length (decimal r.atoms) ≤ 8 = few-digits 7 r.atoms count_limit refl refl p.3 in
+    let g : length (decimal r.bonds) ≤ 8 = few-digits 7 r.bonds count_limit refl refl p.4 in
+    let i : length (decimal r.fields) ≤ 2 = few-digits 1 r.fields fields_most refl refl (and_right (leb fields_least r.fields) (leb r.fields fields_most) p.5) in
     let j : length (decimal r.units) ≤ 1 = fixed-digit r.units 1 refl p.6 in
     omega arith
 rest-most r false e v h =
     let p = apart _ _ _ _ _ _ _ h in
-    let a : length (decimal r.verdict) ≤ 2 = few-digits 1 r.verdict verdictLimit refl refl v in
+    let a : length (decimal r.verdict) ≤ 2 = few-digits 1 r.verdict verdict_limit refl refl v in
     let b : length (decimal r.models) ≤ 1 = fixed-digit r.models 0 refl p.0 in
     let c : length (decimal r.chains) ≤ 1 = fixed-digit r.chains 0 refl p.1 in
     let d : length (decimal r.groups) ≤ 1 = fixed-digit r.groups 0 refl p.2 in
@@ -215,12 +215,12 @@ rest-most r false e v h =
     let j : length (decimal r.units) ≤ 1 = fixed-digit r.units 0 refl p.6 in
     omega arith
 
-pub line-length : (name : Text.String) (n : ℕ) → length (namedLine name n) ≡ length (ascii name) + 2 + length (decimal n)
+pub line-length : (name : Text.String) (n : ℕ) → length (named_line name n) ≡ length (ascii name) + 2 + length (decimal n)
 unfolding line
 line-length name n = simp length-append (omega arith)
 
-written-length : (r : Receipt) → length (written r) ≡ 76 + length (decimal r.station) + length (decimal r.job) + restDigits r
-unfolding written restDigits
+written-length : (r : Receipt) → length (written r) ≡ 76 + length (decimal r.station) + length (decimal r.job) + rest_digits r
+unfolding written rest_digits
 written-length r =
     let a = line-length "station" r.station in
     let b = line-length "job" r.job in
@@ -236,7 +236,7 @@ written-length r =
 
 -- a receipt has a digit in each line
 pub written-least : (r : Receipt) → 86 ≤ length (written r)
-unfolding restDigits
+unfolding rest_digits
 written-least r =
     omega (
       arith,
@@ -253,15 +253,15 @@ written-least r =
       decimal-some r.units,
     )
 
-pub receipt-most : (r : Receipt) → rulesKept r ≡ true → length (written r) ≤ receiptLimit
-unfolding rulesKept
+pub receipt-most : (r : Receipt) → rules_kept r ≡ true → length (written r) ≤ receipt_limit
+unfolding rules_kept
 receipt-most r h =
-    let rest : Bool = cond (eqb r.verdict accepted) (acceptedRight r) (refusedRight r) in
-    let numbers = and_left (numbered r.station r.job) (leb r.verdict verdictLimit && rest) h in
-    let after = and_right (numbered r.station r.job) (leb r.verdict verdictLimit && rest) h in
-    let station = and_left (within 1 stationLimit r.station) (within 1 jobLimit r.job) numbers in
-    let job = and_right (within 1 stationLimit r.station) (within 1 jobLimit r.job) numbers in
-    let a : length (decimal r.station) ≤ 2 = few-digits 1 r.station stationLimit refl refl (and_right (leb 1 r.station) (leb r.station stationLimit) station) in
-    let b : length (decimal r.job) ≤ 6 = few-digits 5 r.job jobLimit refl refl (and_right (leb 1 r.job) (leb r.job jobLimit) job) in
-    let c = rest-most r (eqb r.verdict accepted) refl (and_left (leb r.verdict verdictLimit) rest after) (and_right (leb r.verdict verdictLimit) rest after) in
+    let rest : Bool = cond (eqb r.verdict accepted) (accepted_right r) (refused_right r) in
+    let numbers = and_left (numbered r.station r.job) (leb r.verdict verdict_limit && rest) h in
+    let after = and_right (numbered r.station r.job) (leb r.verdict verdict_limit && rest) h in
+    let station = and_left (within 1 station_limit r.station) (within 1 job_limit r.job) numbers in
+    let job = and_right (within 1 station_limit r.station) (within 1 job_limit r.job) numbers in
+    let a : length (decimal r.station) ≤ 2 = few-digits 1 r.station station_limit refl refl (and_right (leb 1 r.station) (leb r.station station_limit) station) in
+    let b : length (decimal r.job) ≤ 6 = few-digits 5 r.job job_limit refl refl (and_right (leb 1 r.job) (leb r.job job_limit) job) in
+    let c = rest-most r (eqb r.verdict accepted) refl (and_left (leb r.verdict verdict_limit) rest after) (and_right (leb r.verdict verdict_limit) rest after) in
     omega (arith, written-length r)

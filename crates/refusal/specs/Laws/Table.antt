@@ -4,56 +4,56 @@ use Rattle.std.specs.Prelude.{◌≡◌, refl, Bool, true, cond, ◌&&◌, List,
 use Rattle.std.proofs.Common.{sym, ap, ◌∙◌}
 use Rattle.refusal.specs.declared.Refusal.{Refusal}
 use Rattle.refusal.specs.declared.Refusal.TheVariants.{Accepted, FileOverLimit, CutShort, LeadByteUnknown, UnsignedTooLarge, StringNotUtf8, NestedTooDeep, TooManyEntries, KeyNotString, KeyRepeated, OuterNotMap, BytesAfter, FieldMissing, FieldType, ColumnShort, CodecUnknown, HeaderRange, PayloadSize, NumberNotAllowed, LengthDiffers, CountsDisagree, IndexOutside, ValueOutside, TooManyGroupTypes, VersionNot1, BufferTooSmall, NoSuchField, NotExact, NoSuchEntry, ReceiptMalformed, JobNotRising}
-use Rattle.refusal.specs.Table.{refusalNumber}
+use Rattle.refusal.specs.Table.{refusal_number}
 
 -- the meanings, in any order
 abbrev pub meanings : List Refusal
 meanings = Accepted ∷ FileOverLimit ∷ CutShort ∷ LeadByteUnknown ∷ UnsignedTooLarge ∷ StringNotUtf8 ∷ NestedTooDeep ∷ TooManyEntries ∷ KeyNotString ∷ KeyRepeated ∷ OuterNotMap ∷ BytesAfter ∷ FieldMissing ∷ FieldType ∷ ColumnShort ∷ CodecUnknown ∷ HeaderRange ∷ PayloadSize ∷ NumberNotAllowed ∷ LengthDiffers ∷ CountsDisagree ∷ IndexOutside ∷ ValueOutside ∷ TooManyGroupTypes ∷ VersionNot1 ∷ BufferTooSmall ∷ NoSuchField ∷ NotExact ∷ NoSuchEntry ∷ ReceiptMalformed ∷ JobNotRising ∷ []
 
 -- the first of some meanings that has a number; Accepted where none has
-abbrev pub firstWith : ℕ → List Refusal → Refusal
-firstWith n [] = Accepted
-firstWith n (r ∷ rs) = cond (eqb (refusalNumber r) n) r (firstWith n rs)
+abbrev pub first_with : ℕ → List Refusal → Refusal
+first_with n [] = Accepted
+first_with n (r ∷ rs) = cond (eqb (refusal_number r) n) r (first_with n rs)
 
 -- the meaning of a number
-abbrev pub refusalOf : ℕ → Refusal
-refusalOf n = firstWith n meanings
+abbrev pub refusal_of : ℕ → Refusal
+refusal_of n = first_with n meanings
 
-pub refusalOf-refusalNumber : (r : Refusal) → refusalOf (refusalNumber r) ≡ r
-refusalOf-refusalNumber Accepted = refl
-refusalOf-refusalNumber FileOverLimit = refl
-refusalOf-refusalNumber CutShort = refl
-refusalOf-refusalNumber LeadByteUnknown = refl
-refusalOf-refusalNumber UnsignedTooLarge = refl
-refusalOf-refusalNumber StringNotUtf8 = refl
-refusalOf-refusalNumber NestedTooDeep = refl
-refusalOf-refusalNumber TooManyEntries = refl
-refusalOf-refusalNumber KeyNotString = refl
-refusalOf-refusalNumber KeyRepeated = refl
-refusalOf-refusalNumber OuterNotMap = refl
-refusalOf-refusalNumber BytesAfter = refl
-refusalOf-refusalNumber FieldMissing = refl
-refusalOf-refusalNumber FieldType = refl
-refusalOf-refusalNumber ColumnShort = refl
-refusalOf-refusalNumber CodecUnknown = refl
-refusalOf-refusalNumber HeaderRange = refl
-refusalOf-refusalNumber PayloadSize = refl
-refusalOf-refusalNumber NumberNotAllowed = refl
-refusalOf-refusalNumber LengthDiffers = refl
-refusalOf-refusalNumber CountsDisagree = refl
-refusalOf-refusalNumber IndexOutside = refl
-refusalOf-refusalNumber ValueOutside = refl
-refusalOf-refusalNumber TooManyGroupTypes = refl
-refusalOf-refusalNumber VersionNot1 = refl
-refusalOf-refusalNumber BufferTooSmall = refl
-refusalOf-refusalNumber NoSuchField = refl
-refusalOf-refusalNumber NotExact = refl
-refusalOf-refusalNumber NoSuchEntry = refl
-refusalOf-refusalNumber ReceiptMalformed = refl
-refusalOf-refusalNumber JobNotRising = refl
+pub refusal_of-refusal_number : (r : Refusal) → refusal_of (refusal_number r) ≡ r
+refusal_of-refusal_number Accepted = refl
+refusal_of-refusal_number FileOverLimit = refl
+refusal_of-refusal_number CutShort = refl
+refusal_of-refusal_number LeadByteUnknown = refl
+refusal_of-refusal_number UnsignedTooLarge = refl
+refusal_of-refusal_number StringNotUtf8 = refl
+refusal_of-refusal_number NestedTooDeep = refl
+refusal_of-refusal_number TooManyEntries = refl
+refusal_of-refusal_number KeyNotString = refl
+refusal_of-refusal_number KeyRepeated = refl
+refusal_of-refusal_number OuterNotMap = refl
+refusal_of-refusal_number BytesAfter = refl
+refusal_of-refusal_number FieldMissing = refl
+refusal_of-refusal_number FieldType = refl
+refusal_of-refusal_number ColumnShort = refl
+refusal_of-refusal_number CodecUnknown = refl
+refusal_of-refusal_number HeaderRange = refl
+refusal_of-refusal_number PayloadSize = refl
+refusal_of-refusal_number NumberNotAllowed = refl
+refusal_of-refusal_number LengthDiffers = refl
+refusal_of-refusal_number CountsDisagree = refl
+refusal_of-refusal_number IndexOutside = refl
+refusal_of-refusal_number ValueOutside = refl
+refusal_of-refusal_number TooManyGroupTypes = refl
+refusal_of-refusal_number VersionNot1 = refl
+refusal_of-refusal_number BufferTooSmall = refl
+refusal_of-refusal_number NoSuchField = refl
+refusal_of-refusal_number NotExact = refl
+refusal_of-refusal_number NoSuchEntry = refl
+refusal_of-refusal_number ReceiptMalformed = refl
+refusal_of-refusal_number JobNotRising = refl
 
-pub refusalNumber-injective : (q r : Refusal) → refusalNumber q ≡ refusalNumber r → q ≡ r
-refusalNumber-injective q r e = sym (refusalOf-refusalNumber q) ∙ ap refusalOf e ∙ refusalOf-refusalNumber r
+pub refusal_number-injective : (q r : Refusal) → refusal_number q ≡ refusal_number r → q ≡ r
+refusal_number-injective q r e = sym (refusal_of-refusal_number q) ∙ ap refusal_of e ∙ refusal_of-refusal_number r
 
 -- the thirty meanings of paper 01 with their numbers, before any joined
 abbrev before : List (Refusal × ℕ)
@@ -93,7 +93,7 @@ before =
 -- whether each meaning still has the number beside it
 abbrev kept : List (Refusal × ℕ) → Bool
 kept [] = true
-kept (row ∷ rows) = eqb (refusalNumber row.0) row.1 && kept rows
+kept (row ∷ rows) = eqb (refusal_number row.0) row.1 && kept rows
 
 pub before-kept : kept before ≡ true
 before-kept = refl

@@ -5,7 +5,7 @@ use Rattle.text.specs.Laws.Put.{put_as}
 use Rattle.meanings.specs.Steps.{rows_of}
 use Rattle.meanings.specs.Laws.Steps.{table-words}
 use Rattle.sentences.specs.Shown.{replaced}
-use Rattle.sentences.specs.Sentences.{markText}
+use Rattle.sentences.specs.Sentences.{mark_text}
 use Rattle.sentences.specs.Steps.{forms}
 use Rattle.sentences.proofs.put_form.Statement.{statement}
 use Rattle.sentences.proofs.put_form.Tie as tie
@@ -14,7 +14,7 @@ returns : tie.Need-returns
 unfolding forms rows_of
 returns c =
     let a = c.before.before.before.before.before.before.before.before.before.args in
-    put_as c.before.before.put-replaced.ensures (ap (replaced (markText a.subject.now a.name.now a.refusal a.reason a.receipt)) (sym (c.before.before.before.before.words-in.ensures ∙ table-words forms a.row refl refl)))
+    put_as c.before.before.put-replaced.ensures (ap (replaced (mark_text a.subject.now a.name.now a.refusal a.reason a.receipt)) (sym (c.before.before.before.before.words-in.ensures ∙ table-words forms a.row refl refl)))
 
 pub put-form-spec : {M : Type 1} → statement M
 put-form-spec =

@@ -6,18 +6,18 @@ use lib.ListN.{length}
 use borrow.Author.Tests.{eq-eqb, ne_eqb}
 use borrow.Author.Rules.{rules}
 use Rattle.text.specs.Laws.Put.{put_as}
-use Rattle.meanings.specs.Meanings.{textIn}
+use Rattle.meanings.specs.Meanings.{text_in}
 use Rattle.meanings.specs.Steps.{rows_of}
 use Rattle.meanings.specs.Laws.Steps.{table-words}
-use Rattle.sentences.specs.Reasons.{reasons, errorText, reasonText}
+use Rattle.sentences.specs.Reasons.{reasons, error_text, reason_text}
 use Rattle.sentences.proofs.put_reason.Statement.{statement}
 use Rattle.sentences.proofs.put_reason.Tie as tie
 
-no_words : {words : List ℕ} (n : ℕ) → words ≡ textIn reasons n → length words ≡ 0 → reasonText n ≡ errorText n
-no_words n e z = rw (eq-eqb (length (textIn reasons n)) 0 (sym (ap length e) ∙ z))
+no_words : {words : List ℕ} (n : ℕ) → words ≡ text_in reasons n → length words ≡ 0 → reason_text n ≡ error_text n
+no_words n e z = rw (eq-eqb (length (text_in reasons n)) 0 (sym (ap length e) ∙ z))
 
-some_words : {words : List ℕ} (n : ℕ) → words ≡ textIn reasons n → (length words ≡ 0 → ⊥) → reasonText n ≡ words
-some_words n e z = rw (ne_eqb (length (textIn reasons n)) 0 (λ q. z (ap length e ∙ q))) (sym e)
+some_words : {words : List ℕ} (n : ℕ) → words ≡ text_in reasons n → (length words ≡ 0 → ⊥) → reason_text n ≡ words
+some_words n e z = rw (ne_eqb (length (text_in reasons n)) 0 (λ q. z (ap length e ∙ q))) (sym e)
 
 returns : tie.Need-returns
 unfolding reasons rows_of

@@ -8,7 +8,7 @@ use lib.Seq.{take-suc, take_all}
 use borrow.Author.Rules.{rules}
 use Rattle.text.specs.Put.{Put}
 use Rattle.text.specs.Laws.Put.{put-none, put-more, put_as, put-length}
-use Rattle.sentences.specs.Shown.{shownByte, shown}
+use Rattle.sentences.specs.Shown.{shown_byte, shown}
 use Rattle.sentences.specs.Laws.Shown.{replaced-last, replaced-none}
 use Rattle.sentences.proofs.put_shown.Statement.{statement}
 use Rattle.sentences.proofs.put_shown.Tie as tie
@@ -20,14 +20,14 @@ abbrev decreases-loop : tie.decreases-loop
 decreases-loop buffer₀ at word next₀ i₀ buffer next i = length word - i
 
 loop-holds : tie.Need-loop-init invariant-loop decreases-loop
-loop-holds c = (omega arith, put_as (put-none _ _) (replaced-none shownByte))
+loop-holds c = (omega arith, put_as (put-none _ _) (replaced-none shown_byte))
 
 loop-again : tie.Need-loop-preserved invariant-loop decreases-loop
 loop-again c =
     let word = c.before.before.before.before.before.before.before.before.before.args.word.now in
     let p = c.before.before.before.before.before.before.loop in
     let h : p.i < length word = omega arith in
-    (omega arith, put_as (put-more p.invariant.1 c.before.before.put-shown-byte.ensures) (rw (add-one p.i, take-suc word p.i 0) (replaced-last shownByte (take p.i word) (get_or word p.i 0))))
+    (omega arith, put_as (put-more p.invariant.1 c.before.before.put-shown-byte.ensures) (rw (add-one p.i, take-suc word p.i 0) (replaced-last shown_byte (take p.i word) (get_or word p.i 0))))
 
 same_length : tie.Need-same-length invariant-loop decreases-loop
 same_length c = put-length c.before.loop.invariant.1

@@ -3,7 +3,7 @@
 use Rattle.std.specs.Prelude.{◌≡◌, refl, Bool, true, false, cond, List, [], ◌∷◌, ◌++◌, ℕ, ◌+◌, ◌/◌, ◌%◌, ◌<◌, ◌≤◌, ltb}
 use Rattle.std.proofs.Common.{append_assoc, append-nil, arith, le-ltb, ne_eqb}
 use Rattle.text.specs.Decimal.{glyph}
-use Rattle.sentences.specs.Shown.{replaced, printing, shownByte, shown}
+use Rattle.sentences.specs.Shown.{replaced, printing, shown_byte, shown}
 
 pub replaced-none : (f : ℕ → List ℕ) → replaced f [] ≡ []
 unfolding replaced
@@ -35,7 +35,7 @@ prints-glyph n = go (ltb (n % 16) 10)
     go true = prints-between (48 + n % 16) (omega arith) (omega arith)
     go false = prints-between (87 + n % 16) (omega arith) (omega arith)
 
-prints-byte : (b : ℕ) → Prints (shownByte b)
+prints-byte : (b : ℕ) → Prints (shown_byte b)
 prints-byte b = go (printing b) refl
   where
     go : (t : Bool) → printing b ≡ t → Prints (cond t (b ∷ []) (92 ∷ 120 ∷ glyph (b / 16) ∷ glyph (b % 16) ∷ []))

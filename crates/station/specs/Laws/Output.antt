@@ -2,7 +2,7 @@
 use Rattle.std.specs.Prelude.{◌≡◌, List, ℕ, ◌+◌, ◌-◌, ◌*◌, ◌<◌, ◌≤◌, length, take, drop}
 use Rattle.std.proofs.Common.{sym, arith, length-drop, length-take-le}
 use Rattle.lines.specs.declared.Gathered.{Gathered}
-use Rattle.lines.specs.Lines.{Lines, namesIn}
+use Rattle.lines.specs.Lines.{Lines, names_in}
 use Rattle.lines.specs.Laws.Lines.{lines-most, lines-some, names-most}
 
 -- what is left of a list from a place on
@@ -27,6 +27,6 @@ module _ {A : Type 0} {text : A → List ℕ} {room : ℕ} (xs : List A) (from :
       omega arith
 
 -- names of a size that are lines stay inside what is there
-module _ {text : List ℕ → List ℕ} {room : ℕ} (size : ℕ) (s : List ℕ) (from : ℕ) {old new : List ℕ} {r : Gathered} (h : Lines text room (namesIn size (rest s from)) old new r) where
+module _ {text : List ℕ → List ℕ} {room : ℕ} (size : ℕ) (s : List ℕ) (from : ℕ) {old new : List ℕ} {r : Gathered} (h : Lines text room (names_in size (rest s from)) old new r) where
   pub step-inside : from ≤ length s → from + r.values * size ≤ length s
   step-inside k = let l = rest-length s from in let m = names-most size (rest s from) h in omega arith

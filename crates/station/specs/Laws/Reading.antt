@@ -4,11 +4,11 @@ use Rattle.std.proofs.Common.{sym, subst, arith, leb-true}
 use Rattle.columns.specs.Decode.{Decoding, refused, column}
 use Rattle.refusal.specs.declared.Answer.{Answer}
 use Rattle.refusal.specs.declared.Answer.TheVariants as answer
-use Rattle.columns.specs.Buffer.{decodedAnswer}
-use Rattle.decoding.specs.Calls.{fixedAnswer}
+use Rattle.columns.specs.Buffer.{decoded_answer}
+use Rattle.decoding.specs.Calls.{fixed_answer}
 use Rattle.decoding.specs.declared.Fixed.{Fixed}
 use Rattle.decoding.specs.declared.Fixed.TheVariants as fixed
-use Rattle.station.specs.Reading.{Within, Ended, contentsOf, AnswerWithin, FixedWithin, whole_of}
+use Rattle.station.specs.Reading.{Within, Ended, contents_of, AnswerWithin, FixedWithin, whole_of}
 use Rattle.station.specs.declared.files.Contents.{Contents}
 use Rattle.station.specs.declared.files.End.{End}
 
@@ -19,13 +19,13 @@ ended-more End.TooLong n m h w = tt
 ended-more (End.Failed reason) n m h w = tt
 
 -- the bytes of an input that ended within a buffer
-pub ended-within : (x : End) (r : Contents) (n : ℕ) → r ≡ contentsOf x → Ended x n → Within r n
+pub ended-within : (x : End) (r : Contents) (n : ℕ) → r ≡ contents_of x → Ended x n → Within r n
 ended-within (End.After k) r n e w = subst (λ (x : Contents). Within x n) (sym e) w
 ended-within End.TooLong r n e w = subst (λ (x : Contents). Within x n) (sym e) tt
 ended-within (End.Failed reason) r n e w = subst (λ (x : Contents). Within x n) (sym e) tt
 
 -- a decoder's answer
-pub answer-within : (d : Decoding) (r : Answer) (room n : ℕ) → r ≡ decodedAnswer d room → n ≡ room → AnswerWithin r n
+pub answer-within : (d : Decoding) (r : Answer) (room n : ℕ) → r ≡ decoded_answer d room → n ≡ room → AnswerWithin r n
 answer-within (refused k) r room n e q = subst (λ (x : Answer). AnswerWithin x n) (sym e) tt
 answer-within (column k m l) r room n e q = go (leb (length l) room) refl
   where
@@ -33,7 +33,7 @@ answer-within (column k m l) r room n e q = go (leb (length l) room) refl
     go true f = subst (λ (x : Answer). AnswerWithin x n) (sym (rw f at e)) (omega (arith, leb-true (length l) room f))
     go false f = subst (λ (x : Answer). AnswerWithin x n) (sym (rw f at e)) tt
 
-pub fixed-within : (d : Decoding) (r : Fixed) (room n : ℕ) → r ≡ fixedAnswer d room → n ≡ room → FixedWithin r n
+pub fixed-within : (d : Decoding) (r : Fixed) (room n : ℕ) → r ≡ fixed_answer d room → n ≡ room → FixedWithin r n
 fixed-within (refused k) r room n e q = subst (λ (x : Fixed). FixedWithin x n) (sym e) tt
 fixed-within (column k m l) r room n e q = go (leb (length l) room) refl
   where
@@ -46,5 +46,5 @@ whole-within (answer.Count k) r n e h = subst (λ (x : Fixed). FixedWithin x n) 
 whole-within (answer.Refused k) r n e h = subst (λ (x : Fixed). FixedWithin x n) (sym e) tt
 
 -- the count of an answer
-pub count-within : (d : Decoding) (r : Answer) (room n k : ℕ) → r ≡ decodedAnswer d room → n ≡ room → r ≡ answer.Count k → k ≤ n
+pub count-within : (d : Decoding) (r : Answer) (room n k : ℕ) → r ≡ decoded_answer d room → n ≡ room → r ≡ answer.Count k → k ≤ n
 count-within d r room n k e q c = subst (λ (x : Answer). AnswerWithin x n) c (answer-within d r room n e q)

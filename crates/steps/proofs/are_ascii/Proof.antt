@@ -1,13 +1,13 @@
 -- The loop's invariant: the highest byte so far and what is left of both halves decide.
 use Rattle.std.proofs.Common.{◌≡◌, ℕ, ◌+◌, ◌-◌, ◌/◌, ◌≤◌, Bool, ◌&&◌, leb, map, length, get_or, pos, sym, ap, ◌∙◌, arith, rules}
 use Rattle.steps.specs.declared.Range.TheVariants.{Ascii}
-use Rattle.steps.specs.Payload.{allIn}
+use Rattle.steps.specs.Payload.{all_in}
 use Rattle.steps.specs.Laws.Allowed.{left, left-start, left-next, left-none, left_one}
 use Rattle.steps.proofs.are_ascii.Statement.{statement}
 use Rattle.steps.proofs.are_ascii.Tie as tie
 
 abbrev invariant-loop : tie.invariant-loop
-invariant-loop bytes half highest₀ i₀ highest i = (i ≤ half) × (leb highest 127 && left bytes half i ≡ allIn Ascii (map pos bytes))
+invariant-loop bytes half highest₀ i₀ highest i = (i ≤ half) × (leb highest 127 && left bytes half i ≡ all_in Ascii (map pos bytes))
 
 abbrev decreases-loop : tie.decreases-loop
 decreases-loop bytes half highest₀ i₀ highest i = half - i

@@ -2,7 +2,7 @@
 use Rattle.std.proofs.Common.{◌≡◌, ℕ, Bool, true, ◌&&◌, map, pos, sym, refl, ap, ◌∙◌, arith, rules}
 use borrow.Author.Tests.{not-true, not-false}
 use Rattle.steps.specs.declared.Range.TheVariants.{Ascii}
-use Rattle.steps.specs.Payload.{allIn, paddedFrom}
+use Rattle.steps.specs.Payload.{all_in, padded_from}
 use Rattle.steps.specs.Laws.Padding.{allowed-padded, padded-one}
 use Rattle.steps.proofs.are_names.Statement.{statement}
 use Rattle.steps.proofs.are_names.Tie as tie
@@ -10,10 +10,10 @@ use Rattle.steps.proofs.are_names.Tie as tie
 returns : tie.Need-returns
 returns c =
     let a = c.before.before.before.args in
-    sym (ap (λ (t : Bool). t && paddedFrom a.size 0 (pos 0) (map pos a.names.now)) (sym c.before.are-ascii.ensures ∙ not-true _ c.if1.true))
+    sym (ap (λ (t : Bool). t && padded_from a.size 0 (pos 0) (map pos a.names.now)) (sym c.before.are-ascii.ensures ∙ not-true _ c.if1.true))
 
 -- past the first test the bytes are ASCII
-passed : (c : tie.Else1) → allIn Ascii (map pos c.before.before.before.args.names.now) ≡ true
+passed : (c : tie.Else1) → all_in Ascii (map pos c.before.before.before.args.names.now) ≡ true
 passed c = sym c.before.are-ascii.ensures ∙ not-false _ c.if1.false
 
 returns-2 : tie.Need-returns-2

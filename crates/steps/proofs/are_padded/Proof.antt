@@ -1,8 +1,8 @@
 -- The loop's invariant: the names that were tested and what is left decide.
 use Rattle.std.proofs.Common.{◌≡◌, ℕ, suc, ◌+◌, ◌-◌, ◌*◌, ◌/◌, ◌<◌, ◌≤◌, Bool, ◌&&◌, List, map, length, take, drop, pos, sym, refl, ap, ◌∙◌, ap₂, mul-le-mul_right, add-mul, one-mul, zero-mul, div-le_self, div-mul-le_self, arith, length-drop, take_all, rules}
 use native.Mathlib.Nat.{lt-div-mul-add}
-use Rattle.steps.specs.Payload.{paddedFrom}
-use Rattle.steps.specs.Steps.{oneName}
+use Rattle.steps.specs.Payload.{padded_from}
+use Rattle.steps.specs.Steps.{one_name}
 use Rattle.steps.specs.Laws.Allowed.{and-more}
 use Rattle.steps.specs.Laws.Padding.{whole-name, name-left}
 use Rattle.steps.proofs.are_padded.Statement.{statement}
@@ -10,7 +10,7 @@ use Rattle.steps.proofs.are_padded.Tie as tie
 
 abbrev invariant-loop : tie.invariant-loop
 invariant-loop names size n ok₀ i₀ ok i =
-    (i ≤ n) × (ok && paddedFrom size (i * size) (pos 0) (map pos (drop (i * size) names)) ≡ paddedFrom size 0 (pos 0) (map pos names))
+    (i ≤ n) × (ok && padded_from size (i * size) (pos 0) (map pos (drop (i * size) names)) ≡ padded_from size 0 (pos 0) (map pos names))
 
 abbrev decreases-loop : tie.decreases-loop
 decreases-loop names size n ok₀ i₀ ok i = n - i
@@ -25,7 +25,7 @@ inside i m l h =
 loop-holds : tie.Need-loop-init invariant-loop decreases-loop
 loop-holds c =
     let a = c.before.args in
-    (omega arith, ap (λ (n : ℕ). paddedFrom a.size n (pos 0) (map pos (drop n a.names.now))) (zero-mul a.size))
+    (omega arith, ap (λ (n : ℕ). padded_from a.size n (pos 0) (map pos (drop n a.names.now))) (zero-mul a.size))
 
 mul-is-name : tie.Need-overflow-mul-is-name invariant-loop decreases-loop
 mul-is-name c =
@@ -43,8 +43,8 @@ loop-again c =
     let p = c.before.before.loop in
     let s = a.names.now in
     let m = a.size in
-    let t = oneName (take m (drop (p.i * m) s)) in
-    let r = paddedFrom m ((p.i + 1) * m) (pos 0) (map pos (drop ((p.i + 1) * m) s)) in (
+    let t = one_name (take m (drop (p.i * m) s)) in
+    let r = padded_from m ((p.i + 1) * m) (pos 0) (map pos (drop ((p.i + 1) * m) s)) in (
       omega arith,
       ap (λ (b : Bool). (p.ok && b) && r) c.is_name.ensures ∙ and-more p.ok t r
           ∙ ap (λ (b : Bool). p.ok && b) (sym (whole-name m p.i s (inside p.i m (length s) c.before.loop-test.true))) ∙ p.invariant.1,
@@ -60,8 +60,8 @@ returns c =
     let e : p.i ≡ n = omega (arith, c.before.before.loop-test.false) in
     let r = drop (n * m) s in
     let l : length s ≤ n * m + m = omega (arith, lt-div-mul-add {a = length s} {b = m} b.requires.0) in
-    ap (λ (t : Bool). p.ok && t) (c.is-padded.ensures ∙ ap oneName (take_all (length s - n * m) r (omega (arith, length-drop (n * m) s))) ∙ sym (name-left m n s l))
-    ∙ ap (λ (i : ℕ). p.ok && paddedFrom m (i * m) (pos 0) (map pos (drop (i * m) s))) (sym e) ∙ p.invariant.1
+    ap (λ (t : Bool). p.ok && t) (c.is-padded.ensures ∙ ap one_name (take_all (length s - n * m) r (omega (arith, length-drop (n * m) s))) ∙ sym (name-left m n s l))
+    ∙ ap (λ (i : ℕ). p.ok && padded_from m (i * m) (pos 0) (map pos (drop (i * m) s))) (sym e) ∙ p.invariant.1
 
 -- the place after the whole names is inside
 at-inside : (c : tie.After-loop invariant-loop decreases-loop) → length c.before.before.before.args.names.now / c.before.before.before.args.size * c.before.before.before.args.size ≤ length c.before.before.before.args.names.now

@@ -1,6 +1,6 @@
 -- Each arm is the definition's clause.
 use Rattle.std.proofs.Common.{sym, ap, rules}
-use Rattle.steps.specs.Payload.{leastIn}
+use Rattle.steps.specs.Payload.{least_in}
 use Rattle.steps.proofs.least.Statement.{statement}
 use Rattle.steps.proofs.least.Tie as tie
 
@@ -12,7 +12,7 @@ least-spec =
     (λ c. search rules)
     (λ c. search rules)
     (λ c. search rules)
-    (λ c. ap leastIn (sym c.enum_told.given.1))
-    (λ c. ap leastIn (sym c.enum-told2.given.1))
-    (λ c. ap leastIn (sym c.enum-told3.given.1))
-    (λ c. ap leastIn (sym c.enum-told4.given.1)))
+    (λ c. ap least_in (sym c.enum_told.given.1))
+    (λ c. ap least_in (sym c.enum-told2.given.1))
+    (λ c. ap least_in (sym c.enum-told3.given.1))
+    (λ c. ap least_in (sym c.enum-told4.given.1)))

@@ -2,7 +2,7 @@
 use Rattle.std.proofs.Common.{◌≡◌, Bool, cond, ℤ, pos, negsuc, ◌+ℤ◌, sym, ap, ◌∙◌, subst, ap₂, arith, to_z-of_z, w32, w64, SFits, to_z, of_z, rules}
 use lib.Signed.{lt_z}
 use Rattle.steps.specs.Width.{upper, lower}
-use Rattle.steps.specs.Packing.{isLimit}
+use Rattle.steps.specs.Packing.{is_limit}
 use Rattle.steps.specs.declared.Turn.TheVariants.{More, Done}
 use Rattle.steps.specs.Steps.{turn_of}
 use Rattle.steps.specs.Laws.Packing.{mag-add, in-32, below-32, above-32, turn-outside, turn_inside}
@@ -52,7 +52,7 @@ turned c =
     let a = c.before.before.before.before.before in
     let t = a.args.sum +ℤ a.args.number in
     turn_inside a.args.size a.args.sum a.args.number (inside c).sfits
-    ∙ ap (λ (b : Bool). cond b (More t) (Done t)) (sym (c.is-limit.ensures ∙ ap (isLimit (upper a.args.size) (lower a.args.size)) (to_z-of_z {w = w32} a.ranges.number)))
+    ∙ ap (λ (b : Bool). cond b (More t) (Done t)) (sym (c.is-limit.ensures ∙ ap (is_limit (upper a.args.size) (lower a.args.size)) (to_z-of_z {w = w32} a.ranges.number)))
 
 cast : (c : tie.After-is-limit) → SFits w32 (to_z w64 (of_z w64 (to_z w64 (of_z w64 c.before.before.before.before.i32-to-i64.result) +ℤ to_z w64 (of_z w64 c.before.before.before.i32-to-i642.result))))
 cast c = subst (SFits w32) (sym (back c.before.before.before)) (inside c)

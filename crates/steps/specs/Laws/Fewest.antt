@@ -13,11 +13,11 @@ use Rattle.std.specs.Int.{w32}
 use Rattle.std.proofs.lemmas.Bool.{eqb-false}
 use Rattle.steps.specs.declared.Size.TheVariants.{Two}
 use Rattle.steps.specs.Fits.{Every, Between}
-use Rattle.steps.specs.RunLength.{expand, same, runsFrom, runsOf}
-use Rattle.steps.specs.Packing.{isLimit, unpackFrom, unpack, packOne, packAll, pack}
+use Rattle.steps.specs.RunLength.{expand, same, runs_from, runs_of}
+use Rattle.steps.specs.Packing.{is_limit, unpack_from, unpack, pack_one, pack_all, pack}
 use Rattle.steps.specs.WriterForm.{OwnSign}
 use Rattle.steps.specs.Laws.RunLength.{runs_grow, first_run}
-use Rattle.steps.specs.Laws.PackingBack.{upper-not-lower, own_any, turn-limit, turn_end, packAll-unpack}
+use Rattle.steps.specs.Laws.PackingBack.{upper-not-lower, own_any, turn-limit, turn_end, pack_all-unpack}
 
 -- the writer's numbers and others: the writer's are no more, and if they are as many, they are the same
 abbrev pub Fewest : List ℤ → List ℤ → Type 0
@@ -26,44 +26,44 @@ Fewest own other = (length own ≤ length other) × (length own ≡ length other
 -- Runs
 
 -- a run that is cut in two gives the same cells by twice as many numbers
-pub cut-run : (expand (pos 7 ∷ (pos 2 ∷ (pos 7 ∷ (pos 1 ∷ [])))) ≡ some (pos 7 ∷ (pos 7 ∷ (pos 7 ∷ [])))) × (runsOf (pos 7 ∷ (pos 7 ∷ (pos 7 ∷ []))) ≡ pos 7 ∷ (pos 3 ∷ []))
-unfolding expand runsOf runsFrom
+pub cut-run : (expand (pos 7 ∷ (pos 2 ∷ (pos 7 ∷ (pos 1 ∷ [])))) ≡ some (pos 7 ∷ (pos 7 ∷ (pos 7 ∷ [])))) × (runs_of (pos 7 ∷ (pos 7 ∷ (pos 7 ∷ []))) ≡ pos 7 ∷ (pos 3 ∷ []))
+unfolding expand runs_of runs_from
 cut-run = (refl, refl)
 
 -- how many runs there are depends on the first value, and not on its count
-runs-alike : (v w : ℤ) (n m : ℕ) (xs : List ℤ) → of_z w32 v ≡ of_z w32 w → length (runsFrom v n xs) ≡ length (runsFrom w m xs)
-unfolding runsFrom
+runs-alike : (v w : ℤ) (n m : ℕ) (xs : List ℤ) → of_z w32 v ≡ of_z w32 w → length (runs_from v n xs) ≡ length (runs_from w m xs)
+unfolding runs_from
 runs-alike v w n m [] e = refl
 runs-alike v w n m (x ∷ xs) e = rw e (by_value (same x w) (runs-alike v w (suc n) (suc m) xs e))
   where
-    by_value : (t : Bool) → length (runsFrom v (suc n) xs) ≡ length (runsFrom w (suc m) xs)
-        → length (cond t (runsFrom v (suc n) xs) (v ∷ (pos n ∷ runsFrom x 1 xs))) ≡ length (cond t (runsFrom w (suc m) xs) (w ∷ (pos m ∷ runsFrom x 1 xs)))
+    by_value : (t : Bool) → length (runs_from v (suc n) xs) ≡ length (runs_from w (suc m) xs)
+        → length (cond t (runs_from v (suc n) xs) (v ∷ (pos n ∷ runs_from x 1 xs))) ≡ length (cond t (runs_from w (suc m) xs) (w ∷ (pos m ∷ runs_from x 1 xs)))
     by_value true i = i
     by_value false i = refl
 
 -- a run in front of cells joins their first run, or is a pair of its own
-run-in-front : (v : ℤ) (n : ℕ) (t : List ℤ) → Fewest (runsFrom v n t) (v ∷ (pos n ∷ runsOf t))
-unfolding runsFrom runsOf
+run-in-front : (v : ℤ) (n : ℕ) (t : List ℤ) → Fewest (runs_from v n t) (v ∷ (pos n ∷ runs_of t))
+unfolding runs_from runs_of
 run-in-front v n [] = (omega arith, λ e. refl)
 run-in-front v n (x ∷ xs) = by_value (same x v) refl
   where
-    by_value : (t : Bool) → same x v ≡ t → Fewest (cond t (runsFrom v (suc n) xs) (v ∷ (pos n ∷ runsFrom x 1 xs))) (v ∷ (pos n ∷ runsFrom x 1 xs))
+    by_value : (t : Bool) → same x v ≡ t → Fewest (cond t (runs_from v (suc n) xs) (v ∷ (pos n ∷ runs_from x 1 xs))) (v ∷ (pos n ∷ runs_from x 1 xs))
     by_value true e =
         let a = runs-alike v x (suc n) 1 xs (sym (eqb-true (of_z w32 x) (of_z w32 v) e)) in
         (omega arith, λ h. absurd (omega arith))
     by_value false e = (omega arith, λ h. refl)
 
 -- of all runs that expand to the same cells the longest are the fewest
-pub runsOf-fewest : (ns l : List ℤ) → expand ns ≡ some l → Fewest (runsOf l) ns
-unfolding expand runsOf
-runsOf-fewest [] l e = let z : [] ≡ l = cc in rw (← z) (omega arith, λ h. refl)
-runsOf-fewest (v ∷ []) l e = let z : [] ≡ l = cc in rw (← z) (omega arith, λ h. absurd (omega arith))
-runsOf-fewest (v ∷ (n ∷ ns)) l e =
+pub runs_of-fewest : (ns l : List ℤ) → expand ns ≡ some l → Fewest (runs_of l) ns
+unfolding expand runs_of
+runs_of-fewest [] l e = let z : [] ≡ l = cc in rw (← z) (omega arith, λ h. refl)
+runs_of-fewest (v ∷ []) l e = let z : [] ≡ l = cc in rw (← z) (omega arith, λ h. absurd (omega arith))
+runs_of-fewest (v ∷ (n ∷ ns)) l e =
     let i = first_run v n ns l e in
-    let r = runsOf-fewest ns i.1 i.3 in
+    let r = runs_of-fewest ns i.1 i.3 in
     let f = run-in-front v (1 + i.0) i.1 in
     let c : 1 + i.0 ≡ suc i.0 = omega arith in
-    let o : runsOf l ≡ runsFrom v (1 + i.0) i.1 = ap runsOf i.4 ∙ runs_grow v 1 i.0 i.1 in
+    let o : runs_of l ≡ runs_from v (1 + i.0) i.1 = ap runs_of i.4 ∙ runs_grow v 1 i.0 i.1 in
     let same_count : v ∷ (pos (1 + i.0) ∷ ns) ≡ v ∷ (n ∷ ns) = ap (λ (c : ℤ). v ∷ (c ∷ ns)) (ap pos c ∙ sym i.2) in
     rw o (omega arith, λ h. f.1 (omega arith) ∙ ap (λ (t : List ℤ). v ∷ (pos (1 + i.0) ∷ t)) (r.1 (omega arith)) ∙ same_count)
 
@@ -93,7 +93,7 @@ less-add u v s t (negsuc a) (negsuc b) h k = omega arith
 
 -- a result in which both limits stand takes more numbers than the writer's
 pub both-limits : (unpack Two (pos 32767 ∷ (negsuc 32767 ∷ (pos 6 ∷ []))) ≡ some (pos 5 ∷ [])) × (pack Two (pos 5 ∷ []) ≡ pos 5 ∷ [])
-unfolding unpackFrom packAll packOne
+unfolding unpack_from pack_all pack_one
 both-limits = (refl, refl)
 
 -- the first number, if there is one, is on the side of the i upper and j lower limits before it
@@ -103,18 +103,18 @@ Heads i j (y ∷ ys) = (0 < i → pos 0 ≤ℤ y) × (0 < j → y ≤ℤ pos 0)
 
 module _ (p q : ℕ) (p-pos : 0 < p) (q-pos : 0 < q) where
   -- a value takes one number for each time that it reaches the limit of its sign, and the last one
-  length_above : (n : ℕ) → length (packOne p q (pos n)) ≡ suc (n / p)
-  unfolding packOne
+  length_above : (n : ℕ) → length (pack_one p q (pos n)) ≡ suc (n / p)
+  unfolding pack_one
   length_above n = simp (length-append, length-replicate) (omega arith)
 
-  length-below : (n : ℕ) → length (packOne p q (negsuc n)) ≡ suc (suc n / q)
-  unfolding packOne
+  length-below : (n : ℕ) → length (pack_one p q (negsuc n)) ≡ suc (suc n / q)
+  unfolding pack_one
   length-below n = simp (length-append, length-replicate) (omega arith)
 
   -- a result of i upper limits, j lower ones and a last number that is no limit, which is u less d: the writer's numbers for it are no more, and if
   -- they are as many, the result has limits of one sign only, and a last number of that sign
   one-fewest : (i j u d : ℕ) (v : ℤ) → u < p → d < q → Less (i * p + u) (j * q + d) v
-      → (length (packOne p q v) ≤ suc (i + j)) × (length (packOne p q v) ≡ suc (i + j) → (0 < i → 0 < j → ⊥) × (0 < i → d ≤ u) × (0 < j → u ≤ d))
+      → (length (pack_one p q v) ≤ suc (i + j)) × (length (pack_one p q v) ≡ suc (i + j) → (0 < i → 0 < j → ⊥) × (0 < i → d ≤ u) × (0 < j → u ≤ d))
   unfolding Less
   one-fewest i j u d (pos n) h k e =
       let a : n < suc i * p = omega arith in
@@ -141,14 +141,14 @@ module _ (p q : ℕ) (p-pos : 0 < p) (q-pos : 0 < q) where
 
   -- numbers after i upper and j lower limits: the writer's for their results are no more, and if they are as many, these keep the writer's form
   abbrev Few : ℕ → ℕ → List ℤ → List ℤ → Type 0
-  Few i j ns l = (length (packAll p q l) ≤ i + j + length ns) × (length (packAll p q l) ≡ i + j + length ns → (0 < i → 0 < j → ⊥) × Heads i j ns × OwnSign p q ns)
+  Few i j ns l = (length (pack_all p q l) ≤ i + j + length ns) × (length (pack_all p q l) ≡ i + j + length ns → (0 < i → 0 < j → ⊥) × Heads i j ns × OwnSign p q ns)
 
   abbrev AllFew : List ℤ → Type 0
   AllFew ns = (i j : ℕ) (sum : ℤ) → Less (i * p) (j * q) sum → (begun : Bool) → (begun ≡ false → 0 < i → 0 < j → ⊥) → (l : List ℤ)
-      → unpackFrom p q sum begun ns ≡ some l → Few i j ns l
+      → unpack_from p q sum begun ns ≡ some l → Few i j ns l
 
   -- a limit: one more on its side
-  limit-turn : (x : ℤ) (up down : ℕ) (ns : List ℤ) → isLimit p q x ≡ true → up + down ≡ 1 → Less (up * p) (down * q) x
+  limit-turn : (x : ℤ) (up down : ℕ) (ns : List ℤ) → is_limit p q x ≡ true → up + down ≡ 1 → Less (up * p) (down * q) x
       → ((i j : ℕ) → (0 < i + up → 0 < j + down → ⊥) → Heads (i + up) (j + down) ns → OwnSign p q ns → Heads i j (x ∷ ns) × OwnSign p q (x ∷ ns)) → AllFew ns → AllFew (x ∷ ns)
   limit-turn x up down ns c one e own ih i j sum s begun g l u =
       let a : i * p + up * p ≡ (i + up) * p = omega arith in
@@ -185,13 +185,13 @@ module _ (p q : ℕ) (p-pos : 0 < p) (q-pos : 0 < q) where
   origin = omega arith
 
   -- the end of a result
-  end-turn : (x : ℤ) (a d : ℕ) (ns : List ℤ) → isLimit p q x ≡ false → a < p → d < q → Less a d x → ((i j : ℕ) → (0 < i → d ≤ a) × (0 < j → a ≤ d) → Heads i j (x ∷ ns)) → AllFew ns → AllFew (x ∷ ns)
-  unfolding packAll Less
+  end-turn : (x : ℤ) (a d : ℕ) (ns : List ℤ) → is_limit p q x ≡ false → a < p → d < q → Less a d x → ((i j : ℕ) → (0 < i → d ≤ a) × (0 < j → a ≤ d) → Heads i j (x ∷ ns)) → AllFew ns → AllFew (x ∷ ns)
+  unfolding pack_all Less
   end-turn x a d ns c h k e w ih i j sum s begun g l u =
       let t = turn_end p q p-pos q-pos sum begun x ns l c u in
       let r = ih 0 0 (pos 0) origin false (λ e y z. omega arith) t.0 t.1 in
       let o = one-fewest i j a d (sum +ℤ x) h k (less-add (i * p) (j * q) a d sum x s e) in
-      let m : length (packAll p q l) ≡ length (packOne p q (sum +ℤ x)) + length (packAll p q t.0) = ap (λ (l : List ℤ). length (packAll p q l)) t.2 ∙ length-append (packOne p q (sum +ℤ x)) (packAll p q t.0) in
+      let m : length (pack_all p q l) ≡ length (pack_one p q (sum +ℤ x)) + length (pack_all p q t.0) = ap (λ (l : List ℤ). length (pack_all p q l)) t.2 ∙ length-append (pack_one p q (sum +ℤ x)) (pack_all p q t.0) in
       (omega (arith, r.0, o.0), λ z. all (o.1 (omega (arith, r.0, o.0))) (r.1 (omega (arith, r.0, o.0))).2)
     where
       all : (0 < i → 0 < j → ⊥) × (0 < i → d ≤ a) × (0 < j → a ≤ d) → OwnSign p q ns → (0 < i → 0 < j → ⊥) × Heads i j (x ∷ ns) × OwnSign p q (x ∷ ns)
@@ -219,7 +219,7 @@ module _ (p q : ℕ) (p-pos : 0 < p) (q-pos : 0 < q) where
 
   -- no number more: an unfinished result gives nothing
   no-turn : AllFew []
-  unfolding unpackFrom packAll Heads OwnSign
+  unfolding unpack_from pack_all Heads OwnSign
   no-turn i j sum s true g l u = let y : ◌≡◌ {A = ℕ} 0 1 = cc in absurd (omega arith)
   no-turn i j sum s false g l u = let z : [] ≡ l = cc in rw (← z) (omega arith, λ h. (g refl, tt, tt))
 
@@ -230,7 +230,7 @@ module _ (p q : ℕ) (p-pos : 0 < p) (q-pos : 0 < q) where
 
   -- of all numbers within the limits that unpack to the same results the writer's are the fewest; without `Between` that is not so: by the limits
   -- 127 and -128 the number 1000 would be its own result
-  pub packAll-fewest : (ns l : List ℤ) → Every (Between p q) ns → unpackFrom p q (pos 0) false ns ≡ some l → Fewest (packAll p q l) ns
-  packAll-fewest ns l f u =
+  pub pack_all-fewest : (ns l : List ℤ) → Every (Between p q) ns → unpack_from p q (pos 0) false ns ≡ some l → Fewest (pack_all p q l) ns
+  pack_all-fewest ns l f u =
       let few = turns ns f 0 0 (pos 0) origin false (λ e x y. omega arith) l u in
-      (omega (arith, few.0), λ e. packAll-unpack p q p-pos q-pos ns l f (few.1 (omega arith)).2 u)
+      (omega (arith, few.0), λ e. pack_all-unpack p q p-pos q-pos ns l f (few.1 (omega arith)).2 u)

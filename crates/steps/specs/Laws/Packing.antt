@@ -8,7 +8,7 @@ use Rattle.steps.specs.declared.Size.{Size}
 use Rattle.steps.specs.declared.Size.TheVariants.{One, Two, Four}
 use Rattle.steps.specs.declared.Turn.TheVariants.{More, Done, Wrong}
 use Rattle.steps.specs.Width.{upper, lower}
-use Rattle.steps.specs.Packing.{isLimit}
+use Rattle.steps.specs.Packing.{is_limit}
 use Rattle.steps.specs.Steps.{turn_of}
 
 -- Limits
@@ -19,7 +19,7 @@ limits Two = (omega arith, omega arith, omega arith, omega arith)
 limits Four = (omega arith, omega arith, omega arith, omega arith)
 
 module _ (p q : ℕ) (p-small : p < 2147483648) (q-pos : 0 < q) (q-small : q ≤ 2147483648) where
-  upper-bits : (x : ℤ) → FitsSigned w32 x → of_z w32 x ≡ p → isLimit p q x ≡ true
+  upper-bits : (x : ℤ) → FitsSigned w32 x → of_z w32 x ≡ p → is_limit p q x ≡ true
   upper-bits (pos n) f e = eq-eqb n p e
   upper-bits (negsuc n) f e = absurd (omega (arith, f.sfits))
 
@@ -27,15 +27,15 @@ module _ (p q : ℕ) (p-small : p < 2147483648) (q-pos : 0 < q) (q-small : q ≤
   lower-same n h true e = eq-eqb (4294967296 - suc n) (4294967296 - q) (omega (arith, eqb-true (suc n) q e))
   lower-same n h false e = ne_eqb (4294967296 - suc n) (4294967296 - q) (λ k. eqb-false (suc n) q e (omega arith))
 
-  lower-bits : (x : ℤ) → FitsSigned w32 x → (of_z w32 x ≢ p) → (of_z w32 x == 4294967296 - q) ≡ isLimit p q x
+  lower-bits : (x : ℤ) → FitsSigned w32 x → (of_z w32 x ≢ p) → (of_z w32 x == 4294967296 - q) ≡ is_limit p q x
   lower-bits (pos n) f ne = ne_eqb n (4294967296 - q) (λ k. omega (arith, f.sfits)) ∙ sym (ne_eqb n p ne)
   lower-bits (negsuc n) f ne = lower-same n f.sfits (suc n == q) refl
 
 -- the test of the upper limit, and of the lower one where that fails
-pub limit-above : (z : Size) (x : ℤ) → FitsSigned w32 x → of_z w32 x ≡ upper z → isLimit (upper z) (lower z) x ≡ true
+pub limit-above : (z : Size) (x : ℤ) → FitsSigned w32 x → of_z w32 x ≡ upper z → is_limit (upper z) (lower z) x ≡ true
 limit-above z x f e = let l = limits z in upper-bits (upper z) (lower z) l.1 l.2 l.3 x f e
 
-pub limit-below : (z : Size) (x : ℤ) → FitsSigned w32 x → (of_z w32 x ≢ upper z) → (of_z w32 x == 4294967296 - lower z) ≡ isLimit (upper z) (lower z) x
+pub limit-below : (z : Size) (x : ℤ) → FitsSigned w32 x → (of_z w32 x ≢ upper z) → (of_z w32 x == 4294967296 - lower z) ≡ is_limit (upper z) (lower z) x
 limit-below z x f e = let l = limits z in lower-bits (upper z) (lower z) l.1 l.2 l.3 x f e
 
 -- Sums held to 32 bits
@@ -69,6 +69,6 @@ module _ (z : Size) (sum x : ℤ) where
   unfolding turn_of
   turn-outside h = rw (le-ltb (mag (sum +ℤ x)) 2147483648 h)
 
-  pub turn_inside : mag (sum +ℤ x) < 2147483648 → turn_of z sum x ≡ cond (isLimit (upper z) (lower z) x) (More (sum +ℤ x)) (Done (sum +ℤ x))
+  pub turn_inside : mag (sum +ℤ x) < 2147483648 → turn_of z sum x ≡ cond (is_limit (upper z) (lower z) x) (More (sum +ℤ x)) (Done (sum +ℤ x))
   unfolding turn_of
   turn_inside h = rw (lt-ltb (mag (sum +ℤ x)) 2147483648 h)

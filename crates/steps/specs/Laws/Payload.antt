@@ -3,7 +3,7 @@ use Rattle.std.specs.Prelude.{◌≡◌, ℕ, true, false, ℤ, pos, negsuc, int
 use Rattle.std.proofs.Common.{arith, ltb-true, ltb-false, le-leb}
 use Rattle.std.proofs.lemmas.Bool.{lt-leb}
 use Rattle.steps.specs.declared.Range.{Range}
-use Rattle.steps.specs.Payload.{leastIn, mostIn, in_range}
+use Rattle.steps.specs.Payload.{least_in, most_in, in_range}
 
 -- Ranges
 
@@ -19,8 +19,8 @@ not-lt-le (pos m) (negsuc n) e = refl
 not-lt-le (negsuc m) (pos n) e = let y : ◌≡◌ {A = ℕ} 0 1 = cc in absurd (omega arith)
 not-lt-le (negsuc m) (negsuc n) e = le-leb m n (ltb-false n m e)
 
-pub range-below : (r : Range) (x : ℤ) → int_lt x (leastIn r) ≡ true → in_range r x ≡ false
-range-below r x e = rw (lt_not_le x (leastIn r) e)
+pub range-below : (r : Range) (x : ℤ) → int_lt x (least_in r) ≡ true → in_range r x ≡ false
+range-below r x e = rw (lt_not_le x (least_in r) e)
 
-pub range-not-below : (r : Range) (x : ℤ) → int_lt x (leastIn r) ≡ false → in_range r x ≡ int_le x (mostIn r)
-range-not-below r x e = rw (not-lt-le x (leastIn r) e)
+pub range-not-below : (r : Range) (x : ℤ) → int_lt x (least_in r) ≡ false → in_range r x ≡ int_le x (most_in r)
+range-not-below r x e = rw (not-lt-le x (least_in r) e)

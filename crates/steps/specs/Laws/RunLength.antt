@@ -5,7 +5,7 @@ use Rattle.std.proofs.Math.Option.{Option, none, some, map}
 use Rattle.std.specs.Int.{w32}
 use Rattle.std.proofs.lemmas.Bool.{eqb-false}
 use Rattle.steps.specs.Fits.{Every, AllFit}
-use Rattle.steps.specs.RunLength.{expand, same, runsFrom, runsOf}
+use Rattle.steps.specs.RunLength.{expand, same, runs_from, runs_of}
 use Rattle.steps.specs.WriterForm.{Longest}
 
 -- Cells that are the same
@@ -25,79 +25,79 @@ pub replicate-one-more : (n : ℕ) (v : ℤ) (xs : List ℤ) → replicate n v +
 replicate-one-more zero v xs = refl
 replicate-one-more (suc n) v xs = ap (λ (l : List ℤ). v ∷ l) (replicate-one-more n v xs)
 
-expand-runsFrom : (v : ℤ) (n : ℕ) (xs : List ℤ) → FitsSigned w32 v → AllFit w32 xs → expand (runsFrom v (suc n) xs) ≡ some (v ∷ (replicate n v ++ xs))
-unfolding expand runsFrom Every
-expand-runsFrom v n [] f g = rw (count-ok n)
-expand-runsFrom v n (x ∷ xs) f g = by_value (expand-runsFrom v (suc n) xs f g.1) (expand-runsFrom x 0 xs g.0 g.1) (same x v) refl
+expand-runs_from : (v : ℤ) (n : ℕ) (xs : List ℤ) → FitsSigned w32 v → AllFit w32 xs → expand (runs_from v (suc n) xs) ≡ some (v ∷ (replicate n v ++ xs))
+unfolding expand runs_from Every
+expand-runs_from v n [] f g = rw (count-ok n)
+expand-runs_from v n (x ∷ xs) f g = by_value (expand-runs_from v (suc n) xs f g.1) (expand-runs_from x 0 xs g.0 g.1) (same x v) refl
   where
-    by_value : expand (runsFrom v (suc (suc n)) xs) ≡ some (v ∷ (v ∷ (replicate n v ++ xs))) → expand (runsFrom x 1 xs) ≡ some (x ∷ xs) → (t : Bool) → same x v ≡ t
-        → expand (cond t (runsFrom v (suc (suc n)) xs) (v ∷ (pos (suc n) ∷ runsFrom x 1 xs))) ≡ some (v ∷ (replicate n v ++ x ∷ xs))
+    by_value : expand (runs_from v (suc (suc n)) xs) ≡ some (v ∷ (v ∷ (replicate n v ++ xs))) → expand (runs_from x 1 xs) ≡ some (x ∷ xs) → (t : Bool) → same x v ≡ t
+        → expand (cond t (runs_from v (suc (suc n)) xs) (v ∷ (pos (suc n) ∷ runs_from x 1 xs))) ≡ some (v ∷ (replicate n v ++ x ∷ xs))
     by_value i j true e = rw (same-equal x v g.0 f e, replicate-one-more n v xs) i
     by_value i j false e = rw (count-ok n, j)
 
 -- cells written as runs and expanded
-pub expand-runsOf : (xs : List ℤ) → AllFit w32 xs → expand (runsOf xs) ≡ some xs
-unfolding expand runsOf Every
-expand-runsOf [] f = refl
-expand-runsOf (x ∷ xs) f = expand-runsFrom x 0 xs f.0 f.1
+pub expand-runs_of : (xs : List ℤ) → AllFit w32 xs → expand (runs_of xs) ≡ some xs
+unfolding expand runs_of Every
+expand-runs_of [] f = refl
+expand-runs_of (x ∷ xs) f = expand-runs_from x 0 xs f.0 f.1
 
--- what runsOf writes
+-- what runs_of writes
 
-runs-even : (v : ℤ) (n : ℕ) (xs : List ℤ) → length (runsFrom v n xs) % 2 ≡ 0
-unfolding runsFrom
+runs-even : (v : ℤ) (n : ℕ) (xs : List ℤ) → length (runs_from v n xs) % 2 ≡ 0
+unfolding runs_from
 runs-even v n [] = refl
 runs-even v n (x ∷ xs) = by_value (runs-even v (suc n) xs) (runs-even x 1 xs) (same x v)
   where
-    by_value : length (runsFrom v (suc n) xs) % 2 ≡ 0 → length (runsFrom x 1 xs) % 2 ≡ 0 → (t : Bool) → length (cond t (runsFrom v (suc n) xs) (v ∷ (pos n ∷ runsFrom x 1 xs))) % 2 ≡ 0
+    by_value : length (runs_from v (suc n) xs) % 2 ≡ 0 → length (runs_from x 1 xs) % 2 ≡ 0 → (t : Bool) → length (cond t (runs_from v (suc n) xs) (v ∷ (pos n ∷ runs_from x 1 xs))) % 2 ≡ 0
     by_value i j true = i
     by_value i j false = omega arith
 
 -- pairs of value and count
-pub runsOf-even : (xs : List ℤ) → length (runsOf xs) % 2 ≡ 0
-unfolding runsOf
-runsOf-even [] = refl
-runsOf-even (x ∷ xs) = runs-even x 1 xs
+pub runs_of-even : (xs : List ℤ) → length (runs_of xs) % 2 ≡ 0
+unfolding runs_of
+runs_of-even [] = refl
+runs_of-even (x ∷ xs) = runs-even x 1 xs
 
-runs_fit : (v : ℤ) (n : ℕ) (xs : List ℤ) → FitsSigned w32 v → AllFit w32 xs → n + length xs < 2147483648 → AllFit w32 (runsFrom v n xs)
-unfolding runsFrom Every
+runs_fit : (v : ℤ) (n : ℕ) (xs : List ℤ) → FitsSigned w32 v → AllFit w32 xs → n + length xs < 2147483648 → AllFit w32 (runs_from v n xs)
+unfolding runs_from Every
 runs_fit v n [] f g h = (f, (record { sfits = omega arith }, tt))
 runs_fit v n (x ∷ xs) f g h = by_value (runs_fit v (suc n) xs f g.1 (omega arith)) (runs_fit x 1 xs g.0 g.1 (omega arith)) (same x v)
   where
-    by_value : AllFit w32 (runsFrom v (suc n) xs) → AllFit w32 (runsFrom x 1 xs) → (t : Bool) → AllFit w32 (cond t (runsFrom v (suc n) xs) (v ∷ (pos n ∷ runsFrom x 1 xs)))
+    by_value : AllFit w32 (runs_from v (suc n) xs) → AllFit w32 (runs_from x 1 xs) → (t : Bool) → AllFit w32 (cond t (runs_from v (suc n) xs) (v ∷ (pos n ∷ runs_from x 1 xs)))
     by_value i j true = i
     by_value i j false = (f, (record { sfits = omega arith }, j))
 
 -- 32-bit numbers, where the cells are not too many to count
-pub runsOf-fit : (xs : List ℤ) → AllFit w32 xs → length xs < 2147483648 → AllFit w32 (runsOf xs)
-unfolding runsOf Every
-runsOf-fit [] f h = tt
-runsOf-fit (x ∷ xs) f h = runs_fit x 1 xs f.0 f.1 (omega arith)
+pub runs_of-fit : (xs : List ℤ) → AllFit w32 xs → length xs < 2147483648 → AllFit w32 (runs_of xs)
+unfolding runs_of Every
+runs_of-fit [] f h = tt
+runs_of-fit (x ∷ xs) f h = runs_fit x 1 xs f.0 f.1 (omega arith)
 
-runs-head : (v : ℤ) (n : ℕ) (xs : List ℤ) → (ys : List ℤ) × (runsFrom v n xs ≡ v ∷ ys)
-unfolding runsFrom
+runs-head : (v : ℤ) (n : ℕ) (xs : List ℤ) → (ys : List ℤ) × (runs_from v n xs ≡ v ∷ ys)
+unfolding runs_from
 runs-head v n [] = (pos n ∷ [], refl)
 runs-head v n (x ∷ xs) = by_value (runs-head v (suc n) xs) (same x v)
   where
-    by_value : (ys : List ℤ) × (runsFrom v (suc n) xs ≡ v ∷ ys) → (t : Bool) → (ys : List ℤ) × (cond t (runsFrom v (suc n) xs) (v ∷ (pos n ∷ runsFrom x 1 xs)) ≡ v ∷ ys)
+    by_value : (ys : List ℤ) × (runs_from v (suc n) xs ≡ v ∷ ys) → (t : Bool) → (ys : List ℤ) × (cond t (runs_from v (suc n) xs) (v ∷ (pos n ∷ runs_from x 1 xs)) ≡ v ∷ ys)
     by_value i true = i
-    by_value i false = (pos n ∷ runsFrom x 1 xs, refl)
+    by_value i false = (pos n ∷ runs_from x 1 xs, refl)
 
-runs-longest : (v : ℤ) (n : ℕ) (xs : List ℤ) → Longest (runsFrom v n xs)
-unfolding runsFrom Longest
+runs-longest : (v : ℤ) (n : ℕ) (xs : List ℤ) → Longest (runs_from v n xs)
+unfolding runs_from Longest
 runs-longest v n [] = tt
 runs-longest v n (x ∷ xs) = by_value (runs-longest v (suc n) xs) (runs-longest x 1 xs) (same x v) refl
   where
-    by_value : Longest (runsFrom v (suc n) xs) → Longest (runsFrom x 1 xs) → (t : Bool) → same x v ≡ t → Longest (cond t (runsFrom v (suc n) xs) (v ∷ (pos n ∷ runsFrom x 1 xs)))
+    by_value : Longest (runs_from v (suc n) xs) → Longest (runs_from x 1 xs) → (t : Bool) → same x v ≡ t → Longest (cond t (runs_from v (suc n) xs) (v ∷ (pos n ∷ runs_from x 1 xs)))
     by_value i j true e = i
     by_value i j false e =
         let h = runs-head x 1 xs in
         rw h.1 (λ q. eqb-false (of_z w32 x) (of_z w32 v) e (ap (of_z w32) q), rw h.1 at j)
 
 -- the longest runs
-pub runsOf-Longest : (xs : List ℤ) → Longest (runsOf xs)
-unfolding runsOf Longest
-runsOf-Longest [] = tt
-runsOf-Longest (x ∷ xs) = runs-longest x 1 xs
+pub runs_of-Longest : (xs : List ℤ) → Longest (runs_of xs)
+unfolding runs_of Longest
+runs_of-Longest [] = tt
+runs_of-Longest (x ∷ xs) = runs-longest x 1 xs
 
 -- Cells, then runs
 
@@ -106,8 +106,8 @@ unfolding Longest
 longest-tail v n [] g = tt
 longest-tail v n (w ∷ ns) g = g.1
 
-pub runs_grow : (v : ℤ) (n k : ℕ) (l : List ℤ) → runsFrom v n (replicate k v ++ l) ≡ runsFrom v (n + k) l
-unfolding runsFrom
+pub runs_grow : (v : ℤ) (n k : ℕ) (l : List ℤ) → runs_from v n (replicate k v ++ l) ≡ runs_from v (n + k) l
+unfolding runs_from
 runs_grow v n zero l = let e : n + 0 ≡ n = omega arith in rw e
 runs_grow v n (suc k) l = let e : n + suc k ≡ suc n + k = omega arith in rw (e, eq-eqb (of_z w32 v) (of_z w32 v) refl) (runs_grow v (suc n) k l)
 
@@ -125,8 +125,8 @@ first_run v (pos (suc k)) ns l e = by-rest (expand ns) refl (rw (count-ok k) at 
     by-rest none q h = let y : ◌≡◌ {A = ℕ} 0 1 = cc in absurd (omega arith)
 
 -- a run ends where another value follows
-run_ends : (v n : ℤ) (k : ℕ) (ns t : List ℤ) → FitsSigned w32 v → AllFit w32 ns → Longest (v ∷ (n ∷ ns)) → runsOf t ≡ ns → runsFrom v k t ≡ v ∷ (pos k ∷ ns)
-unfolding runsFrom runsOf Longest Every
+run_ends : (v n : ℤ) (k : ℕ) (ns t : List ℤ) → FitsSigned w32 v → AllFit w32 ns → Longest (v ∷ (n ∷ ns)) → runs_of t ≡ ns → runs_from v k t ≡ v ∷ (pos k ∷ ns)
+unfolding runs_from runs_of Longest Every
 run_ends v n k ns [] f g h e = ap (λ (l : List ℤ). v ∷ (pos k ∷ l)) e
 run_ends v n k ns (w ∷ t) f g h e =
     let i = runs-head w 1 t in
@@ -136,12 +136,12 @@ run_ends v n k ns (w ∷ t) f g h e =
     rw (same-differ w v a.0 f d.0, e)
 
 -- longest runs expanded and written as runs
-pub runsOf-expand : (ns l : List ℤ) → AllFit w32 ns → length ns % 2 ≡ 0 → Longest ns → expand ns ≡ some l → runsOf l ≡ ns
-unfolding expand runsOf Every
-runsOf-expand [] l f h g e = let z : [] ≡ l = cc in ap runsOf (sym z)
-runsOf-expand (v ∷ []) l f h g e = absurd (omega arith)
-runsOf-expand (v ∷ (n ∷ ns)) l f h g e =
+pub runs_of-expand : (ns l : List ℤ) → AllFit w32 ns → length ns % 2 ≡ 0 → Longest ns → expand ns ≡ some l → runs_of l ≡ ns
+unfolding expand runs_of Every
+runs_of-expand [] l f h g e = let z : [] ≡ l = cc in ap runs_of (sym z)
+runs_of-expand (v ∷ []) l f h g e = absurd (omega arith)
+runs_of-expand (v ∷ (n ∷ ns)) l f h g e =
     let i = first_run v n ns l e in
-    let r = runsOf-expand ns i.1 f.1.1 (omega arith) (longest-tail v n ns g) i.3 in
+    let r = runs_of-expand ns i.1 f.1.1 (omega arith) (longest-tail v n ns g) i.3 in
     let c : 1 + i.0 ≡ suc i.0 = omega arith in
-    ap runsOf i.4 ∙ runs_grow v 1 i.0 i.1 ∙ run_ends v n (1 + i.0) ns i.1 f.0 f.1.1 g r ∙ ap (λ (c : ℤ). v ∷ (c ∷ ns)) (ap pos c ∙ sym i.2)
+    ap runs_of i.4 ∙ runs_grow v 1 i.0 i.1 ∙ run_ends v n (1 + i.0) ns i.1 f.0 f.1.1 g r ∙ ap (λ (c : ℤ). v ∷ (c ∷ ns)) (ap pos c ∙ sym i.2)

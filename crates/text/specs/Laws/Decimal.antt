@@ -4,7 +4,7 @@ use Rattle.std.proofs.Common.{sym, ap, ◌∙◌, arith, pow-suc, length-append,
 use Rattle.std.proofs.lemmas.Bool.{lt-leb}
 use Rattle.text.specs.declared.Number.{Number}
 use Rattle.text.specs.declared.Number.TheVariants.{Is, None}
-use Rattle.text.specs.Decimal.{glyph, decimalIn, decimal, allDigits, valueFrom, most, number_in}
+use Rattle.text.specs.Decimal.{glyph, decimal_in, decimal, all_digits, value_from, most, number_in}
 
 -- a decimal digit is one of base 16
 pub glyph-digit : (n : ℕ) → n < 10 → glyph n ≡ 48 + n
@@ -12,20 +12,20 @@ glyph-digit n h = let e : n % 16 ≡ n = omega arith in rw e (simp (lt-ltb n 10 
 
 -- one digit
 pub decimal-one : (n : ℕ) → n < 10 → decimal n ≡ glyph n ∷ []
-unfolding decimal decimalIn
+unfolding decimal decimal_in
 decimal-one n h = simp (lt-ltb n 10 h) (ap (λ (d : ℕ). d ∷ []) (sym (glyph-digit n h)))
 
 -- more room changes nothing
-pub decimal-room : (k n : ℕ) → n < 10 ^ suc k → decimalIn (suc k) n ≡ decimalIn k n
-unfolding decimalIn
+pub decimal-room : (k n : ℕ) → n < 10 ^ suc k → decimal_in (suc k) n ≡ decimal_in k n
+unfolding decimal_in
 decimal-room zero n h = let e : 48 + n ≡ 48 + n % 10 = omega arith in simp (lt-ltb n 10 h) (ap (λ (d : ℕ). d ∷ []) e)
 decimal-room (suc k) n h =
     let e = pow-suc 10 (suc k) in
     ap (λ (l : List ℕ). cond (ltb n 10) ((48 + n) ∷ []) (l ++ ((48 + n % 10) ∷ []))) (decimal-room k (n / 10) (omega arith))
 
 -- the last digit, after those above it
-decimal-last : (k n : ℕ) → 10 ≤ n → n < 10 ^ suc k → decimalIn k n ≡ decimalIn k (n / 10) ++ ((48 + n % 10) ∷ [])
-unfolding decimalIn
+decimal-last : (k n : ℕ) → 10 ≤ n → n < 10 ^ suc k → decimal_in k n ≡ decimal_in k (n / 10) ++ ((48 + n % 10) ∷ [])
+unfolding decimal_in
 decimal-last zero n h r = absurd (omega arith)
 decimal-last (suc k) n h r =
     let e = pow-suc 10 (suc k) in
@@ -34,7 +34,7 @@ decimal-last (suc k) n h r =
 pub decimal-more : (n : ℕ) → 10 ≤ n → n < 10000000000 → decimal n ≡ decimal (n / 10) ++ (glyph (n % 10) ∷ [])
 unfolding decimal
 decimal-more n h r =
-    decimal-last 9 n h r ∙ ap (λ (d : ℕ). decimalIn 9 (n / 10) ++ (d ∷ [])) (sym (glyph-digit (n % 10) (omega arith)))
+    decimal-last 9 n h r ∙ ap (λ (d : ℕ). decimal_in 9 (n / 10) ++ (d ∷ [])) (sym (glyph-digit (n % 10) (omega arith)))
 
 -- a digit after those of a number other than 0
 pub decimal_digit : (n b : ℕ) → 1 ≤ n → n ≤ 99999999 → 48 ≤ b → b ≤ 57 → decimal (n * 10 + (b - 48)) ≡ decimal n ++ (b ∷ [])
@@ -47,54 +47,54 @@ decimal_digit n b l h p q =
     ∙ rw (tenth, last, glyph-digit (b - 48) (omega arith), digit)
 
 -- a digit more at the end
-value-last : (s : List ℕ) (n d : ℕ) → valueFrom n (s ++ (d ∷ [])) ≡ valueFrom n s * 10 + (d - 48)
-unfolding valueFrom
+value-last : (s : List ℕ) (n d : ℕ) → value_from n (s ++ (d ∷ [])) ≡ value_from n s * 10 + (d - 48)
+unfolding value_from
 value-last [] n d = refl
 value-last (b ∷ s) n d = value-last s (n * 10 + (b - 48)) d
 
-pub decimalIn-value : (k n : ℕ) → n < 10 ^ suc k → valueFrom 0 (decimalIn k n) ≡ n
-unfolding decimalIn valueFrom
-decimalIn-value zero n h = omega arith
-decimalIn-value (suc k) n h =
+pub decimal_in-value : (k n : ℕ) → n < 10 ^ suc k → value_from 0 (decimal_in k n) ≡ n
+unfolding decimal_in value_from
+decimal_in-value zero n h = omega arith
+decimal_in-value (suc k) n h =
     let e = pow-suc 10 (suc k) in
-    by (ltb n 10) refl (decimalIn-value k (n / 10) (omega arith))
+    by (ltb n 10) refl (decimal_in-value k (n / 10) (omega arith))
   where
-    by : (test : Bool) → ltb n 10 ≡ test → valueFrom 0 (decimalIn k (n / 10)) ≡ n / 10 → valueFrom 0 (cond test ((48 + n) ∷ []) (decimalIn k (n / 10) ++ ((48 + n % 10) ∷ []))) ≡ n
+    by : (test : Bool) → ltb n 10 ≡ test → value_from 0 (decimal_in k (n / 10)) ≡ n / 10 → value_from 0 (cond test ((48 + n) ∷ []) (decimal_in k (n / 10) ++ ((48 + n % 10) ∷ []))) ≡ n
     by true t i = omega arith
-    by false t i = rw (value-last (decimalIn k (n / 10)) 0 (48 + n % 10), i) (omega arith)
+    by false t i = rw (value-last (decimal_in k (n / 10)) 0 (48 + n % 10), i) (omega arith)
 
 -- a number in decimal says that number
-pub decimal-value : (n : ℕ) → n < 10000000000 → valueFrom 0 (decimal n) ≡ n
+pub decimal-value : (n : ℕ) → n < 10000000000 → value_from 0 (decimal n) ≡ n
 unfolding decimal
-decimal-value n h = decimalIn-value 9 n h
+decimal-value n h = decimal_in-value 9 n h
 
 -- at most ten digits
-pub decimalIn-few : (k n : ℕ) → length (decimalIn k n) ≤ suc k
-unfolding decimalIn
-decimalIn-few zero n = omega arith
-decimalIn-few (suc k) n = by (ltb n 10) (decimalIn-few k (n / 10))
+pub decimal_in-few : (k n : ℕ) → length (decimal_in k n) ≤ suc k
+unfolding decimal_in
+decimal_in-few zero n = omega arith
+decimal_in-few (suc k) n = by (ltb n 10) (decimal_in-few k (n / 10))
   where
-    by : (test : Bool) → length (decimalIn k (n / 10)) ≤ suc k → length (cond test ((48 + n) ∷ []) (decimalIn k (n / 10) ++ ((48 + n % 10) ∷ []))) ≤ suc (suc k)
+    by : (test : Bool) → length (decimal_in k (n / 10)) ≤ suc k → length (cond test ((48 + n) ∷ []) (decimal_in k (n / 10) ++ ((48 + n % 10) ∷ []))) ≤ suc (suc k)
     by true h = omega arith
     by false h = simp length-append (omega arith)
 
 pub decimal-few : (n : ℕ) → length (decimal n) ≤ 10
 unfolding decimal
-decimal-few n = decimalIn-few 9 n
+decimal-few n = decimal_in-few 9 n
 
 -- at least one digit
-decimalIn-some : (k n : ℕ) → 1 ≤ length (decimalIn k n)
-unfolding decimalIn
-decimalIn-some zero n = omega arith
-decimalIn-some (suc k) n = by (ltb n 10)
+decimal_in-some : (k n : ℕ) → 1 ≤ length (decimal_in k n)
+unfolding decimal_in
+decimal_in-some zero n = omega arith
+decimal_in-some (suc k) n = by (ltb n 10)
   where
-    by : (test : Bool) → 1 ≤ length (cond test ((48 + n) ∷ []) (decimalIn k (n / 10) ++ ((48 + n % 10) ∷ [])))
+    by : (test : Bool) → 1 ≤ length (cond test ((48 + n) ∷ []) (decimal_in k (n / 10) ++ ((48 + n % 10) ∷ [])))
     by true = omega arith
     by false = simp length-append (omega arith)
 
 pub decimal-some : (n : ℕ) → 1 ≤ length (decimal n)
 unfolding decimal
-decimal-some n = decimalIn-some 9 n
+decimal-some n = decimal_in-some 9 n
 
 -- one digit, or one more than a tenth has
 pub digits-one : (n : ℕ) → n < 10 → length (decimal n) ≡ 1
@@ -104,16 +104,16 @@ pub digits_more : (n : ℕ) → 10 ≤ n → n < 10000000000 → length (decimal
 digits_more n h l = ap length (decimal-more n h l) ∙ length-append (decimal (n / 10)) (glyph (n % 10) ∷ [])
 
 -- a larger number stays larger with digits after it
-most-from : (s : List ℕ) (n : ℕ) → n ≤ valueFrom n s
-unfolding valueFrom
+most-from : (s : List ℕ) (n : ℕ) → n ≤ value_from n s
+unfolding value_from
 most-from [] n = omega arith
 most-from (b ∷ s) n = let h = most-from s (n * 10 + (b - 48)) in omega arith
 
 -- the largest number in the place of a larger one says the same in the end
-pub most-value : (s : List ℕ) (n : ℕ) → most (valueFrom (most n) s) ≡ most (valueFrom n s)
+pub most-value : (s : List ℕ) (n : ℕ) → most (value_from (most n) s) ≡ most (value_from n s)
 most-value s n = go (leb n 4294967295) refl
   where
-    go : (test : Bool) → leb n 4294967295 ≡ test → most (valueFrom (most n) s) ≡ most (valueFrom n s)
+    go : (test : Bool) → leb n 4294967295 ≡ test → most (value_from (most n) s) ≡ most (value_from n s)
     go true e = let h = leb-true n 4294967295 e in let m : most n ≡ n = omega arith in rw m
     go false e =
         let h = leb-false n 4294967295 e in
@@ -125,7 +125,7 @@ most-value s n = go (leb n 4294967295) refl
 
 -- the number of a word of which the digits before s say n
 unfoldable pub finished : ℕ → List ℕ → Number
-finished n s = cond (allDigits s) (Is (most (valueFrom n s))) None
+finished n s = cond (all_digits s) (Is (most (value_from n s))) None
 
 pub finished-start : (s : List ℕ) → (length s ≡ 0 → ⊥) → number_in s ≡ finished 0 s
 unfolding number_in finished
@@ -139,18 +139,18 @@ none_said (b ∷ s) h = absurd (omega arith)
 
 -- a byte that is no digit
 pub finished-low : (n b : ℕ) (s : List ℕ) → b < 48 → finished n (b ∷ s) ≡ None
-unfolding finished allDigits
+unfolding finished all_digits
 finished-low n b s h = simp (lt-leb 48 b h)
 
 pub finished-high : (n b : ℕ) (s : List ℕ) → 48 ≤ b → 57 < b → finished n (b ∷ s) ≡ None
-unfolding finished allDigits
+unfolding finished all_digits
 finished-high n b s l h = simp (le-leb 48 b l, lt-leb b 57 h)
 
 -- a digit
 pub finished-digit : (n b : ℕ) (s : List ℕ) → 48 ≤ b → b ≤ 57 → finished n (b ∷ s) ≡ finished (most (n * 10 + (b - 48))) s
-unfolding finished allDigits valueFrom
+unfolding finished all_digits value_from
 finished-digit n b s l h = simp (le-leb 48 b l, le-leb b 57 h, most-value s (n * 10 + (b - 48)))
 
 pub finished-end : (n : ℕ) → n ≤ 4294967295 → finished n [] ≡ Is n
-unfolding finished allDigits valueFrom
+unfolding finished all_digits value_from
 finished-end n h = let m : most n ≡ n = omega arith in ap Is m

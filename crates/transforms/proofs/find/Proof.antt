@@ -7,11 +7,11 @@ use Rattle.values.specs.Laws.Places.{outer-at, place_none, place-some}
 use Rattle.fields.specs.Types.{FieldType}
 use Rattle.text.specs.Equal.{equal}
 use Rattle.fields.specs.Table.{named}
-use Rattle.fields.specs.Fields.{findRow}
+use Rattle.fields.specs.Fields.{find_row}
 use Rattle.fields.specs.Tests.{typed}
-use Rattle.transforms.specs.Matrix.{assembliesType}
+use Rattle.transforms.specs.Matrix.{assemblies_type}
 use Rattle.transforms.specs.Laws.Matrix.{no-assemblies, mistyped, answers-as, assemblies-type, no-container, container-answers}
-use Rattle.transforms.specs.Steps.{refusedBy}
+use Rattle.transforms.specs.Steps.{refused_by}
 use borrow.Author.Rules.{rules}
 use Rattle.transforms.proofs.find.Statement.{statement}
 use Rattle.transforms.proofs.find.Tie as tie
@@ -19,7 +19,7 @@ use Rattle.transforms.proofs.find.Tie as tie
 returns : tie.Need-returns
 returns c =
     let k = c.before.before.container.ensures in
-    let r = no-container c.before.before.before.before.args.assembly c.before.before.before.before.args.transform (λ z. c.before.if1.true (k.0 ∙ z)) (c.refused.ensures ∙ ap refusedBy k.0) in
+    let r = no-container c.before.before.before.before.args.assembly c.before.before.before.before.args.transform (λ z. c.before.if1.true (k.0 ∙ z)) (c.refused.ensures ∙ ap refused_by k.0) in
     (r.number, r.floats)
 
 returns-2 : tie.Need-returns-2
@@ -33,7 +33,7 @@ returns-2 c =
     (r.number, r.floats)
 
 returns-3 : tie.Need-returns-3
-unfolding findRow equal named
+unfolding find_row equal named
 returns-3 c =
     let k = c.before.before.before.before.before.before.before.before.before.before.container.ensures in
     let o = k.1.0 c.before.before.before.before.before.before.before.before.before.if1.false in
@@ -41,12 +41,12 @@ returns-3 c =
     let t = c.before.before.before.before.before.before.before.before.leads.ensures in
     let p = c.before.before.before.before.before.find.ensures t (map o.entries) _ (outer-at o) in
     let w = place-some p c.before.before.before.before.if2.false in
-    let f : typed assembliesType w.x ≡ false = sym (ap (λ (y : FieldType). typed y w.x) (assemblies-type refl)) ∙ sym (c.before.before.is-typed.ensures t w.x w.end w.at) ∙ not-true _ c.before.if3.true in
+    let f : typed assemblies_type w.x ≡ false = sym (ap (λ (y : FieldType). typed y w.x) (assemblies-type refl)) ∙ sym (c.before.before.is-typed.ensures t w.x w.end w.at) ∙ not-true _ c.before.if3.true in
     let r = container-answers c.before.before.before.before.before.before.before.before.before.before.before.before.args.assembly c.before.before.before.before.before.before.before.before.before.before.before.before.args.transform o z (c.refused3.ensures ∙ mistyped c.before.before.before.before.before.before.before.before.before.before.before.before.args.assembly c.before.before.before.before.before.before.before.before.before.before.before.before.args.transform w.is f) in
     (r.number, r.floats)
 
 returns-4 : tie.Need-returns-4
-unfolding findRow equal named
+unfolding find_row equal named
 returns-4 c =
     let k = c.before.before.before.before.before.before.before.before.before.before.before.container.ensures in
     let o = k.1.0 c.before.before.before.before.before.before.before.before.before.before.if1.false in
@@ -54,7 +54,7 @@ returns-4 c =
     let t = c.before.before.before.before.before.before.before.before.before.leads.ensures in
     let p = c.before.before.before.before.before.before.find.ensures t (map o.entries) _ (outer-at o) in
     let w = place-some p c.before.before.before.before.before.if2.false in
-    let f : typed assembliesType w.x ≡ true = sym (ap (λ (y : FieldType). typed y w.x) (assemblies-type refl)) ∙ sym (c.before.before.before.is-typed.ensures t w.x w.end w.at) ∙ not-false _ c.before.before.if3.false in
+    let f : typed assemblies_type w.x ≡ true = sym (ap (λ (y : FieldType). typed y w.x) (assemblies-type refl)) ∙ sym (c.before.before.before.is-typed.ensures t w.x w.end w.at) ∙ not-false _ c.before.before.if3.false in
     let r = container-answers c.before.before.before.before.before.before.before.before.before.before.before.before.before.args.assembly c.before.before.before.before.before.before.before.before.before.before.before.before.before.args.transform o z (answers-as c.before.before.before.before.before.before.before.before.before.before.before.before.before.args.assembly c.before.before.before.before.before.before.before.before.before.before.before.before.before.args.transform w.is (c.transform-in.ensures t w.x w.end w.at f)) in
     (r.number, r.floats)
 

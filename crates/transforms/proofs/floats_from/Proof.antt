@@ -2,7 +2,7 @@
 use mathlib.Core.Path.{◌≡◌, ap, ◌∙◌}
 use native.Mathlib.Omega.{arith}
 use Prim.Native.Nat.{ℕ, ◌-◌}
-use Rattle.heads.specs.Table.{leadTable}
+use Rattle.heads.specs.Table.{lead_table}
 use Rattle.messagepack.specs.Document.{Documents, count}
 use Rattle.values.specs.Places.{AtAll}
 use Rattle.values.specs.Laws.Places.{at-standing}
@@ -14,7 +14,7 @@ use Rattle.transforms.proofs.floats_from.Statement.{statement}
 use Rattle.transforms.proofs.floats_from.Tie as tie
 
 abbrev invariant-loop : tie.invariant-loop
-invariant-loop leads file at floats₀ i₀ p₀ floats i p = (length floats ≡ 16) × (leads ≡ leadTable → (ds : Documents) (e : ℕ) → AtAll file at ds e → count ds ≡ 16 → Reading file ds i p e floats)
+invariant-loop leads file at floats₀ i₀ p₀ floats i p = (length floats ≡ 16) × (leads ≡ lead_table → (ds : Documents) (e : ℕ) → AtAll file at ds e → count ds ≡ 16 → Reading file ds i p e floats)
 
 abbrev decreases-loop : tie.decreases-loop
 decreases-loop leads file at floats₀ i₀ p₀ floats i p = 16 - i

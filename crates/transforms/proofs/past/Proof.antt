@@ -2,7 +2,7 @@
 use mathlib.Core.Path.{◌≡◌}
 use native.Mathlib.Omega.{arith}
 use Prim.Native.Nat.{ℕ, ◌<◌}
-use Rattle.heads.specs.Table.{leadTable}
+use Rattle.heads.specs.Table.{lead_table}
 use Rattle.messagepack.specs.Document.{Documents, count}
 use Rattle.values.specs.Places.{AtAll}
 use Rattle.values.specs.Laws.Places.{at-standing}
@@ -12,7 +12,7 @@ use Rattle.transforms.proofs.past.Statement.{statement}
 use Rattle.transforms.proofs.past.Tie as tie
 
 abbrev invariant-loop : tie.invariant-loop
-invariant-loop leads file at n left₀ p₀ left p = leads ≡ leadTable → (ds : Documents) (e : ℕ) → AtAll file at ds e → n < count ds → Going file ds n p left e
+invariant-loop leads file at n left₀ p₀ left p = leads ≡ lead_table → (ds : Documents) (e : ℕ) → AtAll file at ds e → n < count ds → Going file ds n p left e
 
 abbrev decreases-loop : tie.decreases-loop
 decreases-loop leads file at n left₀ p₀ left p = left

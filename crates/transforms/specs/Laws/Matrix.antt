@@ -4,38 +4,38 @@ use Rattle.std.specs.Prelude.{◌≡◌, refl, Bool, true, false, List, [], ◌�
 use Rattle.std.proofs.Common.{sym, ap, ap₂, subst, ◌∙◌, append_assoc, append-nil, arith, mod-eq_of_lt, suc-add, eq-eqb, ne_eqb, lt-ltb, le-ltb, ltb-true, ltb-false, length-set, take-suc, take_all, get_or-set_same}
 use Rattle.std.proofs.Math.Option.{Option, some, none as nothing}
 use Rattle.std.specs.Float.{nan}
-use Rattle.refusal.specs.Table.{accepted, fieldType, noSuchField, noSuchEntry}
+use Rattle.refusal.specs.Table.{accepted, field_type, no_such_field, no_such_entry}
 use Rattle.numbers.specs.Laws.Tests.{clash}
 use Rattle.text.specs.Ascii.{ascii}
 use Rattle.text.specs.Equal.{equal}
-use Rattle.heads.specs.Lead.{moreOf, heldBy}
-use Rattle.heads.specs.Head.{Holds, kind_at, headAt}
+use Rattle.heads.specs.Lead.{more_of, held_by}
+use Rattle.heads.specs.Head.{Holds, kind_at, head_at}
 use Rattle.heads.specs.declared.Kind.{Kind}
 use Rattle.heads.specs.declared.Head.{Head}
-use Rattle.heads.specs.Laws.Table.{moreOf-bound}
+use Rattle.heads.specs.Laws.Table.{more_of-bound}
 use Rattle.messagepack.specs.Document.{Document, Documents, integer, float, string, binary, array, map, none, item, count, Writes}
-use Rattle.values.specs.Parts.{bits_of, items_of, entriesOf, look}
+use Rattle.values.specs.Parts.{bits_of, items_of, entries_of, look}
 use Rattle.values.specs.Places.{At, AtAll, PlaceSays, there as stands}
 use Rattle.values.specs.Heads.{is_float}
 use Rattle.values.specs.Laws.Places.{heads, read-heads, open-float, open-item, Stands}
 use Rattle.messagepack.specs.Rules.{Container}
-use Rattle.messagepack.specs.Walk.{containerNumber}
-use Rattle.messagepack.specs.Laws.Unique.{documentOf-is}
-use Rattle.fields.specs.Types.{FieldType, Rows, array_of, exactly, mapWith, aFloat, Each, Has, HasType, Fits}
-use Rattle.fields.specs.Table.{transformRows, assemblyRows, named}
-use Rattle.fields.specs.Tests.{isThere, typed}
-use Rattle.fields.specs.Fields.{findRow, isRequired, typeUnder, fieldNumber, typeIn, fieldTypeOf}
+use Rattle.messagepack.specs.Walk.{container_number}
+use Rattle.messagepack.specs.Laws.Unique.{document_of-is}
+use Rattle.fields.specs.Types.{FieldType, Rows, array_of, exactly, map_with, a_float, Each, Has, HasType, Fits}
+use Rattle.fields.specs.Table.{transform_rows, assembly_rows, named}
+use Rattle.fields.specs.Tests.{is_there, typed}
+use Rattle.fields.specs.Fields.{find_row, is_required, type_under, field_number, type_in, field_type_of}
 use Rattle.fields.specs.Laws.Fields.{has-name, fits-name}
 use Rattle.fields.specs.Laws.Types.{typed-exactly}
-use Rattle.transforms.specs.Matrix.{nth, assembliesType, assembliesOf, transformIn, assembliesNumber, matrixNumber, float_of, floatsOf, matrixIn, handed, matrixFloats}
-use Rattle.transforms.specs.Steps.{FoundSays, absent, there, refusedBy, answer, answer_of}
+use Rattle.transforms.specs.Matrix.{nth, assemblies_type, assemblies_of, transform_in, assemblies_number, matrix_number, float_of, floats_of, matrix_in, handed, matrix_floats}
+use Rattle.transforms.specs.Steps.{FoundSays, absent, there, refused_by, answer, answer_of}
 use Rattle.transforms.specs.declared.Found.{Found}
 use Rattle.transforms.specs.declared.Transform.{Transform}
 
 -- a float's bits
 
-held_small : (b : ℕ) → b < 256 → heldBy b < 4294967296
-unfolding heldBy
+held_small : (b : ℕ) → b < 256 → held_by b < 4294967296
+unfolding held_by
 held_small b l = omega arith
 
 holds-small : (k b n : ℕ) → k ≤ 4 → b < 256 → Holds k b n → n < 4294967296
@@ -48,10 +48,10 @@ holds-small (suc (suc (suc (suc (suc k))))) b n l s h = absurd (omega arith)
 
 bits_small : {s : List ℕ} {p e bits : ℕ} → At s p (float bits) e → bits < 4294967296
 unfolding Writes
-bits_small {bits = bits} a = let h = a.writes in holds-small (moreOf h.lead) h.lead bits (moreOf-bound h.lead) h.byte h.holds
+bits_small {bits = bits} a = let h = a.writes in holds-small (more_of h.lead) h.lead bits (more_of-bound h.lead) h.byte h.holds
 
 -- the bits of the float at a place are what its head holds
-pub read-bits : {s : List ℕ} {p e n r : ℕ} (x : Document) → At s p x e → headAt s p ≡ Head.At n r → kind_at s p ≡ Kind.Float → n % 4294967296 ≡ bits_of x
+pub read-bits : {s : List ℕ} {p e n r : ℕ} (x : Document) → At s p x e → head_at s p ≡ Head.At n r → kind_at s p ≡ Kind.Float → n % 4294967296 ≡ bits_of x
 read-bits {s} {p} {e} {n} {r} x a h q = go x a (read-heads x a q)
   where
     go : (y : Document) → At s p y e → heads y Kind.Float ≡ true → n % 4294967296 ≡ bits_of y
@@ -134,7 +134,7 @@ nth_past zero (item d ds) l = absurd (omega arith)
 nth_past (suc n) (item d ds) l = nth_past n ds (omega arith)
 
 -- there is a value exactly for the numbers below the count
-pub nth-there : (n : ℕ) (ds : Documents) → isThere (nth n ds) ≡ ltb n (count ds)
+pub nth-there : (n : ℕ) (ds : Documents) → is_there (nth n ds) ≡ ltb n (count ds)
 unfolding nth count
 nth-there n none = sym (le-ltb n 0 (omega arith))
 nth-there zero (item d ds) = sym (lt-ltb 0 (suc (count ds)) (omega arith))
@@ -149,13 +149,13 @@ pub record Reading (s : List ℕ) (ds : Documents) (i p e : ℕ) (floats : List 
   pub rest : Documents
   pub all : AtAll s p rest e
   pub counts : i + count rest ≡ 16
-  pub done : take i floats ++ floatsOf rest ≡ floatsOf ds
+  pub done : take i floats ++ floats_of rest ≡ floats_of ds
 
 pub reading-start : {s : List ℕ} {ds : Documents} {p e : ℕ} {floats : List Float} → AtAll s p ds e → count ds ≡ 16 → Reading s ds 0 p e floats
 reading-start {ds = ds} a c = record { rest = ds; all = a; counts = omega arith; done = refl }
 
 pub reading-more : {s : List ℕ} {ds : Documents} {i p e q : ℕ} {floats : List Float} (v : Float) → length floats ≡ 16 → Reading s ds i p e floats → i < 16 → ((x : Document) (f : ℕ) → At s p x f → (v ≡ float_of x) × (q ≡ f)) → Reading s ds (i + 1) q e (set floats i v)
-unfolding floatsOf count
+unfolding floats_of count
 reading-more {s} {ds} {i} {p} {e} {q} {floats} v long k l f =
     let m = next k.rest k.all (omega (arith, k.counts)) in
     let g = f m.d m.q m.first in
@@ -167,7 +167,7 @@ reading-more {s} {ds} {i} {p} {e} {q} {floats} v long k l f =
       rest = m.rest;
       all = subst (λ (j : ℕ). AtAll s j m.rest e) (sym g.1) m.all;
       counts = omega arith;
-      done = ap (λ (a : List Float). a ++ floatsOf m.rest) t ∙ append_assoc (take i floats) (v ∷ []) (floatsOf m.rest) ∙ ap (λ (a : Float). take i floats ++ (a ∷ floatsOf m.rest)) g.0 ∙ sym (ap (λ (z : Documents). take i floats ++ floatsOf z) m.is) ∙ k.done;
+      done = ap (λ (a : List Float). a ++ floats_of m.rest) t ∙ append_assoc (take i floats) (v ∷ []) (floats_of m.rest) ∙ ap (λ (a : Float). take i floats ++ (a ∷ floats_of m.rest)) g.0 ∙ sym (ap (λ (z : Documents). take i floats ++ floats_of z) m.is) ∙ k.done;
     }
   where
     before : (l : List Float) (j : ℕ) → take j (set l j v) ≡ take j l
@@ -175,11 +175,11 @@ reading-more {s} {ds} {i} {p} {e} {q} {floats} v long k l f =
     before (x ∷ xs) zero = refl
     before (x ∷ xs) (suc j) = ap (λ (r : List Float). x ∷ r) (before xs j)
 
-pub reading-end : {s : List ℕ} {ds : Documents} {i p e : ℕ} {floats : List Float} → length floats ≡ 16 → Reading s ds i p e floats → 16 ≤ i → floats ≡ floatsOf ds
-unfolding floatsOf count
+pub reading-end : {s : List ℕ} {ds : Documents} {i p e : ℕ} {floats : List Float} → length floats ≡ 16 → Reading s ds i p e floats → 16 ≤ i → floats ≡ floats_of ds
+unfolding floats_of count
 reading-end {s} {ds} {i} {p} {e} {floats} long k l = go k.rest k.counts k.done
   where
-    go : (r : Documents) → i + count r ≡ 16 → take i floats ++ floatsOf r ≡ floatsOf ds → floats ≡ floatsOf ds
+    go : (r : Documents) → i + count r ≡ 16 → take i floats ++ floats_of r ≡ floats_of ds → floats ≡ floats_of ds
     go none c q = sym (append-nil floats) ∙ ap (λ (a : List Float). a ++ []) (sym (take_all i floats (omega arith))) ∙ q
     go (item d r) c q = absurd (omega arith)
 
@@ -223,85 +223,85 @@ nth-each P (item d ds) (suc i) h q = nth-each P ds i h.1 q
 -- a value under a key, of a type
 pub record Held (k : List ℕ) (t : FieldType) (y : Document) : Type 0 where
   pub x : Document
-  pub is : look k (entriesOf y) ≡ some x
+  pub is : look k (entries_of y) ≡ some x
   pub typed : HasType t x
 
 -- each value of an array of maps has the maps' keys, each with its type
-map_rows : (rows : Rows) (x : Document) {y : Document} (i : ℕ) → HasType (array_of (mapWith rows)) x → nth i (items_of x) ≡ some y → Has rows (entriesOf y) × Fits rows (entriesOf y)
+map_rows : (rows : Rows) (x : Document) {y : Document} (i : ℕ) → HasType (array_of (map_with rows)) x → nth i (items_of x) ≡ some y → Has rows (entries_of y) × Fits rows (entries_of y)
 unfolding HasType
 map_rows rows x {y} i h q =
-    let m = nth-each (HasType (mapWith rows)) h.values i h.each (sym (ap (λ (z : Document). nth i (items_of z)) h.is) ∙ q) in
-    let e : entriesOf y ≡ m.entries = ap entriesOf m.is in
+    let m = nth-each (HasType (map_with rows)) h.values i h.each (sym (ap (λ (z : Document). nth i (items_of z)) h.is) ∙ q) in
+    let e : entries_of y ≡ m.entries = ap entries_of m.is in
     (subst (Has rows) (sym e) m.has, subst (Fits rows) (sym e) m.fits)
 
 -- a required key of such a map, with its type
-held : (k : List ℕ) (rows : Rows) (x : Document) {y : Document} (i : ℕ) {t : FieldType} → isRequired k rows ≡ true → typeUnder k rows ≡ some t → HasType (array_of (mapWith rows)) x → nth i (items_of x) ≡ some y → Held k t y
+held : (k : List ℕ) (rows : Rows) (x : Document) {y : Document} (i : ℕ) {t : FieldType} → is_required k rows ≡ true → type_under k rows ≡ some t → HasType (array_of (map_with rows)) x → nth i (items_of x) ≡ some y → Held k t y
 held k rows x {y} i r u h q =
     let m = map_rows rows x i h q in
-    let v = has-name k rows (entriesOf y) m.0 r in
-    record { x = v.x; is = v.is; typed = fits-name k rows (entriesOf y) m.1 u v.is }
+    let v = has-name k rows (entries_of y) m.0 r in
+    record { x = v.x; is = v.is; typed = fits-name k rows (entries_of y) m.1 u v.is }
 
-pub transforms-held : (x : Document) {y : Document} (a : ℕ) → typed assembliesType x ≡ true → nth a (items_of x) ≡ some y → Held (ascii "transformList") (array_of (mapWith transformRows)) y
-unfolding isRequired typeUnder equal assemblyRows
-transforms-held x a h q = held (ascii "transformList") assemblyRows x a refl refl ((typed-exactly assembliesType x).0 h) q
+pub transforms-held : (x : Document) {y : Document} (a : ℕ) → typed assemblies_type x ≡ true → nth a (items_of x) ≡ some y → Held (ascii "transformList") (array_of (map_with transform_rows)) y
+unfolding is_required type_under equal assembly_rows
+transforms-held x a h q = held (ascii "transformList") assembly_rows x a refl refl ((typed-exactly assemblies_type x).0 h) q
 
-pub matrix-held : (z : Document) {w : Document} (t : ℕ) → HasType (array_of (mapWith transformRows)) z → nth t (items_of z) ≡ some w → Held (ascii "matrix") (exactly 16 aFloat) w
-unfolding isRequired typeUnder equal transformRows
-matrix-held z t h q = held (ascii "matrix") transformRows z t refl refl h q
+pub matrix-held : (z : Document) {w : Document} (t : ℕ) → HasType (array_of (map_with transform_rows)) z → nth t (items_of z) ≡ some w → Held (ascii "matrix") (exactly 16 a_float) w
+unfolding is_required type_under equal transform_rows
+matrix-held z t h q = held (ascii "matrix") transform_rows z t refl refl h q
 
 -- a matrix has sixteen values
-pub matrix-sixteen : (x : Document) → HasType (exactly 16 aFloat) x → count (items_of x) ≡ 16
+pub matrix-sixteen : (x : Document) → HasType (exactly 16 a_float) x → count (items_of x) ≡ 16
 unfolding HasType
 matrix-sixteen x h = ap (λ (z : Document). count (items_of z)) h.is ∙ h.many
 
 -- the answer by bioAssemblyList
 
-module _ (a t : ℕ) (x : Document) (h : typed assembliesType x ≡ true) where
-  pub no-assembly : nth a (items_of x) ≡ nothing → refusedBy noSuchEntry ≡ answer_of a t (some x)
+module _ (a t : ℕ) (x : Document) (h : typed assemblies_type x ≡ true) where
+  pub no-assembly : nth a (items_of x) ≡ nothing → refused_by no_such_entry ≡ answer_of a t (some x)
   no-assembly q = rw (h, q)
 
-  module _ {y z : Document} (p : nth a (items_of x) ≡ some y) (q : look (ascii "transformList") (entriesOf y) ≡ some z) where
-    pub no-transform : nth t (items_of z) ≡ nothing → refusedBy noSuchEntry ≡ answer_of a t (some x)
+  module _ {y z : Document} (p : nth a (items_of x) ≡ some y) (q : look (ascii "transformList") (entries_of y) ≡ some z) where
+    pub no-transform : nth t (items_of z) ≡ nothing → refused_by no_such_entry ≡ answer_of a t (some x)
     no-transform n = rw (h, p, q, n)
 
-    pub matrix-there : {w m : Document} {floats : List Float} → nth t (items_of z) ≡ some w → look (ascii "matrix") (entriesOf w) ≡ some m → floats ≡ floatsOf (items_of m) → record { refusal = accepted; floats = floats } ≡ answer_of a t (some x)
+    pub matrix-there : {w m : Document} {floats : List Float} → nth t (items_of z) ≡ some w → look (ascii "matrix") (entries_of w) ≡ some m → floats ≡ floats_of (items_of m) → record { refusal = accepted; floats = floats } ≡ answer_of a t (some x)
     matrix-there u v f = rw (h, p, q, u, v, f)
 
-pub no-assemblies : (a t : ℕ) {o : Option Document} → o ≡ nothing → refusedBy noSuchField ≡ answer_of a t o
+pub no-assemblies : (a t : ℕ) {o : Option Document} → o ≡ nothing → refused_by no_such_field ≡ answer_of a t o
 no-assemblies a t q = rw q
 
-pub mistyped : (a t : ℕ) {o : Option Document} {x : Document} → o ≡ some x → typed assembliesType x ≡ false → refusedBy fieldType ≡ answer_of a t o
+pub mistyped : (a t : ℕ) {o : Option Document} {x : Document} → o ≡ some x → typed assemblies_type x ≡ false → refused_by field_type ≡ answer_of a t o
 mistyped a t q f = rw (q, f)
 
 pub answers-as : (a t : ℕ) {o : Option Document} {x : Document} {r : Transform} → o ≡ some x → r ≡ answer_of a t (some x) → r ≡ answer_of a t o
 answers-as a t q e = rw q e
 
 -- the type of the field bioAssemblyList
-pub assemblies-type : {i : ℕ} → fieldNumber "bioAssemblyList" ≡ i → fieldTypeOf i ≡ assembliesType
-unfolding fieldTypeOf typeIn findRow equal named
-assemblies-type e = sym (ap fieldTypeOf e)
+pub assemblies-type : {i : ℕ} → field_number "bioAssemblyList" ≡ i → field_type_of i ≡ assemblies_type
+unfolding field_type_of type_in find_row equal named
+assemblies-type e = sym (ap field_type_of e)
 
 -- the answer for a file
 pub record Answers (s : List ℕ) (a t : ℕ) (r : Transform) : Type 0 where
-  pub number : r.refusal ≡ matrixNumber s a t
-  pub floats : r.floats ≡ matrixFloats s a t
+  pub number : r.refusal ≡ matrix_number s a t
+  pub floats : r.floats ≡ matrix_floats s a t
 
-answers_by : {s : List ℕ} {a t n : ℕ} {fs : List Float} {r : Transform} → matrixNumber s a t ≡ n → matrixIn (transformIn a t (assembliesOf s)) ≡ fs → r ≡ answer n fs → Answers s a t r
-unfolding matrixFloats
+answers_by : {s : List ℕ} {a t n : ℕ} {fs : List Float} {r : Transform} → matrix_number s a t ≡ n → matrix_in (transform_in a t (assemblies_of s)) ≡ fs → r ≡ answer n fs → Answers s a t r
+unfolding matrix_floats
 answers_by p q e = record {
   number = ap (λ (y : Transform). y.refusal) e ∙ sym p;
   floats = ap (λ (y : Transform). y.floats) e ∙ sym (ap₂ handed p q);
 }
 
 -- a file that is no container has its number
-pub no-container : {s : List ℕ} (a t : ℕ) {r : Transform} → (containerNumber s ≡ 0 → ⊥) → r ≡ refusedBy (containerNumber s) → Answers s a t r
-unfolding matrixNumber
+pub no-container : {s : List ℕ} (a t : ℕ) {r : Transform} → (container_number s ≡ 0 → ⊥) → r ≡ refused_by (container_number s) → Answers s a t r
+unfolding matrix_number
 no-container {s} a t {r} n e =
-    answers_by {n = containerNumber s} (rw (ne_eqb (containerNumber s) accepted n)) refl (e ∙ rw (ne_eqb (containerNumber s) accepted n))
+    answers_by {n = container_number s} (rw (ne_eqb (container_number s) accepted n)) refl (e ∙ rw (ne_eqb (container_number s) accepted n))
 
 -- in a container bioAssemblyList decides
-pub container-answers : {s : List ℕ} (a t : ℕ) {r : Transform} (c : Container s) → containerNumber s ≡ 0 → r ≡ answer_of a t (look (ascii "bioAssemblyList") c.entries) → Answers s a t r
-unfolding matrixNumber
+pub container-answers : {s : List ℕ} (a t : ℕ) {r : Transform} (c : Container s) → container_number s ≡ 0 → r ≡ answer_of a t (look (ascii "bioAssemblyList") c.entries) → Answers s a t r
+unfolding matrix_number
 container-answers {s} a t {r} c z e =
-    let d : assembliesOf s ≡ look (ascii "bioAssemblyList") c.entries = ap (λ (x : Document). look (ascii "bioAssemblyList") (entriesOf x)) (documentOf-is (map c.entries) s c.writes c.nested) in
-    answers_by (rw (eq-eqb (containerNumber s) accepted z) (ap (assembliesNumber a t) d)) (ap (λ (o : Option Document). matrixIn (transformIn a t o)) d) e
+    let d : assemblies_of s ≡ look (ascii "bioAssemblyList") c.entries = ap (λ (x : Document). look (ascii "bioAssemblyList") (entries_of x)) (document_of-is (map c.entries) s c.writes c.nested) in
+    answers_by (rw (eq-eqb (container_number s) accepted z) (ap (assemblies_number a t) d)) (ap (λ (o : Option Document). matrix_in (transform_in a t o)) d) e

@@ -4,13 +4,13 @@ use mathlib.Core.Path.{◌≡◌, refl, ◌∙◌}
 use Prim.Native.Nat.{◌-◌, ◌≤◌}
 use native.Mathlib.Omega.{arith}
 use lib.ListN.{length, drop}
-use Rattle.utf8.specs.Check.{isUtf8}
+use Rattle.utf8.specs.Check.{is_utf8}
 use Rattle.utf8.specs.Laws.Check.{ascii_run}
 use Rattle.utf8.proofs.blocks.Statement.{statement}
 use Rattle.utf8.proofs.blocks.Tie as tie
 
 abbrev invariant-loop : tie.invariant-loop
-invariant-loop bytes from width at₀ at = (from ≤ at) × (at ≤ length bytes) × (isUtf8 (drop from bytes) ≡ isUtf8 (drop at bytes))
+invariant-loop bytes from width at₀ at = (from ≤ at) × (at ≤ length bytes) × (is_utf8 (drop from bytes) ≡ is_utf8 (drop at bytes))
 
 abbrev decreases-loop : tie.decreases-loop
 decreases-loop bytes from width at₀ at = length bytes - at

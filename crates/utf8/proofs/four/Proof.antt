@@ -3,13 +3,13 @@ use mathlib.Core.Path.{ap, ◌∙◌}
 use native.Mathlib.Omega.{arith}
 use borrow.Author.Rules.{rules}
 use Rattle.utf8.specs.Step.{onward}
-use Rattle.utf8.specs.Laws.Check.{isLead-high, following-four}
+use Rattle.utf8.specs.Laws.Check.{is_lead-high, following-four}
 use Rattle.utf8.specs.Laws.Step.{lead-fault, forward-next, forward-from}
 use Rattle.utf8.proofs.four.Statement.{statement}
 use Rattle.utf8.proofs.four.Tie as tie
 
 returns : tie.Need-returns
-returns c = (lead-fault c.before.before.requires (isLead-high _ c.if1.true), tt)
+returns c = (lead-fault c.before.before.requires (is_lead-high _ c.if1.true), tt)
 
 second-requires : tie.Need-second-requires
 second-requires c κs = search rules

@@ -6,14 +6,14 @@ use native.Mathlib.Omega.{arith}
 use borrow.Author.Rules.{rules}
 use lib.ListN.{length, drop, drop_of_length-le}
 use Rattle.utf8.specs.Laws.Utf8.{decides}
-use Rattle.utf8.specs.Check.{due, isUtf8}
+use Rattle.utf8.specs.Check.{due, is_utf8}
 use Rattle.utf8.specs.Step.{onward}
 use Rattle.utf8.specs.Laws.Step.{forward-next}
 use Rattle.utf8.proofs.is_utf8.Statement.{statement}
 use Rattle.utf8.proofs.is_utf8.Tie as tie
 
 abbrev invariant-loop : tie.invariant-loop
-invariant-loop bytes at₀ at = (at ≤ length bytes) × (isUtf8 bytes ≡ isUtf8 (drop at bytes))
+invariant-loop bytes at₀ at = (at ≤ length bytes) × (is_utf8 bytes ≡ is_utf8 (drop at bytes))
 
 abbrev decreases-loop : tie.decreases-loop
 decreases-loop bytes at₀ at = length bytes - at
@@ -50,7 +50,7 @@ returns-2 : tie.Need-returns-2 invariant-loop decreases-loop
 unfolding due
 returns-2 c =
     let l = c.before in
-    let e = l.loop.invariant.1 ∙ ap isUtf8 (drop_of_length-le l.before.before.args.bytes.now c.loop-test.false) in
+    let e = l.loop.invariant.1 ∙ ap is_utf8 (drop_of_length-le l.before.before.args.bytes.now c.loop-test.false) in
     (sym e, decides (sym e))
 
 pub is-utf8-spec : {M : Type 1} → statement M

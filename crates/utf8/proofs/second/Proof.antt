@@ -2,7 +2,7 @@
 use mathlib.Core.Path.{◌∙◌}
 use native.Mathlib.Omega.{arith}
 use borrow.Author.Rules.{rules}
-use Rattle.utf8.specs.Laws.Check.{isLead-more}
+use Rattle.utf8.specs.Laws.Check.{is_lead-more}
 use Rattle.utf8.specs.Laws.Step.{lead-more, forward-from}
 use Rattle.utf8.proofs.second.Statement.{statement}
 use Rattle.utf8.proofs.second.Tie as tie
@@ -23,7 +23,7 @@ returns : tie.Need-returns
 returns c =
     let p = c.before.before.before.before.requires in (
       (λ k e.
-          lead-more p (isLead-more _ p.least (omega arith))
+          lead-more p (is_lead-more _ p.least (omega arith))
           ∙ simp (e, ← c.before.before.lowest.ensures, ← c.before.highest.ensures) (c.follow.ensures.0 k)),
       forward-from _ c.follow.result (omega arith) c.follow.ensures.1,
     )

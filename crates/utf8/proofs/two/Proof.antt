@@ -1,12 +1,12 @@
 -- `utf8::two` meets its contract: one byte follows, or the first starts no character. Assumes nothing.
 use borrow.Author.Rules.{rules}
-use Rattle.utf8.specs.Laws.Check.{isLead-low, following-two}
+use Rattle.utf8.specs.Laws.Check.{is_lead-low, following-two}
 use Rattle.utf8.specs.Laws.Step.{lead-fault}
 use Rattle.utf8.proofs.two.Statement.{statement}
 use Rattle.utf8.proofs.two.Tie as tie
 
 returns : tie.Need-returns
-returns c = (lead-fault c.before.before.requires (isLead-low _ c.before.before.requires.least c.if1.true), tt)
+returns c = (lead-fault c.before.before.requires (is_lead-low _ c.before.before.requires.least c.if1.true), tt)
 
 second-requires : tie.Need-second-requires
 second-requires c κs = search rules

@@ -5,25 +5,25 @@ use Rattle.std.proofs.Common.{◌∙◌, add-one, arith, drop_of_length-le, drop
 use borrow.Author.Tests.{ltb-true, lt-ltb, le-ltb, lt-leb, le-leb, ne_eqb}
 use Rattle.std.proofs.Math.Dec.{eqb-suc-zero}
 use Rattle.numbers.specs.Ranges.{within}
-use Rattle.utf8.specs.Check.{isLead, following, lowest, highest, due, isUtf8, isAscii}
+use Rattle.utf8.specs.Check.{is_lead, following, lowest, highest, due, is_utf8, is_ascii}
 
 -- what a byte is, by its range
 module _ (b : ℕ) where
-  pub isLead-one : b < 0x80 → isLead b ≡ true
-  unfolding isLead
-  isLead-one h = simp (lt-ltb b 0x80 h)
+  pub is_lead-one : b < 0x80 → is_lead b ≡ true
+  unfolding is_lead
+  is_lead-one h = simp (lt-ltb b 0x80 h)
 
-  pub isLead-more : 0xc2 ≤ b → b ≤ 0xf4 → isLead b ≡ true
-  unfolding isLead
-  isLead-more l h = simp (le-ltb b 0x80 (omega arith), le-leb 0xc2 b l, le-leb b 0xf4 h)
+  pub is_lead-more : 0xc2 ≤ b → b ≤ 0xf4 → is_lead b ≡ true
+  unfolding is_lead
+  is_lead-more l h = simp (le-ltb b 0x80 (omega arith), le-leb 0xc2 b l, le-leb b 0xf4 h)
 
-  pub isLead-low : 0x80 ≤ b → b < 0xc2 → isLead b ≡ false
-  unfolding isLead
-  isLead-low l h = simp (le-ltb b 0x80 l, lt-leb 0xc2 b h)
+  pub is_lead-low : 0x80 ≤ b → b < 0xc2 → is_lead b ≡ false
+  unfolding is_lead
+  is_lead-low l h = simp (le-ltb b 0x80 l, lt-leb 0xc2 b h)
 
-  pub isLead-high : 0xf4 < b → isLead b ≡ false
-  unfolding isLead
-  isLead-high h = simp (le-ltb b 0x80 (omega arith), le-leb 0xc2 b (omega arith), lt-leb b 0xf4 h)
+  pub is_lead-high : 0xf4 < b → is_lead b ≡ false
+  unfolding is_lead
+  is_lead-high h = simp (le-ltb b 0x80 (omega arith), le-leb 0xc2 b (omega arith), lt-leb b 0xf4 h)
 
   pub following-one : b < 0x80 → following b ≡ 0
   unfolding following
@@ -51,15 +51,15 @@ module _ (b : ℕ) where
 
 -- the check from a place
 
-pub due-zero : (lo hi : ℕ) (s : List ℕ) → due 0 lo hi s ≡ isUtf8 s
+pub due-zero : (lo hi : ℕ) (s : List ℕ) → due 0 lo hi s ≡ is_utf8 s
 unfolding due
 due-zero lo hi [] = refl
 due-zero lo hi (b ∷ s) = refl
 
 module _ (s : List ℕ) (i : ℕ) where
-  pub lead-at : i < length s → isUtf8 (drop i s) ≡ (isLead (get_or s i 0) && due (following (get_or s i 0)) (lowest (get_or s i 0)) (highest (get_or s i 0)) (drop (i + 1) s))
+  pub lead-at : i < length s → is_utf8 (drop i s) ≡ (is_lead (get_or s i 0) && due (following (get_or s i 0)) (lowest (get_or s i 0)) (highest (get_or s i 0)) (drop (i + 1) s))
   unfolding due
-  lead-at h = rw (add-one i) (ap isUtf8 (drop-cons s i 0 h))
+  lead-at h = rw (add-one i) (ap is_utf8 (drop-cons s i 0 h))
 
   pub due-at : (k lo hi : ℕ) → i < length s → due (suc k) lo hi (drop i s) ≡ (within lo hi (get_or s i 0) && due k 0x80 0xbf (drop (i + 1) s))
   unfolding due
@@ -70,11 +70,11 @@ module _ (s : List ℕ) (i : ℕ) where
   due-end k lo hi h = ap (due (suc k) lo hi) (drop_of_length-le s h) ∙ eqb-suc-zero k
 
   -- a byte below 80 is a character
-  pub ascii-at : i < length s → get_or s i 0 < 0x80 → isUtf8 (drop i s) ≡ isUtf8 (drop (i + 1) s)
-  ascii-at h a = lead-at h ∙ simp (isLead-one _ a, following-one _ a) (due-zero _ _ _)
+  pub ascii-at : i < length s → get_or s i 0 < 0x80 → is_utf8 (drop i s) ≡ is_utf8 (drop (i + 1) s)
+  ascii-at h a = lead-at h ∙ simp (is_lead-one _ a, following-one _ a) (due-zero _ _ _)
 
 -- so is each of a run of such bytes
-pub ascii_run : (s : List ℕ) (i n : ℕ) → i + n ≤ length s → ((j : ℕ) → j < n → get_or s (i + j) 0 < 0x80) → isUtf8 (drop i s) ≡ isUtf8 (drop (i + n) s)
+pub ascii_run : (s : List ℕ) (i n : ℕ) → i + n ≤ length s → ((j : ℕ) → j < n → get_or s (i + j) 0 < 0x80) → is_utf8 (drop i s) ≡ is_utf8 (drop (i + n) s)
 ascii_run s i zero h a = let e : i + 0 ≡ i = omega arith in rw e
 ascii_run s i (suc n) h a =
     let e : i + n + 1 ≡ i + suc n = omega arith in
@@ -82,25 +82,25 @@ ascii_run s i (suc n) h a =
 
 -- bytes below 80
 
-pub isAscii-isUtf8 : (s : List ℕ) → isAscii s ≡ true → isUtf8 s ≡ true
-unfolding isAscii due
-isAscii-isUtf8 [] h = refl
-isAscii-isUtf8 (b ∷ s) h = go (ltb b 0x80) refl h (isAscii-isUtf8 s)
+pub is_ascii-is_utf8 : (s : List ℕ) → is_ascii s ≡ true → is_utf8 s ≡ true
+unfolding is_ascii due
+is_ascii-is_utf8 [] h = refl
+is_ascii-is_utf8 (b ∷ s) h = go (ltb b 0x80) refl h (is_ascii-is_utf8 s)
   where
-    go : (t : Bool) → ltb b 0x80 ≡ t → t && isAscii s ≡ true → (isAscii s ≡ true → isUtf8 s ≡ true) → isUtf8 (b ∷ s) ≡ true
+    go : (t : Bool) → ltb b 0x80 ≡ t → t && is_ascii s ≡ true → (is_ascii s ≡ true → is_utf8 s ≡ true) → is_utf8 (b ∷ s) ≡ true
     go true e k rest = ascii-at (b ∷ s) 0 (omega arith) (ltb-true b 0x80 e) ∙ rest k
     go false e k rest = let z : ◌≡◌ {A = ℕ} 0 1 = cc in absurd (omega arith)
 
 -- one byte at a time: what is left decides
 module _ (s : List ℕ) (i : ℕ) where
-  pub isAscii-next : i < length s → get_or s i 0 < 0x80 → isAscii (drop i s) ≡ isAscii (drop (i + 1) s)
-  unfolding isAscii
-  isAscii-next h a = rw (drop-cons s i 0 h, lt-ltb _ 0x80 a, add-one)
+  pub is_ascii-next : i < length s → get_or s i 0 < 0x80 → is_ascii (drop i s) ≡ is_ascii (drop (i + 1) s)
+  unfolding is_ascii
+  is_ascii-next h a = rw (drop-cons s i 0 h, lt-ltb _ 0x80 a, add-one)
 
-  pub isAscii-not : i < length s → 0x80 ≤ get_or s i 0 → isAscii (drop i s) ≡ false
-  unfolding isAscii
-  isAscii-not h a = rw (drop-cons s i 0 h, le-ltb _ 0x80 a)
+  pub is_ascii-not : i < length s → 0x80 ≤ get_or s i 0 → is_ascii (drop i s) ≡ false
+  unfolding is_ascii
+  is_ascii-not h a = rw (drop-cons s i 0 h, le-ltb _ 0x80 a)
 
-  pub isAscii-end : length s ≤ i → isAscii (drop i s) ≡ true
-  unfolding isAscii
-  isAscii-end h = rw (drop_of_length-le s h)
+  pub is_ascii-end : length s ≤ i → is_ascii (drop i s) ≡ true
+  unfolding is_ascii
+  is_ascii-end h = rw (drop_of_length-le s h)

@@ -1,19 +1,19 @@
 -- What steps give one after another. Assumes nothing.
 use Rattle.std.specs.Prelude.{◌≡◌, true, false, List, ℕ, ◌+◌, ◌<◌, ◌≤◌, drop}
 use Rattle.std.proofs.Common.{◌∙◌, subst, arith}
-use Rattle.utf8.specs.Check.{isLead, following, lowest, highest, due, isUtf8}
+use Rattle.utf8.specs.Check.{is_lead, following, lowest, highest, due, is_utf8}
 use Rattle.utf8.specs.Step.{Forward, LeadAt}
 use Rattle.utf8.specs.Laws.Check.{lead-at}
 use Rattle.utf8.specs.declared.Step.{Step}
 use Rattle.utf8.specs.declared.Step.TheVariants.{Next, Bad}
 
 -- a byte that starts no character is a fault
-pub lead-fault : {s : List ℕ} {at lead low high : ℕ} → LeadAt s at lead low high → isLead lead ≡ false → isUtf8 (drop at s) ≡ false
+pub lead-fault : {s : List ℕ} {at lead low high : ℕ} → LeadAt s at lead low high → is_lead lead ≡ false → is_utf8 (drop at s) ≡ false
 lead-fault {s} {at} p t = lead-at s at p.inside ∙ rw (← p.same) (simp t)
 
 -- after a byte that does, what follows it decides
-pub lead-more : {s : List ℕ} {at lead low high : ℕ} → LeadAt s at lead low high → isLead lead ≡ true
-    → isUtf8 (drop at s) ≡ due (following lead) (lowest lead) (highest lead) (drop (at + 1) s)
+pub lead-more : {s : List ℕ} {at lead low high : ℕ} → LeadAt s at lead low high → is_lead lead ≡ true
+    → is_utf8 (drop at s) ≡ due (following lead) (lowest lead) (highest lead) (drop (at + 1) s)
 lead-more {s} {at} p t = lead-at s at p.inside ∙ rw (← p.same) (simp t)
 
 pub forward-next : (a e : ℕ) {n : ℕ} {r : Step} → Forward a e r → r ≡ Next n → (a < n) × (n ≤ e)

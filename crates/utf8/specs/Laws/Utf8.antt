@@ -1,12 +1,12 @@
--- `isUtf8` says yes exactly for UTF-8. A lead byte has one of eight rows, RFC 3629's table by its ABNF, and in each row the
+-- `is_utf8` says yes exactly for UTF-8. A lead byte has one of eight rows, RFC 3629's table by its ABNF, and in each row the
 -- number that the bytes hold is a scalar value in its shortest form exactly when the second byte is in the row's range. Assumes nothing.
 use Rattle.std.specs.Prelude.{◌≡◌, refl, Bool, true, false, ◌&&◌, List, [], ◌∷◌, ◌++◌, ◌⊎◌, ◌≢◌, ◌↔◌, ℕ, zero, suc, ◌+◌, ◌-◌, ◌*◌, ◌/◌, ◌<◌, ◌≤◌, ltb, leb}
 use Rattle.std.proofs.Common.{sym, ap, ◌∙◌, inl, inr, ⊎_elim, arith, lt-ltb, le-ltb, le-leb, eqb-true, ltb-true, ltb-false, leb-true}
 use Rattle.std.proofs.lemmas.Bool.{false≢true}
 use Rattle.numbers.specs.Ranges.{within}
-use Rattle.utf8.specs.Utf8.{Scalar, Scalars, continuation, encode, encodeAll, Utf8}
-use Rattle.utf8.specs.Check.{isLead, following, lowest, highest, due, isUtf8}
-use Rattle.utf8.specs.Laws.Check.{isLead-one, isLead-more, following-one, following-two, following-three, following-four, lowest-plain, highest-plain, due-zero}
+use Rattle.utf8.specs.Utf8.{Scalar, Scalars, continuation, encode, encode_all, Utf8}
+use Rattle.utf8.specs.Check.{is_lead, following, lowest, highest, due, is_utf8}
+use Rattle.utf8.specs.Laws.Check.{is_lead-one, is_lead-more, following-one, following-two, following-three, following-four, lowest-plain, highest-plain, due-zero}
 
 -- n without its last k digits of six bits
 abbrev shift : ℕ → ℕ → ℕ
@@ -43,7 +43,7 @@ data Row : ℕ → ℕ → ℕ → ℕ → Type 0 where
 
 -- what the check's tests say of a byte, which a row settles
 record Tests (b k lo hi : ℕ) : Type 0 where
-  lead : isLead b ≡ true
+  lead : is_lead b ≡ true
   more : following b ≡ k
   low : lowest b ≡ lo
   high : highest b ≡ hi
@@ -58,26 +58,26 @@ split a b = go (ltb a b) refl
 
 -- the tests of a row's byte are the row's numbers
 row-tests : {b k lo hi : ℕ} → Row b k lo hi → Tests b k lo hi
-unfolding isLead following lowest highest
+unfolding is_lead following lowest highest
 row-tests {b} (one h) =
-    record { lead = isLead-one b h; more = following-one b h; low = lowest-plain b (omega arith) (omega arith); high = highest-plain b (omega arith) (omega arith) }
+    record { lead = is_lead-one b h; more = following-one b h; low = lowest-plain b (omega arith) (omega arith); high = highest-plain b (omega arith) (omega arith) }
 row-tests {b} (two l h) =
     record {
-      lead = isLead-more b l (omega arith);
+      lead = is_lead-more b l (omega arith);
       more = following-two b (omega arith) h;
       low = lowest-plain b (omega arith) (omega arith);
       high = highest-plain b (omega arith) (omega arith);
     }
 row-tests {b} (three l h p) =
     record {
-      lead = isLead-more b (omega arith) (omega arith);
+      lead = is_lead-more b (omega arith) (omega arith);
       more = following-three b (omega arith) h;
       low = lowest-plain b (omega arith) (omega arith);
       high = highest-plain b p (omega arith);
     }
 row-tests {b} (four l h) =
     record {
-      lead = isLead-more b (omega arith) (omega arith);
+      lead = is_lead-more b (omega arith) (omega arith);
       more = following-four b (omega arith);
       low = lowest-plain b (omega arith) (omega arith);
       high = highest-plain b (omega arith) (omega arith);
@@ -106,17 +106,17 @@ encode-four n l = simp (le-ltb n 0x80 (omega arith), le-ltb n 0x800 (omega arith
 
 -- a number whose bytes fit a row is a scalar value, and they are its encoding
 row-scalar : {b k lo hi : ℕ} → Row b k lo hi → (n : ℕ) → b ≡ first k (shift k n) → Within k lo hi n → Scalar n × (encode n ≡ first k (shift k n) ∷ tail k n)
-row-scalar (one h) n e w = (record { at_most = omega arith; noSurrogate = inl (omega arith) }, encode_one n (omega arith))
-row-scalar (two l h) n e w = (record { at_most = omega arith; noSurrogate = inl (omega arith) }, encode-two n (omega arith) (omega arith))
-row-scalar (three-first b) n e w = (record { at_most = omega arith; noSurrogate = inl (omega arith) }, encode-three n (omega arith) (omega arith))
+row-scalar (one h) n e w = (record { at_most = omega arith; no_surrogate = inl (omega arith) }, encode_one n (omega arith))
+row-scalar (two l h) n e w = (record { at_most = omega arith; no_surrogate = inl (omega arith) }, encode-two n (omega arith) (omega arith))
+row-scalar (three-first b) n e w = (record { at_most = omega arith; no_surrogate = inl (omega arith) }, encode-three n (omega arith) (omega arith))
 row-scalar {b} (three l h p) n e w = (
-  record { at_most = omega arith; noSurrogate = ⊎_elim (λ x. inl (omega arith)) (λ x. inr (omega arith)) (split b 0xed) },
+  record { at_most = omega arith; no_surrogate = ⊎_elim (λ x. inl (omega arith)) (λ x. inr (omega arith)) (split b 0xed) },
   encode-three n (omega arith) (omega arith),
 )
-row-scalar (three-surrogate b) n e w = (record { at_most = omega arith; noSurrogate = inl (omega arith) }, encode-three n (omega arith) (omega arith))
-row-scalar (four-first b) n e w = (record { at_most = omega arith; noSurrogate = inr (omega arith) }, encode-four n (omega arith))
-row-scalar (four l h) n e w = (record { at_most = omega arith; noSurrogate = inr (omega arith) }, encode-four n (omega arith))
-row-scalar (four-last b) n e w = (record { at_most = omega arith; noSurrogate = inr (omega arith) }, encode-four n (omega arith))
+row-scalar (three-surrogate b) n e w = (record { at_most = omega arith; no_surrogate = inl (omega arith) }, encode-three n (omega arith) (omega arith))
+row-scalar (four-first b) n e w = (record { at_most = omega arith; no_surrogate = inr (omega arith) }, encode-four n (omega arith))
+row-scalar (four l h) n e w = (record { at_most = omega arith; no_surrogate = inr (omega arith) }, encode-four n (omega arith))
+row-scalar (four-last b) n e w = (record { at_most = omega arith; no_surrogate = inr (omega arith) }, encode-four n (omega arith))
 
 -- a scalar value's encoding in k + 1 bytes, by the row of its lead byte
 record Coded (n : ℕ) : Type 0 where
@@ -138,7 +138,7 @@ coded-three n u l h =
     (λ b.
     ⊎_elim (λ c. coded 2 0x80 0x9f n (three-surrogate (omega arith)) (omega arith) (encode-three n l h))
     (λ c. coded 2 0x80 0xbf n (three (omega arith) (omega arith) (omega arith)) (omega arith) (encode-three n l h))
-    u.noSurrogate)
+    u.no_surrogate)
     (split n 0xd000))
     (split n 0x1000)
 
@@ -199,8 +199,8 @@ and_split true b e = (refl, e)
 and_split false b e = (e, absurd (false≢true e))
 
 -- each byte that starts a character has a row
-lead-led : (b : ℕ) → isLead b ≡ true → Led b
-unfolding isLead
+lead-led : (b : ℕ) → is_lead b ≡ true → Led b
+unfolding is_lead
 lead-led b t =
     ⊎_elim (λ x. led 0 0x80 0xbf b (one x) refl)
     (λ x.
@@ -233,11 +233,11 @@ record Rest (k v lo hi : ℕ) (s : List ℕ) : Type 0 where
   valid : Scalars scalars
   digits : shift k number ≡ v
   range : Within k lo hi number
-  bytes : s ≡ tail k number ++ encodeAll scalars
+  bytes : s ≡ tail k number ++ encode_all scalars
 
 -- one byte more in front: a lead byte, whose character then joins the scalar values, or a continuation byte, whose digit joins v
 rest-lead : {b : ℕ} (d : Led b) {s : List ℕ} (v lo hi : ℕ) → Rest d.more d.bits d.lo d.hi s → Rest 0 v lo hi (b ∷ s)
-unfolding encodeAll
+unfolding encode_all
 rest-lead d v lo hi r =
     let e = d.lead ∙ ap (first d.more) (sym r.digits) in
     let n = row-scalar d.row r.number e r.range in
@@ -269,11 +269,11 @@ within-bounds {lo} {hi} {b} t =
 
 -- where the check says yes, there are such a number and scalar values
 sound : (s : List ℕ) (k v lo hi : ℕ) → 0x80 ≤ lo → hi ≤ 0xbf → due k lo hi s ≡ true → Rest k v lo hi s
-unfolding due encodeAll
+unfolding due encode_all
 sound [] zero v lo hi l h t = record { number = v; scalars = []; valid = tt; digits = refl; range = tt; bytes = refl }
 sound [] (suc k) v lo hi l h t = absurd (omega (arith, eqb-true (suc k) 0 t))
 sound (b ∷ s) zero v lo hi l h t =
-    let p = and_split (isLead b) _ t in
+    let p = and_split (is_lead b) _ t in
     let d = lead-led b p.0 in
     let g = row-range d.row in
     rest-lead d v lo hi (sound s d.more d.bits d.lo d.hi g.0 g.1 (sym (due-tests (row-tests d.row) s) ∙ p.1))
@@ -287,34 +287,34 @@ within-plain zero n = tt
 within-plain (suc k) n = omega arith
 
 -- the check passes over the continuation bytes of a number
-due-tail : (k lo hi n : ℕ) (s : List ℕ) → Within k lo hi n → due k lo hi (tail k n ++ s) ≡ isUtf8 s
+due-tail : (k lo hi n : ℕ) (s : List ℕ) → Within k lo hi n → due k lo hi (tail k n ++ s) ≡ is_utf8 s
 unfolding due
 due-tail zero lo hi n s w = due-zero lo hi s
 due-tail (suc k) lo hi n s w =
     simp (le-leb lo (continuation (shift k n)) w.0, le-leb (continuation (shift k n)) hi w.1) (due-tail k 0x80 0xbf n s (within-plain k n))
 
 -- the check says yes for encodings
-complete : (ns : List ℕ) → Scalars ns → isUtf8 (encodeAll ns) ≡ true
-unfolding due encodeAll
+complete : (ns : List ℕ) → Scalars ns → is_utf8 (encode_all ns) ≡ true
+unfolding due encode_all
 complete [] u = refl
 complete (n ∷ ns) u =
     let d = scalar-coded n u.0 in
     let q = row-tests d.row in
-    rw d.bytes (simp (q.lead, q.more, q.low, q.high) (due-tail d.more d.lo d.hi n (encodeAll ns) d.range ∙ complete ns u.1))
+    rw d.bytes (simp (q.lead, q.more, q.low, q.high) (due-tail d.more d.lo d.hi n (encode_all ns) d.range ∙ complete ns u.1))
 
 -- the two halves of `exactly`
-pub utf8-isUtf8 : {bytes : List ℕ} → Utf8 bytes → isUtf8 bytes ≡ true
-utf8-isUtf8 u = ap isUtf8 u.encoded ∙ complete u.scalars u.valid
+pub utf8-is_utf8 : {bytes : List ℕ} → Utf8 bytes → is_utf8 bytes ≡ true
+utf8-is_utf8 u = ap is_utf8 u.encoded ∙ complete u.scalars u.valid
 
-pub isUtf8-utf8 : (bytes : List ℕ) → isUtf8 bytes ≡ true → Utf8 bytes
-isUtf8-utf8 bytes t =
+pub is_utf8-utf8 : (bytes : List ℕ) → is_utf8 bytes ≡ true → Utf8 bytes
+is_utf8-utf8 bytes t =
     let r = sound bytes 0 0 0x80 0xbf (omega arith) (omega arith) t in
     record { scalars = r.scalars; valid = r.valid; encoded = r.bytes }
 
 -- the check says yes exactly for UTF-8, for all lists of numbers
-pub exactly : (bytes : List ℕ) → (isUtf8 bytes ≡ true) ↔ Utf8 bytes
-exactly bytes = (isUtf8-utf8 bytes, utf8-isUtf8)
+pub exactly : (bytes : List ℕ) → (is_utf8 bytes ≡ true) ↔ Utf8 bytes
+exactly bytes = (is_utf8-utf8 bytes, utf8-is_utf8)
 
 -- so does any answer that equals it
-pub decides : {bytes : List ℕ} {r : Bool} → r ≡ isUtf8 bytes → (r ≡ true) ↔ Utf8 bytes
+pub decides : {bytes : List ℕ} {r : Bool} → r ≡ is_utf8 bytes → (r ≡ true) ↔ Utf8 bytes
 decides e = rw e (exactly _)

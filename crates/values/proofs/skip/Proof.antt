@@ -3,7 +3,7 @@ use mathlib.Core.Path.{◌≡◌}
 use Prim.Native.Nat.{ℕ, ◌-◌}
 use native.Mathlib.Omega.{arith}
 use lib.ListN.{length}
-use Rattle.heads.specs.Table.{leadTable}
+use Rattle.heads.specs.Table.{lead_table}
 use Rattle.values.specs.Standing.{Standing}
 use Rattle.values.specs.Laws.Standing.{standing-counts, standing-inside, standing-none, standing-suc, standing-swap, stepped-stop, stepped-on}
 use borrow.Author.Rules.{rules}
@@ -11,7 +11,7 @@ use Rattle.values.proofs.skip.Statement.{statement}
 use Rattle.values.proofs.skip.Tie as tie
 
 abbrev invariant-loop : tie.invariant-loop
-invariant-loop leads file at left₀ p₀ left p = leads ≡ leadTable → (e : ℕ) → Standing file 1 at e → Standing file left p e
+invariant-loop leads file at left₀ p₀ left p = leads ≡ lead_table → (e : ℕ) → Standing file 1 at e → Standing file left p e
 
 abbrev decreases-loop : tie.decreases-loop
 decreases-loop leads file at left₀ p₀ left p = length file - p

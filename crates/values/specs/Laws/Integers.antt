@@ -7,15 +7,15 @@ use Rattle.std.proofs.Math.Option.{Option, some, none as nothing}
 use Prim.Native.Nat.{ℕ, zero, suc, ◌+◌, ◌-◌, ◌≤◌, ◌<◌}
 use Rattle.std.proofs.lemmas.Bool.{lt-leb}
 use Rattle.std.specs.Int.Signed.{le_z, lt_z}
-use Rattle.numbers.specs.Ranges.{integerLimit, allPass, between, allBetween, below, all_below, lastIndex}
+use Rattle.numbers.specs.Ranges.{integer_limit, all_pass, between, all_between, below, all_below, last_index}
 use Rattle.messagepack.specs.Document.{Document, Documents, integer, float, string, binary, array, map, none, item, count}
 use Rattle.messagepack.specs.Rules.{Keeps, KeepsAll, InRange}
-use Rattle.values.specs.Parts.{integerOf, items_of, items_in}
+use Rattle.values.specs.Parts.{integer_of, items_of, items_in}
 use Rattle.values.specs.Places.{At, AtAll}
 use Rattle.values.specs.Laws.Places.{open-item, at-inside, all-inside, read_low}
 use Rattle.values.specs.Standing.{LowRun}
 use Rattle.values.specs.Laws.Standing.{low_first, low-rest}
-use Rattle.values.specs.Integers.{integersOf, noneNegative, sum, summed, arrayLength}
+use Rattle.values.specs.Integers.{integers_of, none_negative, sum, summed, array_length}
 use Rattle.values.specs.declared.lists.Sum.{Sum}
 
 -- an array has no more values than the file has bytes
@@ -27,8 +27,8 @@ all-few (item d ds) a =
     let i = at-inside o.first in
     omega (arith, i.0, all-inside ds i.1 o.rest)
 
-pub length-integers : (ds : Documents) → length (integersOf ds) ≡ count ds
-unfolding integersOf count
+pub length-integers : (ds : Documents) → length (integers_of ds) ≡ count ds
+unfolding integers_of count
 length-integers none = refl
 length-integers (item d ds) = ap suc (length-integers ds)
 
@@ -51,8 +51,8 @@ pub record Summing (s : List ℕ) (ds : Documents) (p left total e : ℕ) : Type
   pub rest : Documents
   pub all : AtAll s p rest e
   pub counts : count rest ≡ left
-  pub negative : noneNegative (integersOf ds) ≡ noneNegative (integersOf rest)
-  pub sums : sum (integersOf ds) ≡ total + sum (integersOf rest)
+  pub negative : none_negative (integers_of ds) ≡ none_negative (integers_of rest)
+  pub sums : sum (integers_of ds) ≡ total + sum (integers_of rest)
 
 pub summing_start : {s : List ℕ} {ds : Documents} {p n e : ℕ} → AtAll s p ds e → count ds ≡ n → Summing s ds p n 0 e
 summing_start {ds = ds} a c = record { rest = ds; all = a; counts = c; negative = refl; sums = omega arith }
@@ -65,36 +65,36 @@ isneg : (v : ℤ) → lt_z v (pos 0) ≡ true → le_z (pos 0) v ≡ false
 isneg (pos n) h = let l : n < 0 = ltb-true n 0 h in absurd (omega arith)
 isneg (negsuc n) h = refl
 
-pub summing-more : {s : List ℕ} {ds : Documents} {p left total e q : ℕ} (v : ℤ) (m : ℕ) → Summing s ds p left total e → 0 < left → lt_z v (pos 0) ≡ false → m ≡ nat_abs v → ((x : Document) (f : ℕ) → At s p x f → (v ≡ integerOf x) × (q ≡ f)) → Summing s ds q (left - 1) (total + m) e
-unfolding integersOf count sum allPass
+pub summing-more : {s : List ℕ} {ds : Documents} {p left total e q : ℕ} (v : ℤ) (m : ℕ) → Summing s ds p left total e → 0 < left → lt_z v (pos 0) ≡ false → m ≡ nat_abs v → ((x : Document) (f : ℕ) → At s p x f → (v ≡ integer_of x) × (q ≡ f)) → Summing s ds q (left - 1) (total + m) e
+unfolding integers_of count sum all_pass
 summing-more {s} {ds} {p} {left} {total} {e} {q} v m k l h i f =
     let n = next_of k.rest k.all k.counts l in
     let g = f n.d n.q n.first in
     let c : suc (count n.rest) ≡ left = sym (ap count n.is) ∙ k.counts in
-    let u : integersOf k.rest ≡ v ∷ integersOf n.rest = ap integersOf n.is ∙ ap (λ (z : ℤ). z ∷ integersOf n.rest) (sym g.0) in
-    let w : sum (integersOf k.rest) ≡ nat_abs v + sum (integersOf n.rest) = ap sum u in
+    let u : integers_of k.rest ≡ v ∷ integers_of n.rest = ap integers_of n.is ∙ ap (λ (z : ℤ). z ∷ integers_of n.rest) (sym g.0) in
+    let w : sum (integers_of k.rest) ≡ nat_abs v + sum (integers_of n.rest) = ap sum u in
     record {
       rest = n.rest;
       all = subst (λ (j : ℕ). AtAll s j n.rest e) (sym g.1) n.all;
       counts = omega arith;
-      negative = k.negative ∙ ap noneNegative u ∙ ap (λ (b : Bool). b && noneNegative (integersOf n.rest)) (nonneg v h);
+      negative = k.negative ∙ ap none_negative u ∙ ap (λ (b : Bool). b && none_negative (integers_of n.rest)) (nonneg v h);
       sums = omega (arith, k.sums);
     }
 
-pub summing-negative : {s : List ℕ} {ds : Documents} {p left total e : ℕ} (v : ℤ) → Summing s ds p left total e → 0 < left → lt_z v (pos 0) ≡ true → ((x : Document) (f : ℕ) → At s p x f → v ≡ integerOf x) → Sum.Negative ≡ summed (integersOf ds)
-unfolding integersOf allPass
+pub summing-negative : {s : List ℕ} {ds : Documents} {p left total e : ℕ} (v : ℤ) → Summing s ds p left total e → 0 < left → lt_z v (pos 0) ≡ true → ((x : Document) (f : ℕ) → At s p x f → v ≡ integer_of x) → Sum.Negative ≡ summed (integers_of ds)
+unfolding integers_of all_pass
 summing-negative {s} {ds} v k l h f =
     let n = next_of k.rest k.all k.counts l in
-    let u : integersOf k.rest ≡ v ∷ integersOf n.rest = ap integersOf n.is ∙ ap (λ (z : ℤ). z ∷ integersOf n.rest) (sym (f n.d n.q n.first)) in
-    let e : noneNegative (integersOf ds) ≡ false = k.negative ∙ ap noneNegative u ∙ ap (λ (b : Bool). b && noneNegative (integersOf n.rest)) (isneg v h) in
+    let u : integers_of k.rest ≡ v ∷ integers_of n.rest = ap integers_of n.is ∙ ap (λ (z : ℤ). z ∷ integers_of n.rest) (sym (f n.d n.q n.first)) in
+    let e : none_negative (integers_of ds) ≡ false = k.negative ∙ ap none_negative u ∙ ap (λ (b : Bool). b && none_negative (integers_of n.rest)) (isneg v h) in
     rw e
 
-pub summing-end : {s : List ℕ} {ds : Documents} {p left total e : ℕ} → Summing s ds p left total e → left ≤ 0 → Sum.Is total ≡ summed (integersOf ds)
-unfolding integersOf count sum allPass
+pub summing-end : {s : List ℕ} {ds : Documents} {p left total e : ℕ} → Summing s ds p left total e → left ≤ 0 → Sum.Is total ≡ summed (integers_of ds)
+unfolding integers_of count sum all_pass
 summing-end {s} {ds} {p} {left} {total} {e} k l = go k.rest k.counts k.negative k.sums
   where
-    go : (r : Documents) → count r ≡ left → noneNegative (integersOf ds) ≡ noneNegative (integersOf r) → sum (integersOf ds) ≡ total + sum (integersOf r) → Sum.Is total ≡ summed (integersOf ds)
-    go none c n q = let z : sum (integersOf ds) ≡ total = omega arith in rw (n, z)
+    go : (r : Documents) → count r ≡ left → none_negative (integers_of ds) ≡ none_negative (integers_of r) → sum (integers_of ds) ≡ total + sum (integers_of r) → Sum.Is total ≡ summed (integers_of ds)
+    go none c n q = let z : sum (integers_of ds) ≡ total = omega arith in rw (n, z)
     go (item d r) c n q = absurd (omega arith)
 
 -- what is left of values ds that are judged one by one
@@ -102,38 +102,38 @@ pub record Judging (s : List ℕ) (ds : Documents) (test : ℤ → Bool) (p left
   pub rest : Documents
   pub all : AtAll s p rest e
   pub counts : count rest ≡ left
-  pub same : allPass test (integersOf ds) ≡ allPass test (integersOf rest)
+  pub same : all_pass test (integers_of ds) ≡ all_pass test (integers_of rest)
 
 pub judging-start : {s : List ℕ} {ds : Documents} {test : ℤ → Bool} {p n e : ℕ} → AtAll s p ds e → count ds ≡ n → Judging s ds test p n e
 judging-start {ds = ds} a c = record { rest = ds; all = a; counts = c; same = refl }
 
 module _ {s : List ℕ} {ds : Documents} {test : ℤ → Bool} {p left e : ℕ} (v : ℤ) (k : Judging s ds test p left e) (l : 0 < left) where
-  pub judging-more : {q : ℕ} → test v ≡ true → ((x : Document) (f : ℕ) → At s p x f → (v ≡ integerOf x) × (q ≡ f)) → Judging s ds test q (left - 1) e
-  unfolding integersOf count allPass
+  pub judging-more : {q : ℕ} → test v ≡ true → ((x : Document) (f : ℕ) → At s p x f → (v ≡ integer_of x) × (q ≡ f)) → Judging s ds test q (left - 1) e
+  unfolding integers_of count all_pass
   judging-more t f =
       let n = next_of k.rest k.all k.counts l in
       let g = f n.d n.q n.first in
       let c : suc (count n.rest) ≡ left = sym (ap count n.is) ∙ k.counts in
-      let u : integersOf k.rest ≡ v ∷ integersOf n.rest = ap integersOf n.is ∙ ap (λ (z : ℤ). z ∷ integersOf n.rest) (sym g.0) in
+      let u : integers_of k.rest ≡ v ∷ integers_of n.rest = ap integers_of n.is ∙ ap (λ (z : ℤ). z ∷ integers_of n.rest) (sym g.0) in
       record {
         rest = n.rest;
         all = subst (λ (j : ℕ). AtAll s j n.rest e) (sym g.1) n.all;
         counts = omega arith;
-        same = k.same ∙ ap (allPass test) u ∙ ap (λ (b : Bool). b && allPass test (integersOf n.rest)) t;
+        same = k.same ∙ ap (all_pass test) u ∙ ap (λ (b : Bool). b && all_pass test (integers_of n.rest)) t;
       }
 
-  pub judging-out : test v ≡ false → ((x : Document) (f : ℕ) → At s p x f → v ≡ integerOf x) → false ≡ allPass test (integersOf ds)
-  unfolding integersOf allPass
+  pub judging-out : test v ≡ false → ((x : Document) (f : ℕ) → At s p x f → v ≡ integer_of x) → false ≡ all_pass test (integers_of ds)
+  unfolding integers_of all_pass
   judging-out t f =
       let n = next_of k.rest k.all k.counts l in
-      let u : integersOf k.rest ≡ v ∷ integersOf n.rest = ap integersOf n.is ∙ ap (λ (z : ℤ). z ∷ integersOf n.rest) (sym (f n.d n.q n.first)) in
-      sym (k.same ∙ ap (allPass test) u ∙ ap (λ (b : Bool). b && allPass test (integersOf n.rest)) t)
+      let u : integers_of k.rest ≡ v ∷ integers_of n.rest = ap integers_of n.is ∙ ap (λ (z : ℤ). z ∷ integers_of n.rest) (sym (f n.d n.q n.first)) in
+      sym (k.same ∙ ap (all_pass test) u ∙ ap (λ (b : Bool). b && all_pass test (integers_of n.rest)) t)
 
-pub judging-end : {s : List ℕ} {ds : Documents} {test : ℤ → Bool} {p left e : ℕ} → Judging s ds test p left e → left ≤ 0 → true ≡ allPass test (integersOf ds)
-unfolding integersOf count allPass
+pub judging-end : {s : List ℕ} {ds : Documents} {test : ℤ → Bool} {p left e : ℕ} → Judging s ds test p left e → left ≤ 0 → true ≡ all_pass test (integers_of ds)
+unfolding integers_of count all_pass
 judging-end {s} {ds} {test} {p} {left} k l = go k.rest k.counts k.same
   where
-    go : (r : Documents) → count r ≡ left → allPass test (integersOf ds) ≡ allPass test (integersOf r) → true ≡ allPass test (integersOf ds)
+    go : (r : Documents) → count r ≡ left → all_pass test (integers_of ds) ≡ all_pass test (integers_of r) → true ≡ all_pass test (integers_of ds)
     go none c q = sym q
     go (item d r) c q = absurd (omega arith)
 
@@ -149,11 +149,11 @@ low-judging {s} {ds} {test} {e} (suc n) p l pass k =
     let others : (i : ℕ) → i < n → test (pos (get_or s (p + 1 + i) 0)) ≡ true = λ i h. subst (λ (q : ℕ). test (pos (get_or s q 0)) ≡ true) (omega arith) (pass (suc i) (omega arith)) in
     subst (λ (q : ℕ). Judging s ds test q 0 e) (omega arith) (low-judging n (p + 1) (low-rest l) others o)
 
-pub low-pass : {s : List ℕ} {ds : Documents} {p n e : ℕ} (test : ℤ → Bool) → AtAll s p ds e → count ds ≡ n → LowRun s p n → ((i : ℕ) → i < n → test (pos (get_or s (p + i) 0)) ≡ true) → true ≡ allPass test (integersOf ds)
+pub low-pass : {s : List ℕ} {ds : Documents} {p n e : ℕ} (test : ℤ → Bool) → AtAll s p ds e → count ds ≡ n → LowRun s p n → ((i : ℕ) → i < n → test (pos (get_or s (p + i) 0)) ≡ true) → true ≡ all_pass test (integers_of ds)
 low-pass {p = p} {n = n} test a c l pass = judging-end (low-judging n p l pass (judging-start a c)) (omega arith)
 
 -- the integers of a document that keeps the rules are in range
-in-range : (x : Document) → Keeps x → InRange (integerOf x)
+in-range : (x : Document) → Keeps x → InRange (integer_of x)
 unfolding Keeps
 in-range (integer v) k = k
 in-range (float bits) k = lit≤ tt
@@ -172,38 +172,38 @@ items_keep (binary t) k = tt
 items_keep (map es) k = tt
 
 -- indices by the last of them, where the table is short or the number is in range
-below-between : (n : ℕ) (x : ℤ) → (suc integerLimit < n → InRange x) → below n x ≡ between (pos 0) (lastIndex n) x
+below-between : (n : ℕ) (x : ℤ) → (suc integer_limit < n → InRange x) → below n x ≡ between (pos 0) (last_index n) x
 below-between zero (pos i) r = le-ltb i 0 (omega arith) ∙ sym (ap (λ (b : Bool). b && false) (le-leb 0 i (omega arith)))
 below-between zero (negsuc i) r = refl
-below-between (suc n) (pos i) r = sym (ap (λ (b : Bool). b && leb i (cond (leb n integerLimit) n integerLimit)) (le-leb 0 i (omega arith)) ∙ go (leb n integerLimit) refl)
+below-between (suc n) (pos i) r = sym (ap (λ (b : Bool). b && leb i (cond (leb n integer_limit) n integer_limit)) (le-leb 0 i (omega arith)) ∙ go (leb n integer_limit) refl)
   where
     same : (b : Bool) → ltb i (suc n) ≡ b → leb i n ≡ ltb i (suc n)
     same true e = le-leb i n (omega (arith, ltb-true i (suc n) e)) ∙ sym e
     same false e = lt-leb i n (omega (arith, ltb-false i (suc n) e)) ∙ sym e
 
-    go : (b : Bool) → leb n integerLimit ≡ b → leb i (cond b n integerLimit) ≡ ltb i (suc n)
+    go : (b : Bool) → leb n integer_limit ≡ b → leb i (cond b n integer_limit) ≡ ltb i (suc n)
     go true e = same (ltb i (suc n)) refl
     go false e =
-        let l : integerLimit < n = leb-false n integerLimit e in
-        let s : i ≤ integerLimit = r (omega arith) in
-        le-leb i integerLimit s ∙ sym (lt-ltb i (suc n) (omega arith))
+        let l : integer_limit < n = leb-false n integer_limit e in
+        let s : i ≤ integer_limit = r (omega arith) in
+        le-leb i integer_limit s ∙ sym (lt-ltb i (suc n) (omega arith))
 below-between (suc n) (negsuc i) r = refl
 
-pub all-below : (n : ℕ) (ds : Documents) → KeepsAll ds → all_below n (integersOf ds) ≡ allBetween (pos 0) (lastIndex n) (integersOf ds)
-unfolding allPass integersOf Keeps
+pub all-below : (n : ℕ) (ds : Documents) → KeepsAll ds → all_below n (integers_of ds) ≡ all_between (pos 0) (last_index n) (integers_of ds)
+unfolding all_pass integers_of Keeps
 all-below n none k = refl
-all-below n (item d ds) k = ap₂ ◌&&◌ (below-between n (integerOf d) (λ l. in-range d k.0)) (all-below n ds k.1)
+all-below n (item d ds) k = ap₂ ◌&&◌ (below-between n (integer_of d) (λ l. in-range d k.0)) (all-below n ds k.1)
 
-pub few-below : (n : ℕ) (xs : List ℤ) → n ≤ integerLimit → all_below n xs ≡ allBetween (pos 0) (lastIndex n) xs
-unfolding allPass
+pub few-below : (n : ℕ) (xs : List ℤ) → n ≤ integer_limit → all_below n xs ≡ all_between (pos 0) (last_index n) xs
+unfolding all_pass
 few-below n [] l = refl
 few-below n (x ∷ xs) l = ap₂ ◌&&◌ (below-between n x (λ m. absurd (omega arith))) (few-below n xs l)
 
 pub none_below : (n : ℕ) → all_below n [] ≡ true
-unfolding allPass
+unfolding all_pass
 none_below n = refl
 
-pub length-count : (o : Option Document) → (arrayLength o).count ≡ count (items_in o)
+pub length-count : (o : Option Document) → (array_length o).count ≡ count (items_in o)
 unfolding count
 length-count (some x) = refl
 length-count nothing = refl

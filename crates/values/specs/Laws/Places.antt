@@ -7,22 +7,22 @@ use Rattle.std.proofs.Math.Bool.{true}
 use Rattle.std.proofs.Math.Option.{Option, some, none as nothing}
 use Rattle.std.proofs.Math.IntN.{pos}
 use Rattle.std.proofs.Math.Seq.{drop-length}
-use Rattle.heads.specs.Lead.{kind_of, moreOf}
-use Rattle.heads.specs.Head.{HeadOf, kind_at, headAt}
+use Rattle.heads.specs.Lead.{kind_of, more_of}
+use Rattle.heads.specs.Head.{HeadOf, kind_at, head_at}
 use Rattle.heads.specs.declared.Kind.{Kind}
 use Rattle.heads.specs.declared.Head.{Head}
 use Rattle.heads.specs.Span.{Span}
 use Rattle.heads.specs.Laws.Span.{span_none, holds, fits}
 use Rattle.heads.specs.Laws.Head.{Told, head-told, kind-in, head-held, head-number}
-use Rattle.numbers.specs.BigEndian.{unsignedAt}
-use Rattle.heads.specs.Laws.Table.{moreOf-bound, moreOf-four, low-lead, string-lead}
-use Rattle.numbers.specs.Laws.BigEndian.{length-bytesOf}
+use Rattle.numbers.specs.BigEndian.{unsigned_at}
+use Rattle.heads.specs.Laws.Table.{more_of-bound, more_of-four, low-lead, string-lead}
+use Rattle.numbers.specs.Laws.BigEndian.{length-bytes_of}
 use Rattle.numbers.specs.Laws.Tests.{clash}
-use Rattle.messagepack.specs.Document.{Document, Documents, Entries, integer, float, string, binary, array, map, none, item, empty, entry, count, size, signedValue, UnsignedOf, SignedOf, TextOf, Writes, WritesAll, WritesEntries}
+use Rattle.messagepack.specs.Document.{Document, Documents, Entries, integer, float, string, binary, array, map, none, item, empty, entry, count, size, signed_value, UnsignedOf, SignedOf, TextOf, Writes, WritesAll, WritesEntries}
 use Rattle.messagepack.specs.Rules.{Keeps, KeepsAll, KeepsEntries, Distinct, NoKey, InRange, Container}
-use Rattle.values.specs.Parts.{integerOf}
-use Rattle.values.specs.Places.{At, AtAll, AtEntries, PlaceSays, gone, there, TextAt, ItemsAt, EntriesAt, last_of, half_of, unsignedBy, signedBy}
-use Rattle.values.specs.Heads.{isInteger, is_signed, is_float, isString, isBinary, isArray, isMap, no_part}
+use Rattle.values.specs.Parts.{integer_of}
+use Rattle.values.specs.Places.{At, AtAll, AtEntries, PlaceSays, gone, there, TextAt, ItemsAt, EntriesAt, last_of, half_of, unsigned_by, signed_by}
+use Rattle.values.specs.Heads.{is_integer, is_signed, is_float, is_string, is_binary, is_array, is_map, no_part}
 use Rattle.values.specs.declared.Part.{Part}
 use Rattle.values.specs.Standing.{Standing}
 use Rattle.values.specs.Laws.Standing.{span-split, writes-long, standing-one, stands-head}
@@ -118,7 +118,7 @@ open-float {s} {p} {e} {bits} a =
 -- an integer is its head: unsigned, or signed with so many bytes after its lead byte
 pub data OpenInteger (s : List ℕ) (p : ℕ) (v : ℤ) (e : ℕ) : Type 0 where
   unsigned : (n : ℕ) → Told s p Kind.Unsigned n e → v ≡ pos n → OpenInteger s p v e
-  signed : (k n : ℕ) → Told s p Kind.Signed n e → e ≡ p + suc k → k ≤ 4 → (2 < k → k ≡ 4) → v ≡ signedValue k n → OpenInteger s p v e
+  signed : (k n : ℕ) → Told s p Kind.Signed n e → e ≡ p + suc k → k ≤ 4 → (2 < k → k ≡ 4) → v ≡ signed_value k n → OpenInteger s p v e
 
 pub open-integer : {s : List ℕ} {p e : ℕ} {v : ℤ} → At s p (integer v) e → OpenInteger s p v e
 unfolding Writes
@@ -130,12 +130,12 @@ open-integer {s} {p} {e} {v} a = go a.writes
         unsigned o.n (subst (Told s p Kind.Unsigned o.n) (sym a.span.ends) t.0) o.is
     go (inr o) =
         let t = head-split a.w a.w [] o.head (sym (append-nil a.w)) a.span in
-        let m : ℕ = moreOf o.head.lead in
-        let l : length a.w ≡ suc m = ap length o.head.is ∙ ap suc (length-bytesOf m o.n) in
-        signed m o.n (subst (Told s p Kind.Signed o.n) (sym a.span.ends) t.0) (a.span.ends ∙ ap (λ (i : ℕ). p + i) l) (moreOf-bound o.head.lead) (moreOf-four o.head.lead) o.is
+        let m : ℕ = more_of o.head.lead in
+        let l : length a.w ≡ suc m = ap length o.head.is ∙ ap suc (length-bytes_of m o.n) in
+        signed m o.n (subst (Told s p Kind.Signed o.n) (sym a.span.ends) t.0) (a.span.ends ∙ ap (λ (i : ℕ). p + i) l) (more_of-bound o.head.lead) (more_of-four o.head.lead) o.is
 
 -- a signed head's integer by the head's size
-pub signed-sized : (k n : ℕ) → k ≤ 4 → (2 < k → k ≡ 4) → signedValue k n ≡ signedBy n (suc k)
+pub signed-sized : (k n : ℕ) → k ≤ 4 → (2 < k → k ≡ 4) → signed_value k n ≡ signed_by n (suc k)
 signed-sized zero n le f = rw (le-ltb n 0 (omega arith))
 signed-sized (suc zero) n le f = refl
 signed-sized (suc (suc zero)) n le f = refl
@@ -195,28 +195,28 @@ outer-at {s} c = record {
 
 -- whether a kind is that of a document's heads
 abbrev pub heads : Document → Kind → Bool
-heads (integer v) k = isInteger k
+heads (integer v) k = is_integer k
 heads (float bits) k = is_float k
-heads (string t) k = isString k
-heads (binary t) k = isBinary k
-heads (array ds) k = isArray k
-heads (map es) k = isMap k
+heads (string t) k = is_string k
+heads (binary t) k = is_binary k
+heads (array ds) k = is_array k
+heads (map es) k = is_map k
 
 -- the kind that is read where a document stands is one of its heads'
 pub at-heads : {s : List ℕ} {p e : ℕ} (x : Document) → At s p x e → heads x (kind_at s p) ≡ true
 at-heads {s} {p} {e} (integer v) a = go (open-integer a)
   where
-    go : OpenInteger s p v e → isInteger (kind_at s p) ≡ true
-    go (unsigned n t q) = ap isInteger t.kind
-    go (signed k n t q le f i) = ap isInteger t.kind
+    go : OpenInteger s p v e → is_integer (kind_at s p) ≡ true
+    go (unsigned n t q) = ap is_integer t.kind
+    go (signed k n t q le f i) = ap is_integer t.kind
 at-heads (float bits) a = ap is_float (open-float a).kind
-at-heads (string t) a = ap isString (open-string a).told.kind
-at-heads (binary t) a = ap isBinary (open-binary a).told.kind
-at-heads (array ds) a = ap isArray (open_array a).told.kind
-at-heads (map es) a = ap isMap (open-map a).told.kind
+at-heads (string t) a = ap is_string (open-string a).told.kind
+at-heads (binary t) a = ap is_binary (open-binary a).told.kind
+at-heads (array ds) a = ap is_array (open_array a).told.kind
+at-heads (map es) a = ap is_map (open-map a).told.kind
 
 -- and there is a head
-pub at_head : {s : List ℕ} {p e : ℕ} {x : Document} → At s p x e → headAt s p ≡ Head.Cut → ⊥
+pub at_head : {s : List ℕ} {p e : ℕ} {x : Document} → At s p x e → head_at s p ≡ Head.Cut → ⊥
 at_head {s} {p} {e} a = stands-head s p 0 e (at-standing a)
 
 -- a document with heads of another kind has none of a kind's parts
@@ -224,10 +224,10 @@ module _ {s : List ℕ} {p e : ℕ} (x : Document) (a : At s p x e) {k : Kind} (
   pub read-heads : heads x k ≡ true
   read-heads = ap (heads x) (sym q) ∙ at-heads x a
 
-  pub no-integer : isInteger k ≡ false → pos 0 ≡ integerOf x
+  pub no-integer : is_integer k ≡ false → pos 0 ≡ integer_of x
   no-integer f = go x read-heads
     where
-      go : (y : Document) → heads y k ≡ true → pos 0 ≡ integerOf y
+      go : (y : Document) → heads y k ≡ true → pos 0 ≡ integer_of y
       go (integer v) h = clash (sym f ∙ h)
       go (float bits) h = refl
       go (string t) h = refl
@@ -235,7 +235,7 @@ module _ {s : List ℕ} {p e : ℕ} (x : Document) (a : At s p x e) {k : Kind} (
       go (array ds) h = refl
       go (map es) h = refl
 
-  pub no_text : isString k ≡ false → isBinary k ≡ false → TextAt s x e no_part
+  pub no_text : is_string k ≡ false → is_binary k ≡ false → TextAt s x e no_part
   no_text f g = go x read-heads
     where
       go : (y : Document) → heads y k ≡ true → TextAt s y e no_part
@@ -246,7 +246,7 @@ module _ {s : List ℕ} {p e : ℕ} (x : Document) (a : At s p x e) {k : Kind} (
       go (array ds) h = record { is = refl; ends = tt }
       go (map es) h = record { is = refl; ends = tt }
 
-  pub no_items : isArray k ≡ false → ItemsAt s x no_part
+  pub no_items : is_array k ≡ false → ItemsAt s x no_part
   unfolding count WritesAll KeepsAll
   no_items f = go x read-heads
     where
@@ -261,7 +261,7 @@ module _ {s : List ℕ} {p e : ℕ} (x : Document) (a : At s p x e) {k : Kind} (
       go (float bits) h = record { counts = refl; end = 0; all = nothing }
       go (map es) h = record { counts = refl; end = 0; all = nothing }
 
-  pub no-entries : isMap k ≡ false → EntriesAt s x no_part
+  pub no-entries : is_map k ≡ false → EntriesAt s x no_part
   unfolding size WritesEntries KeepsEntries Distinct
   no-entries f = go x read-heads
     where
@@ -277,7 +277,7 @@ module _ {s : List ℕ} {p e : ℕ} (x : Document) (a : At s p x e) {k : Kind} (
       go (array ds) h = record { counts = refl; end = 0; all = nothing }
 
 -- what is read of a head, by the document that stands there
-module _ {s : List ℕ} {p e : ℕ} (x : Document) (a : At s p x e) {n r : ℕ} (h : headAt s p ≡ Head.At n r) where
+module _ {s : List ℕ} {p e : ℕ} (x : Document) (a : At s p x e) {n r : ℕ} (h : head_at s p ≡ Head.At n r) where
   same_number : {k : Kind} {m q : ℕ} → Told s p k m q → (m ≡ n) × (q ≡ r)
   same_number t = let g = sym t.head ∙ h in (cc, cc)
 
@@ -297,14 +297,14 @@ module _ {s : List ℕ} {p e : ℕ} (x : Document) (a : At s p x e) {n r : ℕ} 
       go (array ds) b f = clash f
       go (map es) b f = clash f
 
-  pub read-unsigned : kind_at s p ≡ Kind.Unsigned → unsignedBy n ≡ integerOf x
+  pub read-unsigned : kind_at s p ≡ Kind.Unsigned → unsigned_by n ≡ integer_of x
   unfolding Keeps
   read-unsigned q = go x a (read-heads x a q)
     where
-      go : (y : Document) → At s p y e → heads y Kind.Unsigned ≡ true → unsignedBy n ≡ integerOf y
+      go : (y : Document) → At s p y e → heads y Kind.Unsigned ≡ true → unsigned_by n ≡ integer_of y
       go (integer v) b f = by (open-integer b)
         where
-          by : OpenInteger s p v e → unsignedBy n ≡ v
+          by : OpenInteger s p v e → unsigned_by n ≡ v
           by (unsigned m t i) =
               let l : n ≤ 2147483647 = subst (λ (j : ℕ). j ≤ 2147483647) (same_number t).0 (subst InRange i b.keeps) in
               rw (le-leb n 2147483647 l) (ap pos (sym (same_number t).0) ∙ sym i)
@@ -315,13 +315,13 @@ module _ {s : List ℕ} {p e : ℕ} (x : Document) (a : At s p x e) {n r : ℕ} 
       go (array ds) b f = clash f
       go (map es) b f = clash f
 
-  pub read-signed : kind_at s p ≡ Kind.Signed → signedBy n (r - p) ≡ integerOf x
+  pub read-signed : kind_at s p ≡ Kind.Signed → signed_by n (r - p) ≡ integer_of x
   read-signed q = go x a (read-heads x a q)
     where
-      go : (y : Document) → At s p y e → heads y Kind.Signed ≡ true → signedBy n (r - p) ≡ integerOf y
+      go : (y : Document) → At s p y e → heads y Kind.Signed ≡ true → signed_by n (r - p) ≡ integer_of y
       go (integer v) b f = by (open-integer b)
         where
-          by : OpenInteger s p v e → signedBy n (r - p) ≡ v
+          by : OpenInteger s p v e → signed_by n (r - p) ≡ v
           by (unsigned m t i) = clash (ap is_signed (sym t.kind ∙ q))
           by (signed k m t w le g i) =
               let j : r - p ≡ suc k = omega (arith, (same_number t).1) in
@@ -333,20 +333,20 @@ module _ {s : List ℕ} {p e : ℕ} (x : Document) (a : At s p x e) {n r : ℕ} 
       go (map es) b f = clash f
 
 -- an integer in its lead byte
-pub read_low : {s : List ℕ} {p e : ℕ} (x : Document) → At s p x e → (lt : p < length s) → get_or s p 0 < 0x80 → (pos (get_or s p 0) ≡ integerOf x) × (p + 1 ≡ e)
+pub read_low : {s : List ℕ} {p e : ℕ} (x : Document) → At s p x e → (lt : p < length s) → get_or s p 0 < 0x80 → (pos (get_or s p 0) ≡ integer_of x) × (p + 1 ≡ e)
 read_low {s} {p} {e} x a lt small =
     let l = low-lead (get_or s p 0) small in
     let k : kind_at s p ≡ Kind.Unsigned = kind-in s p lt ∙ l.kind in
-    let h : headAt s p ≡ Head.At (get_or s p 0) (p + 1) = sym (head-held s p {size = 1} (rw l.more) refl (omega arith) (sym l.held)) in
-    let u : unsignedBy (get_or s p 0) ≡ integerOf x = read-unsigned x a h k in
+    let h : head_at s p ≡ Head.At (get_or s p 0) (p + 1) = sym (head-held s p {size = 1} (rw l.more) refl (omega arith) (sym l.held)) in
+    let u : unsigned_by (get_or s p 0) ≡ integer_of x = read-unsigned x a h k in
     (sym (rw (le-leb (get_or s p 0) 2147483647 (omega arith))) ∙ u, read-end x a h k)
 
 -- an integer of two bytes after its lead byte
-pub read-two : {s : List ℕ} {p e : ℕ} (x : Document) → At s p x e → p + 3 ≤ length s → get_or s p 0 ≡ 0xcd → {n : ℕ} → n ≡ unsignedAt 2 s (p + 1) → (unsignedBy n ≡ integerOf x) × (p + 3 ≡ e)
-unfolding kind_of moreOf
+pub read-two : {s : List ℕ} {p e : ℕ} (x : Document) → At s p x e → p + 3 ≤ length s → get_or s p 0 ≡ 0xcd → {n : ℕ} → n ≡ unsigned_at 2 s (p + 1) → (unsigned_by n ≡ integer_of x) × (p + 3 ≡ e)
+unfolding kind_of more_of
 read-two {s} {p} {e} x a le b {n} i =
     let k : kind_at s p ≡ Kind.Unsigned = kind-in s p (omega arith) ∙ ap kind_of b in
-    let h : headAt s p ≡ Head.At n (p + 3) = sym (head-number s p 1 {size = 3} (rw b) refl le i) in
+    let h : head_at s p ≡ Head.At n (p + 3) = sym (head-number s p 1 {size = 3} (rw b) refl le i) in
     (read-unsigned x a h k, read-end x a h k)
 
 -- what stands below half is small, and so is what is left above it
@@ -369,7 +369,7 @@ last-small size = go (eqb size 1) (eqb size 2) (eqb size 3)
     go false false false = lit≤ tt
 
 -- parts by the document that stands there
-module _ {s : List ℕ} {p e : ℕ} (x : Document) (a : At s p x e) {n r : ℕ} (h : headAt s p ≡ Head.At n r) where
+module _ {s : List ℕ} {p e : ℕ} (x : Document) (a : At s p x e) {n r : ℕ} (h : head_at s p ≡ Head.At n r) where
   body_is : {k : Kind} {t : List ℕ} → OpenText s p k t e → (y : Part) → (r + n ≤ length s → (y.at ≡ r) × (y.count ≡ n)) → (take y.count (drop y.at s) ≡ t) × (e ≡ y.at + y.count)
   body_is {t = t} o y f =
       let g = sym o.told.head ∙ h in
@@ -378,7 +378,7 @@ module _ {s : List ℕ} {p e : ℕ} (x : Document) (a : At s p x e) {n r : ℕ} 
       let b = f (omega (arith, o.inside)) in
       (rw (b.0, b.1, ← i, ← j) o.text, omega (arith, o.ends, b.0, b.1))
 
-  pub read-text : {k : Kind} → kind_at s p ≡ k → isInteger k ≡ false → is_float k ≡ false → isArray k ≡ false → isMap k ≡ false → (y : Part) → (r + n ≤ length s → (y.at ≡ r) × (y.count ≡ n)) → TextAt s x e y
+  pub read-text : {k : Kind} → kind_at s p ≡ k → is_integer k ≡ false → is_float k ≡ false → is_array k ≡ false → is_map k ≡ false → (y : Part) → (r + n ≤ length s → (y.at ≡ r) × (y.count ≡ n)) → TextAt s x e y
   read-text {k} q fi ff fa fm y f = go x a (read-heads x a q)
     where
       go : (z : Document) → At s p z e → heads z k ≡ true → TextAt s z e y

@@ -7,9 +7,9 @@ use mathlib.Core.List.{List, [], ◌++◌, append_assoc, append-nil}
 use native.Mathlib.Omega.{arith}
 use Rattle.std.proofs.Math.Nat.{add-zero}
 use Rattle.std.proofs.Math.ListN.{length}
-use Rattle.numbers.specs.BigEndian.{unsignedAt}
-use Rattle.heads.specs.Lead.{kind_of, moreOf}
-use Rattle.heads.specs.Head.{HeadOf, kind_at, headAt}
+use Rattle.numbers.specs.BigEndian.{unsigned_at}
+use Rattle.heads.specs.Lead.{kind_of, more_of}
+use Rattle.heads.specs.Head.{HeadOf, kind_at, head_at}
 use Rattle.heads.specs.declared.Kind.{Kind}
 use Rattle.heads.specs.declared.Head.{Head}
 use Rattle.heads.specs.Span.{Span}
@@ -17,7 +17,7 @@ use Rattle.heads.specs.Laws.Span.{follows, fits}
 use Rattle.heads.specs.Laws.Head.{Told, head-told, head-inside, alone-head, float-kind, float_size, float-head, head-cut, head-number, kind-in}
 use Rattle.heads.specs.Laws.Table.{low-lead, string-lead}
 use Rattle.messagepack.specs.Document.{Document, Documents, Entries, integer, float, string, binary, array, map, none, item, empty, entry, count, size, UnsignedOf, SignedOf, TextOf, Writes, WritesAll, WritesEntries}
-use Rattle.values.specs.Standing.{Standing, pastOver, pairsOver, LowRun, Sized, ItemsOver, over, each, after, Stepped, on, stop}
+use Rattle.values.specs.Standing.{Standing, past_over, pairs_over, LowRun, Sized, ItemsOver, over, each, after, Stepped, on, stop}
 use Rattle.values.specs.declared.Over.{Over}
 
 -- a head has a byte at least
@@ -209,11 +209,11 @@ module _ (s : List ℕ) (p q : ℕ) where
 
 -- a step over the first of some values, by the head that is read there
 module _ (s : List ℕ) (p : ℕ) where
-  pub stands-head : (n e : ℕ) → Standing s (suc n) p e → headAt s p ≡ Head.Cut → ⊥
+  pub stands-head : (n e : ℕ) → Standing s (suc n) p e → head_at s p ≡ Head.Cut → ⊥
   unfolding Standing
   stands-head n e st h =
       let o = opened s p st.q st.x st.w st.writes st.span in
-      let g : headAt s p ≡ Head.At o.m o.r = o.told.head in
+      let g : head_at s p ≡ Head.At o.m o.r = o.told.head in
       let z : ◌≡◌ {A = ℕ} 0 1 = cc in
       omega arith
 
@@ -221,11 +221,11 @@ module _ (s : List ℕ) (p : ℕ) where
   unfolding Standing
   stands-kind n e st h = let o = opened s p st.q st.x st.w st.writes st.span in subst (λ (j : Kind). valued j ≡ true) (sym o.told.kind ∙ h) o.of
 
-  pub stands-step : (n e : ℕ) {k : Kind} {m r : ℕ} → Standing s (suc n) p e → headAt s p ≡ Head.At m r → kind_at s p ≡ k → Standing s (inside k m + n) (onward k m r) e
+  pub stands-step : (n e : ℕ) {k : Kind} {m r : ℕ} → Standing s (suc n) p e → head_at s p ≡ Head.At m r → kind_at s p ≡ k → Standing s (inside k m + n) (onward k m r) e
   unfolding Standing
   stands-step n e {k} {m} {r} st g h =
       let o = opened s p st.q st.x st.w st.writes st.span in
-      let t : headAt s p ≡ Head.At o.m o.r = o.told.head in
+      let t : head_at s p ≡ Head.At o.m o.r = o.told.head in
       let i : o.k ≡ k = sym o.told.kind ∙ h in
       let j : o.m ≡ m = cc in
       let l : o.r ≡ r = cc in
@@ -235,13 +235,13 @@ module _ (s : List ℕ) (p : ℕ) where
 -- steps
 
 module _ (s : List ℕ) (p : ℕ) where
-  pub steps-cut-head : headAt s p ≡ Head.Cut → Stepped s p Over.Stop
+  pub steps-cut-head : head_at s p ≡ Head.Cut → Stepped s p Over.Stop
   steps-cut-head g = stop (λ n e st. stands-head s p n e st g)
 
   pub steps-no-value : {k : Kind} → kind_at s p ≡ k → valued k ≡ false → Stepped s p Over.Stop
   steps-no-value h f = stop (λ n e st. let t = stands-kind s p n e st h in let z : ◌≡◌ {A = ℕ} 0 1 = cc in omega arith)
 
-  module _ {k : Kind} {m r : ℕ} (g : headAt s p ≡ Head.At m r) (h : kind_at s p ≡ k) where
+  module _ {k : Kind} {m r : ℕ} (g : head_at s p ≡ Head.At m r) (h : kind_at s p ≡ k) where
     pub steps_on : onward k m r ≤ length s → Stepped s p (Over.On (onward k m r) (inside k m))
     steps_on le = let after : p < onward k m r = omega (arith, onward-more k, head-inside s p g) in on after le (λ n e st. stands-step s p n e st g h)
       where
@@ -259,14 +259,14 @@ module _ (s : List ℕ) (p : ℕ) where
     pub steps-cut : length s < onward k m r + inside k m → Stepped s p Over.Stop
     steps-cut lt = stop (λ n e st. omega (arith, standing-counts s (inside k m + n) (onward k m r) e (stands-step s p n e st g h), standing-inside s (suc n) p e st (omega (arith, head-inside s p g))))
 
-    pub steps-past : {o : Over} → onward k m r ≡ r + m → inside k m ≡ 0 → o ≡ pastOver (length s) m r → Stepped s p o
+    pub steps-past : {o : Over} → onward k m r ≡ r + m → inside k m ≡ 0 → o ≡ past_over (length s) m r → Stepped s p o
     steps-past i j q = subst (Stepped s p) (sym q) (go (leb (r + m) (length s)) refl)
       where
         go : (b : Bool) → leb (r + m) (length s) ≡ b → Stepped s p (cond b (Over.On (r + m) 0) Over.Stop)
         go true b = rw (i, j) at (steps_on (rw i (leb-true (r + m) (length s) b)))
         go false b = steps-cut (omega (arith, leb-false (r + m) (length s) b))
 
-    pub steps-pairs : {o : Over} → onward k m r ≡ r → inside k m ≡ m + m → o ≡ pairsOver (length s) m r → Stepped s p o
+    pub steps-pairs : {o : Over} → onward k m r ≡ r → inside k m ≡ m + m → o ≡ pairs_over (length s) m r → Stepped s p o
     steps-pairs i j q = subst (Stepped s p) (sym q) (go (leb (r + (m + m)) (length s)) refl)
       where
         go : (b : Bool) → leb (r + (m + m)) (length s) ≡ b → Stepped s p (cond b (Over.On r (m + m)) Over.Stop)
@@ -304,12 +304,12 @@ module _ (s : List ℕ) (p : ℕ) (lt : p < length s) where
   pub steps_low : get_or s p 0 < 0x80 → Stepped s p (Over.On (p + 1) 0)
   steps_low h = let a = alone-head s p lt (low-lead (get_or s p 0) h) in steps_on s p a.1 a.0 (omega arith)
 
-  pub steps-short : {o : Over} {n : ℕ} → 0xa0 ≤ get_or s p 0 → get_or s p 0 < 0xc0 → n ≡ get_or s p 0 - 0xa0 → o ≡ pastOver (length s) n (p + 1) → Stepped s p o
-  steps-short l h e q = let a = alone-head s p lt (string-lead (get_or s p 0) l h) in steps-past s p a.1 a.0 refl refl (q ∙ ap (λ (m : ℕ). pastOver (length s) m (p + 1)) e)
+  pub steps-short : {o : Over} {n : ℕ} → 0xa0 ≤ get_or s p 0 → get_or s p 0 < 0xc0 → n ≡ get_or s p 0 - 0xa0 → o ≡ past_over (length s) n (p + 1) → Stepped s p o
+  steps-short l h e q = let a = alone-head s p lt (string-lead (get_or s p 0) l h) in steps-past s p a.1 a.0 refl refl (q ∙ ap (λ (m : ℕ). past_over (length s) m (p + 1)) e)
 
 -- a float
 
-pub steps-float : (s : List ℕ) (p : ℕ) → p < length s → {o : Over} → get_or s p 0 ≡ 0xca → o ≡ pastOver (length s) 4 (p + 1) → Stepped s p o
+pub steps-float : (s : List ℕ) (p : ℕ) → p < length s → {o : Over} → get_or s p 0 ≡ 0xca → o ≡ past_over (length s) 4 (p + 1) → Stepped s p o
 steps-float s p lt b q = subst (Stepped s p) (sym q) (go (leb (p + 1 + 4) (length s)) refl)
   where
     go : (t : Bool) → leb (p + 1 + 4) (length s) ≡ t → Stepped s p (cond t (Over.On (p + 1 + 4) 0) Over.Stop)
@@ -322,22 +322,22 @@ steps-float s p lt b q = subst (Stepped s p) (sym q) (go (leb (p + 1 + 4) (lengt
 -- integers by their lead byte and its size
 
 pub sized-one : Sized 0xcc 2
-unfolding kind_of moreOf
+unfolding kind_of more_of
 sized-one = record { kind = refl; is = refl; more = omega arith }
 
 pub sized-two : Sized 0xcd 3
-unfolding kind_of moreOf
+unfolding kind_of more_of
 sized-two = record { kind = refl; is = refl; more = omega arith }
 
 pub sized-four : Sized 0xce 5
-unfolding kind_of moreOf
+unfolding kind_of more_of
 sized-four = record { kind = refl; is = refl; more = omega arith }
 
 pub steps-sized : (s : List ℕ) (p : ℕ) {lead size : ℕ} → Sized lead size → get_or s p 0 ≡ lead → p + size ≤ length s → Stepped s p (Over.On (p + size) 0)
 steps-sized s p {lead} {size} z b le =
-    let i : size ≡ moreOf (get_or s p 0) + 1 = z.is ∙ ap (λ (m : ℕ). moreOf m + 1) (sym b) in
+    let i : size ≡ more_of (get_or s p 0) + 1 = z.is ∙ ap (λ (m : ℕ). more_of m + 1) (sym b) in
     let j : size ≡ suc (suc (size - 2)) = omega (arith, z.more) in
-    let g : headAt s p ≡ Head.At (unsignedAt (suc (size - 2)) s (p + 1)) (p + size) = sym (head-number s p (size - 2) i j le refl) in
+    let g : head_at s p ≡ Head.At (unsigned_at (suc (size - 2)) s (p + 1)) (p + size) = sym (head-number s p (size - 2) i j le refl) in
     steps_on s p g (kind-in s p (omega (arith, z.more)) ∙ ap kind_of b ∙ z.kind) le
 
 -- one of the values that are left is passed
@@ -363,7 +363,7 @@ low-standing s (suc m) n r e l st =
     let rest : Standing s (m + n) (r + 1) e = subst (λ (k : ℕ). Standing s k (r + 1) e) (zero-add (m + n)) (w.goes (m + n) e first) in
     subst (λ (q : ℕ). Standing s (0 + n) q e) (omega arith) (low-standing s m n (r + 1) e (low-rest l) rest)
 
-pub steps-items : (s : List ℕ) (p : ℕ) {m r : ℕ} → headAt s p ≡ Head.At m r → kind_at s p ≡ Kind.Array → {o : Over} → ItemsOver s m r o → Stepped s p o
+pub steps-items : (s : List ℕ) (p : ℕ) {m r : ℕ} → head_at s p ≡ Head.At m r → kind_at s p ≡ Kind.Array → {o : Over} → ItemsOver s m r o → Stepped s p o
 steps-items s p g h each = steps_on s p g h (head-inside s p g).1
 steps-items s p {m} {r} g h (over l) = let after : p < r + m = omega (arith, head-inside s p g) in on after l.inside (λ n e st. low-standing s m n r e l (stands-step s p n e st g h))
 steps-items s p {m} {r} g h (after {q = q} a b f) = let first : p < q = omega (arith, (head-inside s p g).0) in on first b (λ n e st. f n e (stands-step s p n e st g h))

@@ -1,7 +1,7 @@
 -- Each case of the head is a case of the definition.
 use mathlib.Core.Path.{sym, ap, ◌∙◌}
 use borrow.Author.Rules.{rules}
-use Rattle.views.specs.Place.{bodyPlace}
+use Rattle.views.specs.Place.{body_place}
 use Rattle.views.proofs.body.Statement.{statement}
 use Rattle.views.proofs.body.Tie as tie
 
@@ -12,5 +12,5 @@ body-spec =
     (λ c κs. search rules)
     (λ c. search rules)
     (λ c. search rules)
-    (λ c. sym (ap bodyPlace (sym (c.before.before.head_at.ensures.1 c.before.before.before.before.requires) ∙ c.enum_told.given.1)))
-    (λ c. sym (ap bodyPlace (sym (c.before.before.before.head_at.ensures.1 c.before.before.before.before.before.requires) ∙ c.before.n.given.1))))
+    (λ c. sym (ap body_place (sym (c.before.before.head_at.ensures.1 c.before.before.before.before.requires) ∙ c.enum_told.given.1)))
+    (λ c. sym (ap body_place (sym (c.before.before.before.head_at.ensures.1 c.before.before.before.before.before.requires) ∙ c.before.n.given.1))))

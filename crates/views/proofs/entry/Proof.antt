@@ -6,7 +6,7 @@ use native.Mathlib.Omega.{arith}
 use lib.ListN.{length, drop}
 use Rattle.text.specs.Equal.{equal}
 use borrow.Author.Rules.{rules}
-use Rattle.views.specs.Shown.{shownPlace}
+use Rattle.views.specs.Shown.{shown_place}
 use Rattle.views.specs.Laws.Search.{Looking, look-first, look-last, look-next, look-read, look-inside, look-cut, look-found, look-on, next-same}
 use Rattle.views.proofs.entry.Statement.{statement}
 use Rattle.views.proofs.entry.Tie as tie
@@ -39,7 +39,7 @@ returns-2 c =
     let r = look-read name g lt c.before.before.before.before.before.before.before.before.u32-to-usize.ensures (sym (c.before.before.before.before.before.before.before.head_at.ensures.1 c.before.before.before.before.before.before.before.before.before.before.before.before.before.before.before.requires.0) ∙ c.before.before.before.before.before.m.given.1) in
     let at : a + m ≡ n.from + length n.k = omega arith in
     let e : equal n.k name ≡ true = next-same n name a m r.0 r.1 (sym c.before.before.same_bytes.ensures ∙ c.before.if1.true) in
-    c.part.ensures n.x n.w n.v n.writes (ap (λ (i : ℕ). drop i s) at ∙ n.value) ∙ ap (λ (i : ℕ). shownPlace i n.x n.w) at ∙ look-found name g lt e
+    c.part.ensures n.x n.w n.v n.writes (ap (λ (i : ℕ). drop i s) at ∙ n.value) ∙ ap (λ (i : ℕ). shown_place i n.x n.w) at ∙ look-found name g lt e
 
 loop-again : tie.Need-loop-preserved invariant-loop decreases-loop
 loop-again c =

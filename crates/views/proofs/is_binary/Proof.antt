@@ -4,7 +4,7 @@ use mathlib.Core.List.{[], ◌∷◌}
 use borrow.Author.Rules.{rules}
 use Rattle.heads.specs.declared.Kind.{Kind}
 use Rattle.messagepack.specs.Document.{map}
-use Rattle.values.specs.Heads.{isBinary}
+use Rattle.values.specs.Heads.{is_binary}
 use Rattle.values.specs.Laws.Heads.{kind-other}
 use Rattle.values.specs.Laws.Places.{outer-at}
 use Rattle.views.specs.Laws.Binary.{binary-refused, binary-none, binary-some}
@@ -30,7 +30,7 @@ returns-3 c =
     let t = c.before.before.before.before.before.before.before.leads.ensures in
     let says = c.before.before.before.before.before.find.ensures t (map box.entries) _ (outer-at box) in
     let kind = sym (c.before.before.kind-at.ensures.1 t) ∙ c.enum_told.given.1 in
-    sym (ap isBinary kind) ∙ binary-some _ box (sym k.0 ∙ z) says c.before.before.before.before.if2.false
+    sym (ap is_binary kind) ∙ binary-some _ box (sym k.0 ∙ z) says c.before.before.before.before.if2.false
 
 returns-4 : tie.Need-returns-4
 returns-4 c =
@@ -40,7 +40,7 @@ returns-4 c =
     let t = c.before.before.before.before.before.before.leads.ensures in
     let says = c.before.before.before.before.find.ensures t (map box.entries) _ (outer-at box) in
     let other = kind-other Kind.Bin (Kind.Bin ∷ []) c.before.kind-at.result tt c.match.keys2 in
-    sym other ∙ ap isBinary (c.before.kind-at.ensures.1 t) ∙ binary-some _ box (sym k.0 ∙ z) says c.before.before.before.if2.false
+    sym other ∙ ap is_binary (c.before.kind-at.ensures.1 t) ∙ binary-some _ box (sym k.0 ∙ z) says c.before.before.before.if2.false
 
 pub is-binary-spec : {M : Type 1} → statement M
 is-binary-spec =

@@ -6,15 +6,15 @@ use lib.ListN.{take, drop}
 use borrow.Author.Rules.{rules}
 use Rattle.numbers.specs.Laws.BigEndian.{bytes-of}
 use Rattle.views.specs.Place.{part_at, part_of}
-use Rattle.views.specs.Laws.View.{placeOf-fits}
+use Rattle.views.specs.Laws.View.{place_of-fits}
 use Rattle.views.proofs.view.Statement.{statement}
 use Rattle.views.proofs.view.Tie as tie
 
 add-result : tie.Need-overflow-add-result
-add-result c = omega (arith, placeOf-fits _ _ (bytes-of _ (λ i. omega (arith, c.before.before.before.before.before.shared-slice-known.given i))) (sym c.before.before.before.find.ensures ∙ c.before.start.given.1))
+add-result c = omega (arith, place_of-fits _ _ (bytes-of _ (λ i. omega (arith, c.before.before.before.before.before.shared-slice-known.given i))) (sym c.before.before.before.find.ensures ∙ c.before.start.given.1))
 
 part-result-end : tie.Need-slice-bounds-result-end
-part-result-end c = omega (arith, placeOf-fits _ _ (bytes-of _ (λ i. omega (arith, c.before.before.before.before.before.shared-slice-known.given i))) (sym c.before.before.before.find.ensures ∙ c.before.start.given.1))
+part-result-end c = omega (arith, place_of-fits _ _ (bytes-of _ (λ i. omega (arith, c.before.before.before.before.before.shared-slice-known.given i))) (sym c.before.before.before.find.ensures ∙ c.before.start.given.1))
 
 returns : tie.Need-returns
 unfolding part_of

@@ -10,13 +10,13 @@ use Rattle.heads.specs.Head.{kind_at}
 use Rattle.heads.specs.declared.Kind.{Kind}
 use Rattle.messagepack.specs.Document.{Document, Documents, integer, float, string, binary, array, map, none, item, count}
 use Rattle.messagepack.specs.Rules.{Container}
-use Rattle.messagepack.specs.Walk.{containerNumber}
-use Rattle.messagepack.specs.Laws.Unique.{documentOf-is}
+use Rattle.messagepack.specs.Walk.{container_number}
+use Rattle.messagepack.specs.Laws.Unique.{document_of-is}
 use Rattle.values.specs.Parts.{items_of, look}
 use Rattle.values.specs.Places.{At, AtAll, PlaceSays}
 use Rattle.values.specs.Laws.Places.{place_none, place-some, OpenInteger, unsigned, signed, open_array, open-map, open-string, open-binary, open-float, open-integer}
 use Rattle.values.specs.Laws.Integers.{next_of}
-use Rattle.views.specs.Shapes.{plain, allPlain, shape_of, shapeIn, shapeUnder, is_plain, kindShape}
+use Rattle.views.specs.Shapes.{plain, all_plain, shape_of, shape_in, shape_under, is_plain, kind_shape}
 use Rattle.views.specs.declared.shapes.Shape.{Shape}
 
 -- what a function of kinds says of a value at its place, where it says the same of both kinds of integers
@@ -38,10 +38,10 @@ pub kind-plain : {s : List ℕ} {p e : ℕ} (x : Document) → At s p x e → is
 kind-plain x a = by_kind is_plain plain x a (λ v. refl) (λ v. refl) (λ b. refl) (λ t. refl) (λ t. refl) (λ ds. refl) (λ es. refl)
 
 -- the shape of a value at its place
-pub kind-shape : {s : List ℕ} {p e : ℕ} (x : Document) → At s p x e → kindShape (kind_at s p) (allPlain (items_of x)) ≡ shape_of x
+pub kind-shape : {s : List ℕ} {p e : ℕ} (x : Document) → At s p x e → kind_shape (kind_at s p) (all_plain (items_of x)) ≡ shape_of x
 kind-shape {s} {p} {e} (integer v) a = go (open-integer a)
   where
-    go : OpenInteger s p v e → kindShape (kind_at s p) (allPlain none) ≡ Shape.Integer
+    go : OpenInteger s p v e → kind_shape (kind_at s p) (all_plain none) ≡ Shape.Integer
     go (unsigned n t i) = rw t.kind
     go (signed k n t f g h i) = rw t.kind
 kind-shape (float bits) a = rw (open-float a).kind
@@ -55,14 +55,14 @@ pub record Plains (s : List ℕ) (ds : Documents) (p left e : ℕ) : Type 0 wher
   pub rest : Documents
   pub all : AtAll s p rest e
   pub counts : count rest ≡ left
-  pub same : allPlain ds ≡ allPlain rest
+  pub same : all_plain ds ≡ all_plain rest
 
 pub plains-start : {s : List ℕ} {ds : Documents} {p n e : ℕ} → AtAll s p ds e → count ds ≡ n → Plains s ds p n e
 plains-start {ds = ds} a c = record { rest = ds; all = a; counts = c; same = refl }
 
 module _ {s : List ℕ} {ds : Documents} {p left e : ℕ} (k : Plains s ds p left e) (l : 0 < left) where
   pub plains-more : {q : ℕ} → is_plain (kind_at s p) ≡ true → ((x : Document) (f : ℕ) → At s p x f → q ≡ f) → Plains s ds q (left - 1) e
-  unfolding count allPlain
+  unfolding count all_plain
   plains-more t f =
       let n = next_of k.rest k.all k.counts l in
       let c : suc (count n.rest) ≡ left = sym (ap count n.is) ∙ k.counts in
@@ -71,39 +71,39 @@ module _ {s : List ℕ} {ds : Documents} {p left e : ℕ} (k : Plains s ds p lef
         rest = n.rest;
         all = subst (λ (j : ℕ). AtAll s j n.rest e) (sym (f n.d n.q n.first)) n.all;
         counts = omega arith;
-        same = k.same ∙ ap allPlain n.is ∙ ap (λ (b : Bool). b && allPlain n.rest) y;
+        same = k.same ∙ ap all_plain n.is ∙ ap (λ (b : Bool). b && all_plain n.rest) y;
       }
 
-  pub plains-out : is_plain (kind_at s p) ≡ false → false ≡ allPlain ds
-  unfolding allPlain
+  pub plains-out : is_plain (kind_at s p) ≡ false → false ≡ all_plain ds
+  unfolding all_plain
   plains-out t =
       let n = next_of k.rest k.all k.counts l in
       let y : plain n.d ≡ false = sym (kind-plain n.d n.first) ∙ t in
-      sym (k.same ∙ ap allPlain n.is ∙ ap (λ (b : Bool). b && allPlain n.rest) y)
+      sym (k.same ∙ ap all_plain n.is ∙ ap (λ (b : Bool). b && all_plain n.rest) y)
 
-pub plains-end : {s : List ℕ} {ds : Documents} {p left e : ℕ} → Plains s ds p left e → left ≤ 0 → true ≡ allPlain ds
-unfolding count allPlain
+pub plains-end : {s : List ℕ} {ds : Documents} {p left e : ℕ} → Plains s ds p left e → left ≤ 0 → true ≡ all_plain ds
+unfolding count all_plain
 plains-end {s} {ds} {p} {left} k l = go k.rest k.counts k.same
   where
-    go : (r : Documents) → count r ≡ left → allPlain ds ≡ allPlain r → true ≡ allPlain ds
+    go : (r : Documents) → count r ≡ left → all_plain ds ≡ all_plain r → true ≡ all_plain ds
     go none c q = sym q
     go (item d r) c q = absurd (omega arith)
 
 -- a file that is no container
-pub shape-refused : (s name : List ℕ) → (containerNumber s ≡ accepted → ⊥) → Shape.Missing ≡ shapeUnder s name
-unfolding shapeUnder
+pub shape-refused : (s name : List ℕ) → (container_number s ≡ accepted → ⊥) → Shape.Missing ≡ shape_under s name
+unfolding shape_under
 shape-refused s name h = rw (ne_eqb _ _ h)
 
 -- in a container the value that is looked up decides
-module _ {s : List ℕ} (name : List ℕ) (c : Container s) (z : containerNumber s ≡ accepted) where
-  shape-look : shapeUnder s name ≡ shapeIn (look name c.entries)
-  unfolding shapeUnder
-  shape-look = rw (eq-eqb _ _ z, documentOf-is (map c.entries) s c.writes c.nested)
+module _ {s : List ℕ} (name : List ℕ) (c : Container s) (z : container_number s ≡ accepted) where
+  shape-look : shape_under s name ≡ shape_in (look name c.entries)
+  unfolding shape_under
+  shape-look = rw (eq-eqb _ _ z, document_of-is (map c.entries) s c.writes c.nested)
 
-  pub shape-none : {p : ℕ} → PlaceSays s p (look name c.entries) → p ≡ 0 → Shape.Missing ≡ shapeUnder s name
-  shape-none h e = sym (shape-look ∙ ap shapeIn (place_none h e))
+  pub shape-none : {p : ℕ} → PlaceSays s p (look name c.entries) → p ≡ 0 → Shape.Missing ≡ shape_under s name
+  shape-none h e = sym (shape-look ∙ ap shape_in (place_none h e))
 
-  pub shape-some : {p : ℕ} {r : Shape} → PlaceSays s p (look name c.entries) → (p ≡ 0 → ⊥) → ((x : Document) (e : ℕ) → At s p x e → r ≡ shape_of x) → r ≡ shapeUnder s name
+  pub shape-some : {p : ℕ} {r : Shape} → PlaceSays s p (look name c.entries) → (p ≡ 0 → ⊥) → ((x : Document) (e : ℕ) → At s p x e → r ≡ shape_of x) → r ≡ shape_under s name
   shape-some h e f =
       let o = place-some h e in
-      f o.x o.end o.at ∙ sym (shape-look ∙ ap shapeIn o.is)
+      f o.x o.end o.at ∙ sym (shape-look ∙ ap shape_in o.is)

@@ -7,7 +7,7 @@ use mathlib.Core.List.{List, [], ◌++◌, append_assoc, append-nil}
 use Rattle.std.proofs.Math.ListN.{length-append}
 use Rattle.std.proofs.lemmas.List.{drop-append-le}
 use Rattle.std.proofs.lemmas.Bool.{eqb-false}
-use Rattle.refusal.specs.Table.{accepted, noSuchField}
+use Rattle.refusal.specs.Table.{accepted, no_such_field}
 use Rattle.numbers.specs.BigEndian.{Bytes}
 use Rattle.text.specs.Equal.{equal}
 use Rattle.text.specs.Laws.Equal.{equal-true, equal-refl}
@@ -16,13 +16,13 @@ use Rattle.heads.specs.declared.Kind.{Kind}
 use Rattle.heads.specs.Laws.Span.{follows}
 use Rattle.messagepack.specs.Document.{Document, Entries, integer, float, string, binary, array, map, empty, entry, size, TextOf, Writes, WritesEntries}
 use Rattle.messagepack.specs.Rules.{Container}
-use Rattle.messagepack.specs.Walk.{containerNumber}
-use Rattle.messagepack.specs.Read.{documentOf}
-use Rattle.messagepack.specs.Laws.Unique.{no-two-documents, documentOf-is}
+use Rattle.messagepack.specs.Walk.{container_number}
+use Rattle.messagepack.specs.Read.{document_of}
+use Rattle.messagepack.specs.Laws.Unique.{no-two-documents, document_of-is}
 use Rattle.messagepack.specs.Laws.Container.{container-exactly}
-use Rattle.views.specs.View.{EntryIn, shown, Viewable, start_of, has_key, viewNumber, Placed, placed, refused, Viewed, viewed, nothing}
-use Rattle.views.specs.Place.{entryPlace, place_of, placeNumber, part_at, part_of}
-use Rattle.views.specs.Shown.{shownPlace, Ahead}
+use Rattle.views.specs.View.{EntryIn, shown, Viewable, start_of, has_key, view_number, Placed, placed, refused, Viewed, viewed, nothing}
+use Rattle.views.specs.Place.{entry_place, place_of, place_number, part_at, part_of}
+use Rattle.views.specs.Shown.{shown_place, Ahead}
 use Rattle.views.specs.Laws.Search.{Outer, outer-of, Next, next_of, next-shown, next-other, entry-last, place-refused, place-container}
 use Rattle.views.specs.declared.Place.{Place}
 
@@ -37,10 +37,10 @@ unfolding size
 size-join empty fs = sym (zero-add (size fs))
 size-join (entry k x es) fs = ap suc (size-join es fs) ∙ sym (suc-add (size es) (size fs))
 
-hasKey-join : (name : List ℕ) (es fs : Entries) → has_key name (join es fs) ≡ has_key name es || has_key name fs
+has_key-join : (name : List ℕ) (es fs : Entries) → has_key name (join es fs) ≡ has_key name es || has_key name fs
 unfolding has_key
-hasKey-join name empty fs = refl
-hasKey-join name (entry k x es) fs = go (equal k name) (hasKey-join name es fs)
+has_key-join name empty fs = refl
+has_key-join name (entry k x es) fs = go (equal k name) (has_key-join name es fs)
   where
     go : (b : Bool) → has_key name (join es fs) ≡ has_key name es || has_key name fs → b || has_key name (join es fs) ≡ (b || has_key name es) || has_key name fs
     go true h = refl
@@ -81,35 +81,35 @@ map_inj e = cc
 
 -- the document of a container is its map
 module _ {s : List ℕ} (c : Container s) where
-  document-is : documentOf s ≡ map c.entries
-  document-is = documentOf-is (map c.entries) s c.writes c.nested
+  document-is : document_of s ≡ map c.entries
+  document-is = document_of-is (map c.entries) s c.writes c.nested
 
   pub same_entries : (es : Entries) → Writes (map es) s → c.entries ≡ es
   same_entries es wr = map_inj (no-two-documents (map c.entries) (map es) s c.writes wr)
 
-  number_is : Bytes s → (name : List ℕ) → viewNumber s name ≡ cond (has_key name c.entries) accepted noSuchField
-  unfolding viewNumber
-  number_is bytes name = rw (eq-eqb (containerNumber s) accepted ((container-exactly s bytes).1 c), document-is)
+  number_is : Bytes s → (name : List ℕ) → view_number s name ≡ cond (has_key name c.entries) accepted no_such_field
+  unfolding view_number
+  number_is bytes name = rw (eq-eqb (container_number s) accepted ((container-exactly s bytes).1 c), document-is)
 
 has-entry : {s name : List ℕ} (v : Viewable s name) → has_key name v.container.entries ≡ true
 unfolding has_key
 has-entry {s} {name} v =
     let i = v.entry-is in
     let e = same_entries v.container (join i.before (entry name v.x i.after)) (entry-map i) in
-    rw (e, hasKey-join name i.before (entry name v.x i.after), equal-refl name) (or-true (has_key name i.before))
+    rw (e, has_key-join name i.before (entry name v.x i.after), equal-refl name) (or-true (has_key name i.before))
   where
     or-true : (b : Bool) → b || true ≡ true
     or-true true = refl
     or-true false = refl
 
 -- a file that shows the name has the number 0
-viewable-zero : {s name : List ℕ} → Bytes s → Viewable s name → viewNumber s name ≡ 0
+viewable-zero : {s name : List ℕ} → Bytes s → Viewable s name → view_number s name ≡ 0
 viewable-zero {s} {name} bytes v = number_is v.container bytes name ∙ rw (has-entry v)
 
 -- a file that is no container has its number
-refused-number : (s name : List ℕ) → (containerNumber s ≡ 0 → ⊥) → containerNumber s ≡ viewNumber s name
-unfolding viewNumber
-refused-number s name h = rw (ne_eqb (containerNumber s) accepted h)
+refused-number : (s name : List ℕ) → (container_number s ≡ 0 → ⊥) → container_number s ≡ view_number s name
+unfolding view_number
+refused-number s name h = rw (ne_eqb (container_number s) accepted h)
 
 -- The search for a name, and what its end says
 
@@ -139,18 +139,18 @@ module _ {s name : List ℕ} {left p : ℕ} (bytes : Bytes s) (l : Looking s nam
       (writes-map l.before l.h l.u s (rw (z, add-zero (size l.before)) at l.head) l.earlier
       (l.is ∙ ap (λ (x : List ℕ). l.h ++ x) (ap (λ (x : List ℕ). l.u ++ x) (last-entries l.ahead.entries (l.ahead.counts ∙ z) l.ahead.writes) ∙ append-nil l.u)))
 
-  looking-last : Placed s name (Place.Refused noSuchField)
+  looking-last : Placed s name (Place.Refused no_such_field)
   looking-last =
       let none : has_key name l.container.entries ≡ false = rw all-before l.others in
-      let number : viewNumber s name ≡ noSuchField = number_is l.container bytes name ∙ rw none in
-      refused {n = noSuchField} (lit< tt) (sym number) (λ v. let t : viewNumber s name ≡ 0 = viewable-zero bytes v in omega arith)
+      let number : view_number s name ≡ no_such_field = number_is l.container bytes name ∙ rw none in
+      refused {n = no_such_field} (lit< tt) (sym number) (λ v. let t : view_number s name ≡ 0 = viewable-zero bytes v in omega arith)
 
 -- the next entry is the one, or the search goes on after it
 module _ {s name : List ℕ} {left p : ℕ} (l : Looking s name left p) (n : Next s left p) (pos : 0 < left) where
   whole : s ≡ l.h ++ (l.u ++ (n.a ++ (n.w ++ n.v)))
   whole = l.is ∙ ap (λ (y : List ℕ). l.h ++ (l.u ++ y)) n.is
 
-  looking-here : equal n.k name ≡ true → Placed s name (shownPlace (n.from + length n.k) n.x n.w)
+  looking-here : equal n.k name ≡ true → Placed s name (shown_place (n.from + length n.k) n.x n.w)
   looking-here b =
       let count : size l.before + left ≡ size l.before + suc (size n.others.entries) = (let m = n.others.counts in omega arith) in
       let view : Viewable s name = record {
@@ -186,14 +186,14 @@ module _ {s name : List ℕ} {left p : ℕ} (l : Looking s name left p) (n : Nex
         u = l.u ++ (n.a ++ n.w);
         head = subst (λ (m : ℕ). HeadOf Kind.Map m l.h) count l.head;
         earlier = writes-join l.before (entry n.k n.x empty) l.u (n.a ++ n.w) l.earlier (single n.k n.a n.w n.x n.text n.writes);
-        others = rw (hasKey-join name l.before (entry n.k n.x empty), l.others, b);
+        others = rw (has_key-join name l.before (entry n.k n.x empty), l.others, b);
         is = whole ∙ ap (λ (y : List ℕ). l.h ++ y) (sym (append_assoc l.u (n.a ++ n.w) n.v ∙ ap (λ (y : List ℕ). l.u ++ y) (append_assoc n.a n.w n.v))) ∙ ap (λ (y : List ℕ). l.h ++ ((l.u ++ (n.a ++ n.w)) ++ y)) (sym n.rest);
         place = rw (length-append l.u (n.a ++ n.w), length-append n.a n.w) (omega (arith, l.place, n.start));
         ahead = n.others;
       }
 
 -- what the search finds is the place of the part
-looking-found : {s name : List ℕ} → Bytes s → (m left p : ℕ) → left ≡ m → Looking s name left p → Placed s name (entryPlace s name left p)
+looking-found : {s name : List ℕ} → Bytes s → (m left p : ℕ) → left ≡ m → Looking s name left p → Placed s name (entry_place s name left p)
 looking-found {s} {name} bytes zero left p e l = subst (Placed s name) (entry-last s name left p e) (looking-last bytes l e)
 looking-found {s} {name} bytes (suc m) left p e l = go (equal n.k name) refl (looking-found bytes m)
   where
@@ -203,7 +203,7 @@ looking-found {s} {name} bytes (suc m) left p e l = go (equal n.k name) refl (lo
     n : Next s left p
     n = next_of l.ahead pos
 
-    go : (b : Bool) → equal n.k name ≡ b → ((k q : ℕ) → k ≡ m → Looking s name k q → Placed s name (entryPlace s name k q)) → Placed s name (entryPlace s name left p)
+    go : (b : Bool) → equal n.k name ≡ b → ((k q : ℕ) → k ≡ m → Looking s name k q → Placed s name (entry_place s name k q)) → Placed s name (entry_place s name left p)
     go true h more = subst (Placed s name) (sym (next-shown n name pos h)) (looking-here l n pos h)
     go false h more = subst (Placed s name) (sym (next-other n name pos h)) (more (left - 1) (n.from + length n.k + length n.w) (omega arith) (looking-on l n pos h))
 
@@ -271,7 +271,7 @@ placed-part {s} {name} (placed v) =
     subst (Viewed s name) (sym (ap (take (length (shown v.x v.w))) (part-rest v) ∙ take_at (shown v.x v.w) v.entry-is.later-bytes (length (shown v.x v.w)) refl)) (viewed v)
 placed-part (refused pos q none) = nothing none
 
-placed-number : {s name : List ℕ} {p : Place} → Bytes s → Placed s name p → (placeNumber p ≡ viewNumber s name) × ((placeNumber p ≡ 0) ↔ Viewable s name)
+placed-number : {s name : List ℕ} {p : Place} → Bytes s → Placed s name p → (place_number p ≡ view_number s name) × ((place_number p ≡ 0) ↔ Viewable s name)
 placed-number bytes (placed v) = (sym (viewable-zero bytes v), ((λ z. v), (λ w. refl)))
 placed-number bytes (refused pos q none) = (q, ((λ z. absurd (omega arith)), (λ v. absurd (none v))))
 
@@ -279,28 +279,28 @@ placed-number bytes (refused pos q none) = (q, ((λ z. absurd (omega arith)), (�
 
 module _ (file name : List ℕ) (bytes : Bytes file) where
   -- the place is that of the part, or the refusal
-  pub placeOf-is : Placed file name (place_of file name)
-  placeOf-is = go (eqb (containerNumber file) accepted) refl
+  pub place_of-is : Placed file name (place_of file name)
+  place_of-is = go (eqb (container_number file) accepted) refl
     where
-      go : (b : Bool) → eqb (containerNumber file) accepted ≡ b → Placed file name (place_of file name)
+      go : (b : Bool) → eqb (container_number file) accepted ≡ b → Placed file name (place_of file name)
       go true e =
-          let z = eqb-true (containerNumber file) accepted e in
+          let z = eqb-true (container_number file) accepted e in
           let c = (container-exactly file bytes).0 z in
           let o = outer-of c in
           subst (Placed file name) (sym (place-container file name z o.there)) (looking-found bytes (size c.entries) (size c.entries) (length o.h) refl (looking-first name c o))
       go false e =
-          let z = eqb-false (containerNumber file) accepted e in
+          let z = eqb-false (container_number file) accepted e in
           subst (Placed file name) (place-refused file name z) (refused (pos_of_ne-zero z) (refused-number file name z) (λ v. z ((container-exactly file bytes).1 v.container)))
 
   -- the part is what is shown under the name
-  pub partOf-is : Viewed file name (part_of file name)
+  pub part_of-is : Viewed file name (part_of file name)
   unfolding part_of
-  partOf-is = placed-part placeOf-is
+  part_of-is = placed-part place_of-is
 
   -- the part is inside the file
-  pub placeOf-fits : {i n : ℕ} → place_of file name ≡ Place.At i n → i + n ≤ length file
-  placeOf-fits e = placed-fits (subst (Placed file name) e placeOf-is)
+  pub place_of-fits : {i n : ℕ} → place_of file name ≡ Place.At i n → i + n ≤ length file
+  place_of-fits e = placed-fits (subst (Placed file name) e place_of-is)
 
   -- the number of the place is that of the view, which is 0 exactly when the file shows the name
-  pub placeOf-number : {p : Place} → place_of file name ≡ p → (placeNumber p ≡ viewNumber file name) × ((placeNumber p ≡ 0) ↔ Viewable file name)
-  placeOf-number e = placed-number bytes (subst (Placed file name) e placeOf-is)
+  pub place_of-number : {p : Place} → place_of file name ≡ p → (place_number p ≡ view_number file name) × ((place_number p ≡ 0) ↔ Viewable file name)
+  place_of-number e = placed-number bytes (subst (Placed file name) e place_of-is)

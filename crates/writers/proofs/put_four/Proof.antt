@@ -1,6 +1,6 @@
--- The bytes stored one after the other are the written buffer (`writtenAt-stores`).
+-- The bytes stored one after the other are the written buffer (`written_at-stores`).
 use Rattle.std.proofs.Common.{◌+◌, ◌-◌, ◌≤◌, length, add-zero, arith, length-set, rules}
-use Rattle.numbers.specs.Laws.BigEndian.{writtenAt-stores}
+use Rattle.numbers.specs.Laws.BigEndian.{written_at-stores}
 use Rattle.writers.specs.Laws.Placed.{over-written}
 use Rattle.writers.proofs.put_four.Statement.{statement}
 use Rattle.writers.proofs.put_four.Tie as tie
@@ -11,7 +11,7 @@ returns c =
     let w = c.before.before.before.before.swapped.ensures in
     let h : a.args.at + 4 ≤ length a.args.buffer.now = a.requires in
     rw (c.before.before.before.low_byte.ensures, c.before.before.low-byte2.ensures, c.before.low-byte3.ensures, c.low-byte4.ensures, w.first, w.second, w.third, w.fourth, ← over-written a.args.buffer.now a.args.at 4 a.args.bits h)
-    (rw (writtenAt-stores 4 a.args.buffer.now a.args.at a.args.bits h, add-zero))
+    (rw (written_at-stores 4 a.args.buffer.now a.args.at a.args.bits h, add-zero))
 
 pub put-four-spec : {M : Type 1} → statement M
 put-four-spec =

@@ -1,6 +1,6 @@
--- The bytes stored one after the other are the written buffer (`writtenAt-stores`).
+-- The bytes stored one after the other are the written buffer (`written_at-stores`).
 use Rattle.std.proofs.Common.{◌+◌, ◌-◌, ◌≤◌, length, add-zero, arith, length-set, rules}
-use Rattle.numbers.specs.Laws.BigEndian.{writtenAt-stores}
+use Rattle.numbers.specs.Laws.BigEndian.{written_at-stores}
 use Rattle.writers.specs.Laws.Placed.{over-written}
 use Rattle.writers.proofs.put_two.Statement.{statement}
 use Rattle.writers.proofs.put_two.Tie as tie
@@ -10,7 +10,7 @@ returns c =
     let a = c.before.before.before in
     let h : a.args.at + 2 ≤ length a.args.buffer.now = a.requires in
     rw (c.before.low_byte.ensures, c.low-byte2.ensures, ← over-written a.args.buffer.now a.args.at 2 a.args.bits h)
-    (rw (writtenAt-stores 2 a.args.buffer.now a.args.at a.args.bits h, add-zero))
+    (rw (written_at-stores 2 a.args.buffer.now a.args.at a.args.bits h, add-zero))
 
 pub put-two-spec : {M : Type 1} → statement M
 put-two-spec =

@@ -5,32 +5,32 @@ use Rattle.std.specs.Int.Signed.{mag}
 use Rattle.std.specs.Int.{w32}
 use Rattle.std.proofs.Math.Facts.{of_z-to_z}
 use Rattle.numbers.specs.BigEndian.{bytes_of}
-use Rattle.numbers.specs.Laws.BigEndian.{bytesOf-above}
+use Rattle.numbers.specs.Laws.BigEndian.{bytes_of-above}
 use Rattle.steps.specs.declared.Size.{Size}
 use Rattle.steps.specs.declared.Size.TheVariants.{One, Two, Four}
 use Rattle.steps.specs.Width.{width_of, size_of, lower}
-use Rattle.steps.specs.Numbers.{bytesFor}
+use Rattle.steps.specs.Numbers.{bytes_for}
 use Rattle.writers.specs.Bits.{Swapped}
 
-pub bytesFor-cons : (z : Size) (x : ℤ) (xs : List ℤ) → bytesFor z (x ∷ xs) ≡ bytes_of (size_of z) (of_z (width_of z) x) ++ bytesFor z xs
-unfolding bytesFor
-bytesFor-cons z x xs = refl
+pub bytes_for-cons : (z : Size) (x : ℤ) (xs : List ℤ) → bytes_for z (x ∷ xs) ≡ bytes_of (size_of z) (of_z (width_of z) x) ++ bytes_for z xs
+unfolding bytes_for
+bytes_for-cons z x xs = refl
 
-pub bytesFor-nil : (z : Size) → bytesFor z [] ≡ []
-unfolding bytesFor
-bytesFor-nil z = refl
+pub bytes_for-nil : (z : Size) → bytes_for z [] ≡ []
+unfolding bytes_for
+bytes_for-nil z = refl
 
-pub bytesFor-append : (z : Size) (xs ys : List ℤ) → bytesFor z (xs ++ ys) ≡ bytesFor z xs ++ bytesFor z ys
-unfolding bytesFor
-bytesFor-append z [] ys = refl
-bytesFor-append z (x ∷ xs) ys = rw (bytesFor-append z xs ys) (sym (append_assoc (bytes_of (size_of z) (of_z (width_of z) x)) (bytesFor z xs) (bytesFor z ys)))
+pub bytes_for-append : (z : Size) (xs ys : List ℤ) → bytes_for z (xs ++ ys) ≡ bytes_for z xs ++ bytes_for z ys
+unfolding bytes_for
+bytes_for-append z [] ys = refl
+bytes_for-append z (x ∷ xs) ys = rw (bytes_for-append z xs ys) (sym (append_assoc (bytes_of (size_of z) (of_z (width_of z) x)) (bytes_for z xs) (bytes_for z ys)))
 
 -- the low bytes of a number that its size holds, by its 32 bits
-pub bytesOf-narrow : (z : Size) (x : ℤ) → mag x < lower z → bytes_of (size_of z) (of_z w32 x) ≡ bytes_of (size_of z) (of_z (width_of z) x)
-bytesOf-narrow z (pos n) h = refl
-bytesOf-narrow One (negsuc n) h = let e : 4294967296 - suc n ≡ 16777215 * 256 ^ 1 + (256 - suc n) = omega arith in rw e (bytesOf-above 1 16777215 (256 - suc n))
-bytesOf-narrow Two (negsuc n) h = let e : 4294967296 - suc n ≡ 65535 * 256 ^ 2 + (65536 - suc n) = omega arith in rw e (bytesOf-above 2 65535 (65536 - suc n))
-bytesOf-narrow Four (negsuc n) h = refl
+pub bytes_of-narrow : (z : Size) (x : ℤ) → mag x < lower z → bytes_of (size_of z) (of_z w32 x) ≡ bytes_of (size_of z) (of_z (width_of z) x)
+bytes_of-narrow z (pos n) h = refl
+bytes_of-narrow One (negsuc n) h = let e : 4294967296 - suc n ≡ 16777215 * 256 ^ 1 + (256 - suc n) = omega arith in rw e (bytes_of-above 1 16777215 (256 - suc n))
+bytes_of-narrow Two (negsuc n) h = let e : 4294967296 - suc n ≡ 65535 * 256 ^ 2 + (65536 - suc n) = omega arith in rw e (bytes_of-above 2 65535 (65536 - suc n))
+bytes_of-narrow Four (negsuc n) h = refl
 
 -- the bits of a number that was read, and back
 pub bits_back : {u : ℕ} {y : ℤ} → FitsSigned w32 y → u ≡ of_z w32 (to_z w32 (of_z w32 y)) → to_z w32 u ≡ y

@@ -11,51 +11,51 @@ use Rattle.steps.specs.declared.Size.{Size}
 use Rattle.steps.specs.declared.Size.TheVariants.{One, Two, Four}
 use Rattle.steps.specs.declared.Form.TheVariants.{Packed}
 use Rattle.steps.specs.Width.{width_of, size_of, upper, lower}
-use Rattle.steps.specs.Numbers.{bytesFor}
-use Rattle.steps.specs.Delta.{deltasIf, deltasFrom}
-use Rattle.steps.specs.Packing.{packOne, packAll, pack}
-use Rattle.steps.specs.Payload.{numbersFor}
+use Rattle.steps.specs.Numbers.{bytes_for}
+use Rattle.steps.specs.Delta.{deltas_if, deltas_from}
+use Rattle.steps.specs.Packing.{pack_one, pack_all, pack}
+use Rattle.steps.specs.Payload.{numbers_for}
 use Rattle.steps.specs.Laws.Packing.{limits}
 use Rattle.steps.specs.Laws.Delta.{length-deltas}
-use Rattle.columns.specs.Encode.{payloadOf}
+use Rattle.columns.specs.Encode.{payload_of}
 use Rattle.writers.specs.Laws.Placed.{Parts}
-use Rattle.writers.specs.Laws.Numbers.{bytesFor-cons, bytesFor-nil, bytesFor-append, bytesOf-narrow}
-use Rattle.steps.specs.Laws.NumbersBack.{length-bytesFor}
-use Rattle.writers.specs.Bits.{bitsFor, up_to}
+use Rattle.writers.specs.Laws.Numbers.{bytes_for-cons, bytes_for-nil, bytes_for-append, bytes_of-narrow}
+use Rattle.steps.specs.Laws.NumbersBack.{length-bytes_for}
+use Rattle.writers.specs.Bits.{bits_for, up_to}
 
-pub packed-payload : (z : Size) (d : Bool) (xs : List ℤ) → payloadOf (Packed z) d xs ≡ bytesFor z (pack z (deltasIf d xs))
-unfolding payloadOf numbersFor
+pub packed-payload : (z : Size) (d : Bool) (xs : List ℤ) → payload_of (Packed z) d xs ≡ bytes_for z (pack z (deltas_if d xs))
+unfolding payload_of numbers_for
 packed-payload z d xs = refl
 
 -- one value more
-pub bytes-pack-more : (z : Size) (y : ℤ) (xs ys : List ℤ) → ys ≡ y ∷ xs → Parts (bytesFor z (pack z ys)) (bytesFor z (packOne (upper z) (lower z) y)) (bytesFor z (pack z xs))
-unfolding packAll
-bytes-pack-more z y xs ys e = record { are = ap (λ (l : List ℤ). bytesFor z (pack z l)) e ∙ bytesFor-append z (packOne (upper z) (lower z) y) (pack z xs) }
+pub bytes-pack-more : (z : Size) (y : ℤ) (xs ys : List ℤ) → ys ≡ y ∷ xs → Parts (bytes_for z (pack z ys)) (bytes_for z (pack_one (upper z) (lower z) y)) (bytes_for z (pack z xs))
+unfolding pack_all
+bytes-pack-more z y xs ys e = record { are = ap (λ (l : List ℤ). bytes_for z (pack z l)) e ∙ bytes_for-append z (pack_one (upper z) (lower z) y) (pack z xs) }
 
-pub bytes-pack-none : (z : Size) (ys : List ℤ) → ys ≡ [] → bytesFor z (pack z ys) ≡ []
-unfolding packAll
-bytes-pack-none z ys e = ap (λ (l : List ℤ). bytesFor z (pack z l)) e ∙ bytesFor-nil z
+pub bytes-pack-none : (z : Size) (ys : List ℤ) → ys ≡ [] → bytes_for z (pack z ys) ≡ []
+unfolding pack_all
+bytes-pack-none z ys e = ap (λ (l : List ℤ). bytes_for z (pack z l)) e ∙ bytes_for-nil z
 
 -- A count up to the room
 
 module _ (room n : ℕ) where
-  pub upTo-over : room < n → up_to room n ≡ room + 1
+  pub up_to-over : room < n → up_to room n ≡ room + 1
   unfolding up_to
-  upTo-over h = rw (lt-leb n room h)
+  up_to-over h = rw (lt-leb n room h)
 
-  pub upTo-in : n ≤ room → up_to room n ≡ n
+  pub up_to-in : n ≤ room → up_to room n ≡ n
   unfolding up_to
-  upTo-in h = rw (le-leb n room h)
+  up_to-in h = rw (le-leb n room h)
 
-  upTo-cases : (t : Bool) → nat_le n room ≡ t → (room < up_to room n → room < n) × (up_to room n ≤ room → up_to room n ≡ n)
-  upTo-cases true e = let q = upTo-in (leb-true n room e) in (λ h. omega arith, λ h. q)
-  upTo-cases false e = let k = leb-false n room e in let q = upTo-over k in (λ h. k, λ h. absurd (omega arith))
+  up_to-cases : (t : Bool) → nat_le n room ≡ t → (room < up_to room n → room < n) × (up_to room n ≤ room → up_to room n ≡ n)
+  up_to-cases true e = let q = up_to-in (leb-true n room e) in (λ h. omega arith, λ h. q)
+  up_to-cases false e = let k = leb-false n room e in let q = up_to-over k in (λ h. k, λ h. absurd (omega arith))
 
-  pub upTo-above : room < up_to room n → room < n
-  upTo-above = (upTo-cases (nat_le n room) refl).0
+  pub up_to-above : room < up_to room n → room < n
+  up_to-above = (up_to-cases (nat_le n room) refl).0
 
-  pub upTo-within : up_to room n ≤ room → up_to room n ≡ n
-  upTo-within = (upTo-cases (nat_le n room) refl).1
+  pub up_to-within : up_to room n ≤ room → up_to room n ≡ n
+  up_to-within = (up_to-cases (nat_le n room) refl).1
 
 -- Numbers up to the room, where k is their size
 
@@ -73,16 +73,16 @@ module _ (z : Size) (room n : ℕ) {k : ℕ} (e : k ≡ size_of z) where
   pub product-in : n ≤ room / k → n * k ≤ room
   product-in h = let q = ap (λ (j : ℕ). room / j) e in rw e (room_in room n z (omega arith))
 
-  pub length-bytesFor-over : (l : List ℤ) → room / k < length l → room + 1 ≡ up_to room (length (bytesFor z l))
-  length-bytesFor-over l h =
+  pub length-bytes_for-over : (l : List ℤ) → room / k < length l → room + 1 ≡ up_to room (length (bytes_for z l))
+  length-bytes_for-over l h =
       let q = ap (λ (j : ℕ). room / j) e in
       let p = room-over room (length l) z (omega arith) in
-      sym (upTo-over room (length (bytesFor z l)) (omega (arith, length-bytesFor z l)))
+      sym (up_to-over room (length (bytes_for z l)) (omega (arith, length-bytes_for z l)))
 
-  pub length-bytesFor-in : (l : List ℤ) → n ≤ room / k → n ≡ length l → n * k ≡ up_to room (length (bytesFor z l))
-  length-bytesFor-in l h q =
-      let p : n * k ≡ length (bytesFor z l) = ap₂ (λ (i j : ℕ). i * j) q e ∙ sym (length-bytesFor z l) in
-      p ∙ sym (upTo-in room (length (bytesFor z l)) (omega (arith, product-in h)))
+  pub length-bytes_for-in : (l : List ℤ) → n ≤ room / k → n ≡ length l → n * k ≡ up_to room (length (bytes_for z l))
+  length-bytes_for-in l h q =
+      let p : n * k ≡ length (bytes_for z l) = ap₂ (λ (i j : ℕ). i * j) q e ∙ sym (length-bytes_for z l) in
+      p ∙ sym (up_to-in room (length (bytes_for z l)) (omega (arith, product-in h)))
 
 -- How many numbers one value has
 
@@ -91,47 +91,47 @@ length-limits : (k : ℕ) (l r : ℤ) → length (replicate k l ++ (r ∷ [])) �
 length-limits k l r = length-append (replicate k l) (r ∷ []) ∙ ap (λ (n : ℕ). n + 1) (length-replicate k l)
 
 module _ (z : Size) (u : ℕ) where
-  pub length-packOne-up : (x : ℤ) → FitsSigned w32 x → u ≡ of_z w32 x → u < 2147483648 → length (packOne (upper z) (lower z) x) ≡ u / upper z + 1
-  unfolding packOne
-  length-packOne-up (pos n) f e h = length-limits (n / upper z) (pos (upper z)) (pos (n % upper z)) ∙ ap (λ (m : ℕ). m / upper z + 1) (sym e)
-  length-packOne-up (negsuc n) f e h = absurd (omega (arith, f.sfits))
+  pub length-pack_one-up : (x : ℤ) → FitsSigned w32 x → u ≡ of_z w32 x → u < 2147483648 → length (pack_one (upper z) (lower z) x) ≡ u / upper z + 1
+  unfolding pack_one
+  length-pack_one-up (pos n) f e h = length-limits (n / upper z) (pos (upper z)) (pos (n % upper z)) ∙ ap (λ (m : ℕ). m / upper z + 1) (sym e)
+  length-pack_one-up (negsuc n) f e h = absurd (omega (arith, f.sfits))
 
   -- the size of a negative number, by its bits
   negative-size : (n : ℕ) → n < 2147483648 → u ≡ 4294967296 - suc n → (4294967296 - u) % 4294967296 ≡ suc n
   negative-size n h e = let q : 4294967296 - u ≡ suc n = omega arith in ap (λ (m : ℕ). m % 4294967296) q ∙ mod-eq_of_lt (omega arith)
 
-  pub length-packOne-down : (x : ℤ) → FitsSigned w32 x → u ≡ of_z w32 x → 2147483648 ≤ u → length (packOne (upper z) (lower z) x) ≡ (4294967296 - u) % 4294967296 / lower z + 1
-  unfolding packOne
-  length-packOne-down (pos n) f e h = absurd (omega (arith, f.sfits))
-  length-packOne-down (negsuc n) f e h = length-limits (suc n / lower z) (neg_ℤ (pos (lower z))) (neg_ℤ (pos (suc n % lower z))) ∙ ap (λ (m : ℕ). m / lower z + 1) (sym (negative-size n f.sfits e))
+  pub length-pack_one-down : (x : ℤ) → FitsSigned w32 x → u ≡ of_z w32 x → 2147483648 ≤ u → length (pack_one (upper z) (lower z) x) ≡ (4294967296 - u) % 4294967296 / lower z + 1
+  unfolding pack_one
+  length-pack_one-down (pos n) f e h = absurd (omega (arith, f.sfits))
+  length-pack_one-down (negsuc n) f e h = length-limits (suc n / lower z) (neg_ℤ (pos (lower z))) (neg_ℤ (pos (suc n % lower z))) ∙ ap (λ (m : ℕ). m / lower z + 1) (sym (negative-size n f.sfits e))
 
 -- How many numbers values have: at least one each
 
-pub length-pack-more : (z : Size) (y : ℤ) (xs ys : List ℤ) → ys ≡ y ∷ xs → length (pack z ys) ≡ length (packOne (upper z) (lower z) y) + length (pack z xs)
-unfolding packAll
-length-pack-more z y xs ys e = ap (λ (l : List ℤ). length (pack z l)) e ∙ length-append (packOne (upper z) (lower z) y) (pack z xs)
+pub length-pack-more : (z : Size) (y : ℤ) (xs ys : List ℤ) → ys ≡ y ∷ xs → length (pack z ys) ≡ length (pack_one (upper z) (lower z) y) + length (pack z xs)
+unfolding pack_all
+length-pack-more z y xs ys e = ap (λ (l : List ℤ). length (pack z l)) e ∙ length-append (pack_one (upper z) (lower z) y) (pack z xs)
 
 pub length-pack-none : (z : Size) (ys : List ℤ) → ys ≡ [] → length (pack z ys) ≡ 0
-unfolding packAll
+unfolding pack_all
 length-pack-none z ys e = ap (λ (l : List ℤ). length (pack z l)) e
 
-length-packOne-least : (p q : ℕ) (x : ℤ) → 0 < length (packOne p q x)
-unfolding packOne
-length-packOne-least p q (pos n) = let e = length-limits (n / p) (pos p) (pos (n % p)) in omega arith
-length-packOne-least p q (negsuc n) = let e = length-limits (suc n / q) (neg_ℤ (pos q)) (neg_ℤ (pos (suc n % q))) in omega arith
+length-pack_one-least : (p q : ℕ) (x : ℤ) → 0 < length (pack_one p q x)
+unfolding pack_one
+length-pack_one-least p q (pos n) = let e = length-limits (n / p) (pos p) (pos (n % p)) in omega arith
+length-pack_one-least p q (negsuc n) = let e = length-limits (suc n / q) (neg_ℤ (pos q)) (neg_ℤ (pos (suc n % q))) in omega arith
 
 length-pack-least : (z : Size) (ys : List ℤ) → length ys ≤ length (pack z ys)
-unfolding packAll
+unfolding pack_all
 length-pack-least z [] = omega arith
 length-pack-least z (y ∷ ys) =
-    let a = length-append (packOne (upper z) (lower z) y) (pack z ys) in
-    let b = length-packOne-least (upper z) (lower z) y in
+    let a = length-append (pack_one (upper z) (lower z) y) (pack z ys) in
+    let b = length-pack_one-least (upper z) (lower z) y in
     let c = length-pack-least z ys in
     omega arith
 
-pub length-pack-deltas : (z : Size) (d : Bool) (a : ℤ) (xs : List ℤ) (i : ℕ) → length xs - i ≤ length (pack z (deltasFrom d a (drop i xs)))
+pub length-pack-deltas : (z : Size) (d : Bool) (a : ℤ) (xs : List ℤ) (i : ℕ) → length xs - i ≤ length (pack z (deltas_from d a (drop i xs)))
 length-pack-deltas z d a xs i =
-    let p = length-pack-least z (deltasFrom d a (drop i xs)) in
+    let p = length-pack-least z (deltas_from d a (drop i xs)) in
     let q = length-deltas d a (drop i xs) in
     let r = length-drop i xs in
     omega arith
@@ -140,31 +140,31 @@ length-pack-deltas z d a xs i =
 
 -- k limits and a rest, each by bits with the same low bytes
 bits-parts : (z : Size) (k : ℕ) (l r : ℤ) (a b : ℕ) → bytes_of (size_of z) (of_z (width_of z) l) ≡ bytes_of (size_of z) a → bytes_of (size_of z) (of_z (width_of z) r) ≡ bytes_of (size_of z) b
-    → bytesFor z (replicate k l ++ (r ∷ [])) ≡ bitsFor z (replicate k a ++ (b ∷ []))
-unfolding bitsFor
-bits-parts z zero l r a b p q = bytesFor-cons z r [] ∙ ap₂ (λ (s t : List ℕ). s ++ t) q (bytesFor-nil z)
-bits-parts z (suc k) l r a b p q = bytesFor-cons z l (replicate k l ++ (r ∷ [])) ∙ ap₂ (λ (s t : List ℕ). s ++ t) p (bits-parts z k l r a b p q)
+    → bytes_for z (replicate k l ++ (r ∷ [])) ≡ bits_for z (replicate k a ++ (b ∷ []))
+unfolding bits_for
+bits-parts z zero l r a b p q = bytes_for-cons z r [] ∙ ap₂ (λ (s t : List ℕ). s ++ t) q (bytes_for-nil z)
+bits-parts z (suc k) l r a b p q = bytes_for-cons z l (replicate k l ++ (r ∷ [])) ∙ ap₂ (λ (s t : List ℕ). s ++ t) p (bits-parts z k l r a b p q)
 
 -- a number below 0 by its bits
 neg_bits : (z : Size) (m : ℕ) → m ≤ lower z → bytes_of (size_of z) (of_z (width_of z) (neg_ℤ (pos m))) ≡ bytes_of (size_of z) ((4294967296 - m) % 4294967296)
 neg_bits z zero h = refl
-neg_bits z (suc m) h = sym (bytesOf-narrow z (negsuc m) h) ∙ ap (bytes_of (size_of z)) (sym (mod-eq_of_lt (omega arith)))
+neg_bits z (suc m) h = sym (bytes_of-narrow z (negsuc m) h) ∙ ap (bytes_of (size_of z)) (sym (mod-eq_of_lt (omega arith)))
 
 module _ (z : Size) (u : ℕ) where
-  pub bytes-packOne-up : (x : ℤ) → FitsSigned w32 x → u ≡ of_z w32 x → u < 2147483648 → bytesFor z (packOne (upper z) (lower z) x) ≡ bitsFor z (replicate (u / upper z) (upper z) ++ (u % upper z ∷ []))
-  unfolding packOne
-  bytes-packOne-up (pos n) f e h = bits-parts z (n / upper z) (pos (upper z)) (pos (n % upper z)) (upper z) (n % upper z) refl refl ∙ ap (λ (m : ℕ). bitsFor z (replicate (m / upper z) (upper z) ++ (m % upper z ∷ []))) (sym e)
-  bytes-packOne-up (negsuc n) f e h = absurd (omega (arith, f.sfits))
+  pub bytes-pack_one-up : (x : ℤ) → FitsSigned w32 x → u ≡ of_z w32 x → u < 2147483648 → bytes_for z (pack_one (upper z) (lower z) x) ≡ bits_for z (replicate (u / upper z) (upper z) ++ (u % upper z ∷ []))
+  unfolding pack_one
+  bytes-pack_one-up (pos n) f e h = bits-parts z (n / upper z) (pos (upper z)) (pos (n % upper z)) (upper z) (n % upper z) refl refl ∙ ap (λ (m : ℕ). bits_for z (replicate (m / upper z) (upper z) ++ (m % upper z ∷ []))) (sym e)
+  bytes-pack_one-up (negsuc n) f e h = absurd (omega (arith, f.sfits))
 
-  pub bytes-packOne-down : (x : ℤ) (m : ℕ) → FitsSigned w32 x → u ≡ of_z w32 x → 2147483648 ≤ u → m ≡ (4294967296 - u) % 4294967296
-      → bytesFor z (packOne (upper z) (lower z) x) ≡ bitsFor z (replicate (m / lower z) ((4294967296 - lower z) % 4294967296) ++ ((4294967296 - m % lower z) % 4294967296 ∷ []))
-  unfolding packOne
-  bytes-packOne-down (pos n) m f e h q = absurd (omega (arith, f.sfits))
-  bytes-packOne-down (negsuc n) m f e h q =
+  pub bytes-pack_one-down : (x : ℤ) (m : ℕ) → FitsSigned w32 x → u ≡ of_z w32 x → 2147483648 ≤ u → m ≡ (4294967296 - u) % 4294967296
+      → bytes_for z (pack_one (upper z) (lower z) x) ≡ bits_for z (replicate (m / lower z) ((4294967296 - lower z) % 4294967296) ++ ((4294967296 - m % lower z) % 4294967296 ∷ []))
+  unfolding pack_one
+  bytes-pack_one-down (pos n) m f e h q = absurd (omega (arith, f.sfits))
+  bytes-pack_one-down (negsuc n) m f e h q =
       let s = q ∙ negative-size z u n f.sfits e in
       let t = mod-lt (suc n) {m = lower z} (limits z).2 in
       bits-parts z (suc n / lower z) (neg_ℤ (pos (lower z))) (neg_ℤ (pos (suc n % lower z))) ((4294967296 - lower z) % 4294967296) ((4294967296 - suc n % lower z) % 4294967296) (neg_bits z (lower z) (omega arith)) (neg_bits z (suc n % lower z) (omega arith))
-      ∙ ap (λ (i : ℕ). bitsFor z (replicate (i / lower z) ((4294967296 - lower z) % 4294967296) ++ ((4294967296 - i % lower z) % 4294967296 ∷ []))) (sym s)
+      ∙ ap (λ (i : ℕ). bits_for z (replicate (i / lower z) ((4294967296 - lower z) % 4294967296) ++ ((4294967296 - i % lower z) % 4294967296 ∷ []))) (sym s)
 
 -- A value between the limits
 
@@ -184,35 +184,35 @@ module _ (p q : ℕ) (p-small : p < 2147483648) (q-pos : 0 < q) (q-small : q ≤
           let k : (u + (q - 1)) % 4294967296 ≡ u + (q - 1) = mod-eq_of_lt (omega (arith, f.sfits)) in
           absurd (omega (arith, f.sfits))
 
-packOne-short : (p q : ℕ) (x : ℤ) → Short p q x → packOne p q x ≡ x ∷ []
-unfolding packOne
-packOne-short p q (pos n) h = let d : n / p ≡ 0 = div-eq_of_lt h in let m : n % p ≡ n = mod-eq_of_lt h in rw (d, m)
-packOne-short p q (negsuc n) h = let d : suc n / q ≡ 0 = div-eq_of_lt h in let m : suc n % q ≡ suc n = mod-eq_of_lt h in rw (d, m)
+pack_one-short : (p q : ℕ) (x : ℤ) → Short p q x → pack_one p q x ≡ x ∷ []
+unfolding pack_one
+pack_one-short p q (pos n) h = let d : n / p ≡ 0 = div-eq_of_lt h in let m : n % p ≡ n = mod-eq_of_lt h in rw (d, m)
+pack_one-short p q (negsuc n) h = let d : suc n / q ≡ 0 = div-eq_of_lt h in let m : suc n % q ≡ suc n = mod-eq_of_lt h in rw (d, m)
 
 short-bits : (z : Size) (x : ℤ) → Short (upper z) (lower z) x → bytes_of (size_of z) (of_z w32 x) ≡ bytes_of (size_of z) (of_z (width_of z) x)
 short-bits z (pos n) h = refl
-short-bits z (negsuc n) h = bytesOf-narrow z (negsuc n) (omega arith)
+short-bits z (negsuc n) h = bytes_of-narrow z (negsuc n) (omega arith)
 
 module _ (z : Size) (u low span : ℕ) (x : ℤ) (f : FitsSigned w32 x) (e : u ≡ of_z w32 x) (a : low ≡ lower z - 1) (b : span ≡ upper z + low) (h : ltb ((u + low) % 4294967296) span ≡ true) where
   is-short : Short (upper z) (lower z) x
   is-short = let l = limits z in short (upper z) (lower z) l.1 l.2 l.3 u x f e (ltb-true _ _ (rw (b, a) at h))
 
-  pub length-packOne-short : length (packOne (upper z) (lower z) x) ≡ 1
-  length-packOne-short = ap length (packOne-short (upper z) (lower z) x is-short)
+  pub length-pack_one-short : length (pack_one (upper z) (lower z) x) ≡ 1
+  length-pack_one-short = ap length (pack_one-short (upper z) (lower z) x is-short)
 
-  pub bytes-packOne-short : bytesFor z (packOne (upper z) (lower z) x) ≡ bytes_of (size_of z) u
-  bytes-packOne-short =
-      ap (bytesFor z) (packOne-short (upper z) (lower z) x is-short) ∙ bytesFor-cons z x [] ∙ ap (λ (l : List ℕ). bytes_of (size_of z) (of_z (width_of z) x) ++ l) (bytesFor-nil z) ∙ append-nil (bytes_of (size_of z) (of_z (width_of z) x))
+  pub bytes-pack_one-short : bytes_for z (pack_one (upper z) (lower z) x) ≡ bytes_of (size_of z) u
+  bytes-pack_one-short =
+      ap (bytes_for z) (pack_one-short (upper z) (lower z) x is-short) ∙ bytes_for-cons z x [] ∙ ap (λ (l : List ℕ). bytes_of (size_of z) (of_z (width_of z) x) ++ l) (bytes_for-nil z) ∙ append-nil (bytes_of (size_of z) (of_z (width_of z) x))
       ∙ sym (short-bits z x is-short) ∙ ap (bytes_of (size_of z)) (sym e)
 
 -- One number of the parts
 
-pub limit-more : (z : Size) (k l : ℕ) (t : List ℕ) → 0 < k → Parts (bitsFor z (replicate k l ++ t)) (bytes_of (size_of z) l) (bitsFor z (replicate (k - 1) l ++ t))
-unfolding bitsFor
+pub limit-more : (z : Size) (k l : ℕ) (t : List ℕ) → 0 < k → Parts (bits_for z (replicate k l ++ t)) (bytes_of (size_of z) l) (bits_for z (replicate (k - 1) l ++ t))
+unfolding bits_for
 limit-more z zero l t h = absurd (omega arith)
 limit-more z (suc k) l t h = let e : suc k - 1 ≡ k = omega arith in record { are = rw e }
 
-pub rest-last : (z : Size) (k l r : ℕ) → k ≤ 0 → Parts (bitsFor z (replicate k l ++ (r ∷ []))) (bytes_of (size_of z) r) []
-unfolding bitsFor
+pub rest-last : (z : Size) (k l r : ℕ) → k ≤ 0 → Parts (bits_for z (replicate k l ++ (r ∷ []))) (bytes_of (size_of z) r) []
+unfolding bits_for
 rest-last z zero l r h = record { are = refl }
 rest-last z (suc k) l r h = absurd (omega arith)

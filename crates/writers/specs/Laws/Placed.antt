@@ -6,8 +6,8 @@ use native.Mathlib.Omega.{arith}
 use Rattle.std.proofs.Math.ListN.{length-append, length-drop}
 use Rattle.std.proofs.Math.Seq.{length-take-le, take_at, drop_at, drop-drop}
 use borrow.Author.Tests.{le-leb, lt-leb}
-use Rattle.numbers.specs.BigEndian.{bytes_of, writtenAt}
-use Rattle.numbers.specs.Laws.BigEndian.{writtenAt-in, length-bytesOf}
+use Rattle.numbers.specs.BigEndian.{bytes_of, written_at}
+use Rattle.numbers.specs.Laws.BigEndian.{written_at-in, length-bytes_of}
 use Rattle.writers.specs.declared.Placed.TheVariants.{Bytes, NotAllowed, NoRoom}
 use Rattle.writers.specs.Placed.{over, placed, laid}
 
@@ -43,9 +43,9 @@ module _ (s : List ℕ) (at : ℕ) where
   pub over-then : (k : ℕ) (l m : List ℕ) → length l ≡ k → at + k + length m ≤ length s → over (over s at l) (at + k) m ≡ over s at (l ++ m)
   over-then k l m e h = ap (λ (n : ℕ). over (over s at l) (at + n) m) (sym e) ∙ over-more l m (omega arith)
 
-  pub over-written : (k n : ℕ) → at + k ≤ length s → writtenAt k s at n ≡ over s at (bytes_of k n)
+  pub over-written : (k n : ℕ) → at + k ≤ length s → written_at k s at n ≡ over s at (bytes_of k n)
   unfolding over
-  over-written k n h = writtenAt-in k s at n h ∙ rw (length-bytesOf k n) (append_assoc (take at s) (bytes_of k n) (drop (at + k) s))
+  over-written k n h = written_at-in k s at n h ∙ rw (length-bytes_of k n) (append_assoc (take at s) (bytes_of k n) (drop (at + k) s))
 
 -- Part after part
 

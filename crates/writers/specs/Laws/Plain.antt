@@ -11,21 +11,21 @@ use Rattle.steps.specs.declared.Size.TheVariants.{One, Two, Four}
 use Rattle.steps.specs.declared.Range.TheVariants.{Int32}
 use Rattle.steps.specs.declared.Form.TheVariants.{Plain, Names}
 use Rattle.steps.specs.Width.{width_of, size_of, lower}
-use Rattle.steps.specs.Numbers.{bytesFor}
-use Rattle.steps.specs.Payload.{numbersFor, in_range, range_of, allIn, allowed}
-use Rattle.columns.specs.Encode.{payloadOf}
+use Rattle.steps.specs.Numbers.{bytes_for}
+use Rattle.steps.specs.Payload.{numbers_for, in_range, range_of, all_in, allowed}
+use Rattle.columns.specs.Encode.{payload_of}
 use Rattle.writers.specs.Laws.Placed.{Parts}
-use Rattle.writers.specs.Laws.Numbers.{bytesFor-cons, bytesFor-nil}
+use Rattle.writers.specs.Laws.Numbers.{bytes_for-cons, bytes_for-nil}
 use Rattle.steps.specs.Laws.PayloadBack.{in-limits}
 use Rattle.steps.specs.Laws.Delta.{deltas-plain}
 
-pub plain-payload : (z : Size) (xs : List ℤ) → payloadOf (Plain z) false xs ≡ bytesFor z xs
-unfolding payloadOf numbersFor
-plain-payload z xs = ap (bytesFor z) (deltas-plain (pos 0) xs)
+pub plain-payload : (z : Size) (xs : List ℤ) → payload_of (Plain z) false xs ≡ bytes_for z xs
+unfolding payload_of numbers_for
+plain-payload z xs = ap (bytes_for z) (deltas-plain (pos 0) xs)
 
-pub names-payload : (xs : List ℤ) → payloadOf Names false xs ≡ bytesFor One xs
-unfolding payloadOf numbersFor
-names-payload xs = ap (bytesFor One) (deltas-plain (pos 0) xs)
+pub names-payload : (xs : List ℤ) → payload_of Names false xs ≡ bytes_for One xs
+unfolding payload_of numbers_for
+names-payload xs = ap (bytes_for One) (deltas-plain (pos 0) xs)
 
 -- a number that its size holds
 pub mag-held : (z : Size) (x : ℤ) → in_range (range_of (Plain z)) x ≡ true → mag x < lower z
@@ -38,17 +38,17 @@ any-bits : (u : ℕ) (t : Bool) → nat_lt u 2147483648 ≡ t → in_range Int32
 any-bits u true q = le-leb u 2147483647 (omega (arith, ltb-true u 2147483648 q))
 any-bits u false q = rw (le-leb (4294967296 - suc u) 2147483647 (omega (arith, ltb-false u 2147483648 q)))
 
-all-bits : (us : List ℕ) → allIn Int32 (map (to_z w32) us) ≡ true
-unfolding allIn
+all-bits : (us : List ℕ) → all_in Int32 (map (to_z w32) us) ≡ true
+unfolding all_in
 all-bits [] = refl
 all-bits (u ∷ us) = rw (any-bits u (nat_lt u 2147483648) refl) (all-bits us)
 
 pub floats-allowed : (us : List ℕ) → allowed (Plain Four) 0 (map (to_z w32) us) ≡ true
-floats-allowed us = and-true (allIn Int32 (map (to_z w32) us)) ∙ all-bits us
+floats-allowed us = and-true (all_in Int32 (map (to_z w32) us)) ∙ all-bits us
 
 -- one number more, whose low bytes are those of u
-pub bytesFor-more : (z : Size) (x : ℤ) (u : ℕ) (xs ys : List ℤ) → ys ≡ x ∷ xs → bytes_of (size_of z) u ≡ bytes_of (size_of z) (of_z (width_of z) x) → Parts (bytesFor z ys) (bytes_of (size_of z) u) (bytesFor z xs)
-bytesFor-more z x u xs ys e q = record { are = ap (bytesFor z) e ∙ bytesFor-cons z x xs ∙ ap (λ (l : List ℕ). l ++ bytesFor z xs) (sym q) }
+pub bytes_for-more : (z : Size) (x : ℤ) (u : ℕ) (xs ys : List ℤ) → ys ≡ x ∷ xs → bytes_of (size_of z) u ≡ bytes_of (size_of z) (of_z (width_of z) x) → Parts (bytes_for z ys) (bytes_of (size_of z) u) (bytes_for z xs)
+bytes_for-more z x u xs ys e q = record { are = ap (bytes_for z) e ∙ bytes_for-cons z x xs ∙ ap (λ (l : List ℕ). l ++ bytes_for z xs) (sym q) }
 
-pub bytesFor-none : (z : Size) (ys : List ℤ) → ys ≡ [] → bytesFor z ys ≡ []
-bytesFor-none z ys e = ap (bytesFor z) e ∙ bytesFor-nil z
+pub bytes_for-none : (z : Size) (ys : List ℤ) → ys ≡ [] → bytes_for z ys ≡ []
+bytes_for-none z ys e = ap (bytes_for z) e ∙ bytes_for-nil z

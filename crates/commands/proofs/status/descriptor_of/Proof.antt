@@ -2,18 +2,18 @@
 use mathlib.Core.Path.{sym, ap, ◌∙◌}
 use borrow.Author.Tests.{lt-ltb, le-ltb}
 use borrow.Author.Rules.{rules}
-use Rattle.commands.specs.Status.{descriptorBy}
+use Rattle.commands.specs.Status.{descriptor_by}
 use Rattle.commands.proofs.status.descriptor_of.Statement.{statement}
 use Rattle.commands.proofs.status.descriptor_of.Tie as tie
 
 returns : tie.Need-returns
-returns c = sym (ap descriptorBy (sym c.before.before.number_of_lem.ensures ∙ c.enum_told.given.1))
+returns c = sym (ap descriptor_by (sym c.before.before.number_of_lem.ensures ∙ c.enum_told.given.1))
 
 returns-2 : tie.Need-returns-2
-returns-2 c = sym (ap descriptorBy (sym c.before.before.before.before.number_of_lem.ensures ∙ c.before.before.number.given.1) ∙ rw (lt-ltb _ 2147483648 c.if1.true))
+returns-2 c = sym (ap descriptor_by (sym c.before.before.before.before.number_of_lem.ensures ∙ c.before.before.number.given.1) ∙ rw (lt-ltb _ 2147483648 c.if1.true))
 
 returns-3 : tie.Need-returns-3
-returns-3 c = sym (ap descriptorBy (sym c.before.before.before.before.number_of_lem.ensures ∙ c.before.before.number.given.1) ∙ rw (le-ltb _ 2147483648 c.if1.false))
+returns-3 c = sym (ap descriptor_by (sym c.before.before.before.before.number_of_lem.ensures ∙ c.before.before.number.given.1) ∙ rw (le-ltb _ 2147483648 c.if1.false))
 
 pub descriptor-of-spec : {M : Type 1} → statement M
 descriptor-of-spec =

@@ -1,40 +1,40 @@
 -- Each arm is the definition's case. Assumes nothing.
 use mathlib.Core.Path.{sym, ap}
 use borrow.Author.Rules.{rules}
-use Rattle.commands.specs.Words.{wordsFit}
+use Rattle.commands.specs.Words.{words_fit}
 use Rattle.commands.specs.declared.words.Command.{Command}
 use Rattle.commands.proofs.words.fits.Statement.{statement}
 use Rattle.commands.proofs.words.fits.Tie as tie
 
 returns : tie.Need-returns
-returns c = sym (ap (λ (x : Command). wordsFit x c.before.before.args.count) c.enum_told.given.1)
+returns c = sym (ap (λ (x : Command). words_fit x c.before.before.args.count) c.enum_told.given.1)
 
 returns-2 : tie.Need-returns-2
-returns-2 c = sym (ap (λ (x : Command). wordsFit x c.before.before.args.count) c.enum-told2.given.1)
+returns-2 c = sym (ap (λ (x : Command). words_fit x c.before.before.args.count) c.enum-told2.given.1)
 
 returns-3 : tie.Need-returns-3
-returns-3 c = sym (ap (λ (x : Command). wordsFit x c.before.before.args.count) c.enum-told3.given.1)
+returns-3 c = sym (ap (λ (x : Command). words_fit x c.before.before.args.count) c.enum-told3.given.1)
 
 returns-4 : tie.Need-returns-4
-returns-4 c = sym (ap (λ (x : Command). wordsFit x c.before.before.args.count) c.enum-told4.given.1)
+returns-4 c = sym (ap (λ (x : Command). words_fit x c.before.before.args.count) c.enum-told4.given.1)
 
 returns-5 : tie.Need-returns-5
-returns-5 c = sym (ap (λ (x : Command). wordsFit x c.before.before.args.count) c.enum-told5.given.1)
+returns-5 c = sym (ap (λ (x : Command). words_fit x c.before.before.args.count) c.enum-told5.given.1)
 
 returns-6 : tie.Need-returns-6
-returns-6 c = sym (ap (λ (x : Command). wordsFit x c.before.before.args.count) c.enum-told6.given.1)
+returns-6 c = sym (ap (λ (x : Command). words_fit x c.before.before.args.count) c.enum-told6.given.1)
 
 returns-7 : tie.Need-returns-7
-returns-7 c = sym (ap (λ (x : Command). wordsFit x c.before.before.args.count) c.enum-told7.given.1)
+returns-7 c = sym (ap (λ (x : Command). words_fit x c.before.before.args.count) c.enum-told7.given.1)
 
 returns-8 : tie.Need-returns-8
-returns-8 c = sym (ap (λ (x : Command). wordsFit x c.before.before.args.count) c.enum-told8.given.1)
+returns-8 c = sym (ap (λ (x : Command). words_fit x c.before.before.args.count) c.enum-told8.given.1)
 
 returns-9 : tie.Need-returns-9
-returns-9 c = sym (ap (λ (x : Command). wordsFit x c.before.before.args.count) c.enum-told9.given.1)
+returns-9 c = sym (ap (λ (x : Command). words_fit x c.before.before.args.count) c.enum-told9.given.1)
 
 returns-10 : tie.Need-returns-10
-returns-10 c = sym (ap (λ (x : Command). wordsFit x c.before.before.args.count) c.enum-told10.given.1)
+returns-10 c = sym (ap (λ (x : Command). words_fit x c.before.before.args.count) c.enum-told10.given.1)
 
 pub fits-spec : {M : Type 1} → statement M
 fits-spec =

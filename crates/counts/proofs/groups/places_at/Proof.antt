@@ -2,7 +2,7 @@
 use mathlib.Core.Path.{sym, ◌∙◌}
 use mathlib.Core.List.{[], ◌∷◌}
 use Rattle.heads.specs.declared.Kind.{Kind}
-use Rattle.values.specs.Parts.{entriesOf}
+use Rattle.values.specs.Parts.{entries_of}
 use Rattle.values.specs.Laws.Heads.{kind-other}
 use Rattle.values.specs.Laws.Places.{at_head, at-standing}
 use Rattle.counts.specs.Laws.Group.{map_at, found_none}
@@ -17,7 +17,7 @@ returns-2 : tie.Need-returns-2
 returns-2 c =
     λ t x e a.
     let m = map_at x a (sym (c.before.before.before.before.before.before.before.head_at.ensures.1 t) ∙ c.before.before.before.before.before.n.given.1) (sym (c.before.before.before.kind-at.ensures.1 t) ∙ c.before.enum-told2.given.1) in
-    c.places-from.ensures t (entriesOf x) e m.all m.counts
+    c.places-from.ensures t (entries_of x) e m.all m.counts
 
 returns-3 : tie.Need-returns-3
 returns-3 c =

@@ -1,7 +1,7 @@
 -- What is left of the maps decides, since those before list indices of chains only.
 use mathlib.Core.Path.{sym, ◌∙◌}
 use Rattle.values.specs.Parts.{under}
-use Rattle.counts.specs.Indices.{chainsInside}
+use Rattle.counts.specs.Indices.{chains_inside}
 use borrow.Author.Tests.{not-true, not-false}
 use Rattle.counts.specs.Laws.Indices.{Judging, judging-start, judging-next, judging-more, judging-out, judging-end}
 use Rattle.values.specs.Walked.{WalkedAll}
@@ -10,7 +10,7 @@ use Rattle.counts.proofs.indices.inside_from.Statement.{statement}
 use Rattle.counts.proofs.indices.inside_from.Tie as tie
 
 abbrev invariant-loop : tie.invariant-loop
-invariant-loop leads file n at chains left₀ p₀ left p = WalkedAll leads file n at (λ ds e. Judging file ds (chainsInside chains) p left e)
+invariant-loop leads file n at chains left₀ p₀ left p = WalkedAll leads file n at (λ ds e. Judging file ds (chains_inside chains) p left e)
 
 abbrev decreases-loop : tie.decreases-loop
 decreases-loop leads file n at chains left₀ p₀ left p = left

@@ -1,9 +1,9 @@
--- One test of the cell decides for the whole run, and its entries are added as often as it stands there (`allPass-same`, `total-same`).
+-- One test of the cell decides for the whole run, and its entries are added as often as it stands there (`all_pass-same`, `total-same`).
 use Rattle.std.proofs.Common.{◌≡◌, ℕ, ◌+◌, ◌*◌, false, List, get_or, replicate, ℤ, pos, nat_abs, sym, ap, ◌∙◌, arith, to_z-of_z, w32, of_z, rules, le-ltb, lt-ltb}
 use lib.ListN.{length-replicate}
 use lib.Signed.{lt_z}
 use Rattle.numbers.specs.Ranges.{below, all_below}
-use Rattle.numbers.specs.Laws.Ranges.{allPass-same, below-negative, below-index, index-bits}
+use Rattle.numbers.specs.Laws.Ranges.{all_pass-same, below-negative, below-index, index-bits}
 use Rattle.file_columns.specs.Cells.{total}
 use Rattle.file_columns.specs.Laws.Cells.{total-same}
 use Rattle.file_columns.proofs.whole.add_cells.Statement.{statement}
@@ -11,7 +11,7 @@ use Rattle.file_columns.proofs.whole.add_cells.Tie as tie
 
 -- the cell decides
 decides : (c : tie.Start) → all_below c.args.types (replicate c.args.count c.args.cell) ≡ below c.args.types c.args.cell
-decides c = allPass-same (below c.args.types) c.args.count c.args.cell c.requires.0
+decides c = all_pass-same (below c.args.types) c.args.count c.args.cell c.requires.0
 
 -- it is not negative
 positive : (c : tie.Else1) → lt_z c.before.before.before.args.cell (pos 0) ≡ false

@@ -1,10 +1,10 @@
 -- 16 by the size of names, else the header's refusal, or that of the payload; a column that is not refused has the length that was read
 -- (`checked-fine`).
 use Rattle.std.proofs.Common.{◌≡◌, ◌-◌, false, length, take, drop, sym, ◌∙◌, rules}
-use Rattle.columns.specs.Header.{headerSize}
+use Rattle.columns.specs.Header.{header_size}
 use Rattle.columns.specs.Laws.Table.{Passes, header-passes}
 use Rattle.payloads.specs.Laws.Judged.{judged-refused, judged-fine}
-use Rattle.file_columns.specs.Field.{otherNames}
+use Rattle.file_columns.specs.Field.{other_names}
 use Rattle.file_columns.specs.Laws.Field.{field-other, field-refused, field-good, checked_refused, checked-fine}
 use Rattle.file_columns.proofs.whole.check.Statement.{statement}
 use Rattle.file_columns.proofs.whole.check.Tie as tie
@@ -18,7 +18,7 @@ passed c =
     header-passes a.wanted a.column.now k.0 k.1.0 k.1.1.0 k.1.1.1.0 k.1.1.1.1.0 (sym c.before.before.read-header.ensures ∙ c.n.given.1)
 
 -- names have no other size
-same : (c : tie.Else1) → otherNames c.before.before.before.args.wanted c.before.before.before.args.column.now ≡ false
+same : (c : tie.Else1) → other_names c.before.before.before.args.wanted c.before.before.before.args.column.now ≡ false
 same c = sym c.before.has-other-names.ensures ∙ c.if1.false
 
 returns : tie.Need-returns
@@ -34,7 +34,7 @@ returns-2 : tie.Need-returns-2
 returns-2 c =
     let a = c.before.before.before.before.before.before.before.before.before.before.args in
     let k = c.before.before.before.before.n.given.0 in
-    let payload = take (length a.column.now - headerSize) (drop headerSize a.column.now) in
+    let payload = take (length a.column.now - header_size) (drop header_size a.column.now) in
     checked_refused _ c.before.refusal-of.result
     (field-good a.wanted a.column.now (same c.before.before.before.before.before.before.before) k.0 k.1.0 k.1.1.0 k.1.1.1.0 k.1.1.1.1.0 (sym c.before.before.before.before.before.before.read-header.ensures ∙ c.before.before.before.before.n.given.1)
     ∙ judged-refused k.0 k.1.0 k.1.1.0 k.1.1.1.0 k.1.1.1.1.0 payload c.before.refusal-of.result c.before.refusal-of.ensures c.if2.true)
@@ -49,7 +49,7 @@ returns-4 : tie.Need-returns-4
 returns-4 c =
     let a = c.before.before.before.before.before.before.before.before.before.before.args in
     let k = c.before.before.before.before.n.given.0 in
-    let payload = take (length a.column.now - headerSize) (drop headerSize a.column.now) in
+    let payload = take (length a.column.now - header_size) (drop header_size a.column.now) in
     let h = sym c.before.before.before.before.before.before.read-header.ensures ∙ c.before.before.before.before.n.given.1 in
     let g = judged-fine k.0 k.1.0 k.1.1.0 k.1.1.1.0 k.1.1.1.1.0 payload (sym c.if2.false ∙ c.before.refusal-of.ensures) in
     checked-fine a.wanted a.column.now k.0 k.1.0 k.1.1.0 k.1.1.1.0 k.1.1.1.1.0 _ h (field-good a.wanted a.column.now (same c.before.before.before.before.before.before.before) k.0 k.1.0 k.1.1.0 k.1.1.1.0 k.1.1.1.1.0 h ∙ g.3)

@@ -2,7 +2,7 @@
 use Rattle.std.proofs.Common.{◌≡◌, sym, refl, ◌∙◌, arith, to_z-of_z, w32, to_z, of_z, rules}
 use Rattle.numbers.specs.Ranges.{between}
 use borrow.Author.Tests.{not-true, not-false}
-use Rattle.steps.specs.Delta.{plusDelta}
+use Rattle.steps.specs.Delta.{plus_delta}
 use Rattle.file_columns.specs.Laws.Passing.{RunLeft, run-left-on, run-left-off, run-left-end}
 use Rattle.file_columns.proofs.whole.each_between.Statement.{statement}
 use Rattle.file_columns.proofs.whole.each_between.Tie as tie
@@ -17,7 +17,7 @@ loop-holds : tie.Need-loop-init invariant-loop decreases-loop
 loop-holds c = refl
 
 -- the next sum
-next : (c : tie.After-add-delta invariant-loop decreases-loop) → to_z w32 (of_z w32 c.add-delta.result) ≡ plusDelta (to_z w32 c.before.before.loop.x) (to_z w32 (of_z w32 c.before.before.before.args.value))
+next : (c : tie.After-add-delta invariant-loop decreases-loop) → to_z w32 (of_z w32 c.add-delta.result) ≡ plus_delta (to_z w32 c.before.before.loop.x) (to_z w32 (of_z w32 c.before.before.before.args.value))
 next c = to_z-of_z {w = w32} (record { sfits = c.add-delta.type-inv }) ∙ c.add-delta.ensures
 
 returns : tie.Need-returns invariant-loop decreases-loop

@@ -5,12 +5,12 @@ use denote.Enum.Declared.{tag_of}
 use borrow.Author.Tests.{not-true, not-false}
 use Rattle.columns.specs.declared.Parameter.{Parameter}
 use Rattle.columns.specs.declared.Parameter.TheVariants.{Unused, Divisor, NameSize}
-use Rattle.columns.specs.Table.{suits, isNameSize}
+use Rattle.columns.specs.Table.{suits, is_name_size}
 use Rattle.columns.specs.contracts.Parameter.{the_type}
 use Rattle.file_columns.proofs.whole.is_other_size.Statement.{statement}
 use Rattle.file_columns.proofs.whole.is_other_size.Tie as tie
 
-other : (p : Parameter) → OneOf (0 ∷ 1 ∷ []) (tag_of the_type p) → isNameSize p ≡ false
+other : (p : Parameter) → OneOf (0 ∷ 1 ∷ []) (tag_of the_type p) → is_name_size p ≡ false
 other Unused o = refl
 other Divisor o = refl
 other NameSize o = absurd (miss (0 ∷ 1 ∷ []) 2 tt o)

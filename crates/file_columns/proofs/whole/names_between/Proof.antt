@@ -2,7 +2,7 @@
 use Rattle.std.proofs.Common.{sym, ◌∙◌, to_z-of_z, w32, rules}
 use Rattle.numbers.specs.Ranges.{between}
 use Rattle.steps.specs.declared.Form.TheVariants.{Names}
-use Rattle.steps.specs.Payload.{heldIn}
+use Rattle.steps.specs.Payload.{held_in}
 use Rattle.columns.specs.Table.{elements}
 use Rattle.file_columns.specs.Laws.Passing.{refused-pass, names-pass}
 use Rattle.file_columns.proofs.whole.names_between.Statement.{statement}
@@ -11,7 +11,7 @@ use Rattle.file_columns.proofs.whole.names_between.Tie as tie
 returns : tie.Need-returns
 returns c =
     let a = c.before.before.before.args in
-    refused-pass (between a.low a.high) (elements Names a.n a.size) a.delta (heldIn Names a.size a.payload.now) c.before.refusal-of.result c.before.refusal-of.ensures c.if1.true
+    refused-pass (between a.low a.high) (elements Names a.n a.size) a.delta (held_in Names a.size a.payload.now) c.before.refusal-of.result c.before.refusal-of.ensures c.if1.true
 
 returns-2 : tie.Need-returns-2
 returns-2 c =

@@ -4,17 +4,17 @@ use Rattle.numbers.specs.Ranges.{between}
 use Rattle.steps.specs.declared.Size.TheVariants.{One, Two, Four}
 use Rattle.steps.specs.declared.Form.{Form}
 use Rattle.steps.specs.declared.Form.TheVariants.{Plain, Packed, Runs}
-use Rattle.steps.specs.Payload.{readIn, heldIn}
-use Rattle.columns.specs.Table.{elements, isNames}
-use Rattle.file_columns.specs.Passing.{heldPass}
+use Rattle.steps.specs.Payload.{read_in, held_in}
+use Rattle.columns.specs.Table.{elements, is_names}
+use Rattle.file_columns.specs.Passing.{held_pass}
 use Rattle.file_columns.specs.Laws.Passing.{pass-as}
 use Rattle.file_columns.proofs.whole.results_between.Statement.{statement}
 use Rattle.file_columns.proofs.whole.results_between.Tie as tie
 
 -- an arm's answer for its form is that for the form that is given
-arm : (c : tie.After-shared-slice-known) (r : Bool) (f : Form) → isNames f ≡ false → c.before.args.form ≡ f
-    → r ≡ heldPass (between (to_z w32 (of_z w32 c.before.args.low)) (to_z w32 (of_z w32 c.before.args.high))) c.before.args.n c.before.args.delta (readIn f c.before.args.payload.now)
-    → r ≡ heldPass (between c.before.args.low c.before.args.high) (elements c.before.args.form c.before.args.n c.before.args.size) c.before.args.delta (heldIn c.before.args.form c.before.args.size c.before.args.payload.now)
+arm : (c : tie.After-shared-slice-known) (r : Bool) (f : Form) → is_names f ≡ false → c.before.args.form ≡ f
+    → r ≡ held_pass (between (to_z w32 (of_z w32 c.before.args.low)) (to_z w32 (of_z w32 c.before.args.high))) c.before.args.n c.before.args.delta (read_in f c.before.args.payload.now)
+    → r ≡ held_pass (between c.before.args.low c.before.args.high) (elements c.before.args.form c.before.args.n c.before.args.size) c.before.args.delta (held_in c.before.args.form c.before.args.size c.before.args.payload.now)
 arm c r f o e h =
     let a = c.before in
     pass-as (between a.args.low a.args.high) f a.args.form a.args.size a.args.n a.args.delta a.args.payload.now r o e
@@ -48,7 +48,7 @@ returns-9 : tie.Need-returns-9
 returns-9 c =
     let a = c.before.before.before.before in
     let h = rw (to_z-of_z {w = w32} a.ranges.low, to_z-of_z {w = w32} a.ranges.high) at c.names-between.ensures in
-    h ∙ ap (λ (f : Form). heldPass (between a.args.low a.args.high) (elements f a.args.n a.args.size) a.args.delta (heldIn f a.args.size a.args.payload.now)) (sym c.before.enum-told7.given.1)
+    h ∙ ap (λ (f : Form). held_pass (between a.args.low a.args.high) (elements f a.args.n a.args.size) a.args.delta (held_in f a.args.size a.args.payload.now)) (sym c.before.enum-told7.given.1)
 
 pub results-between-spec : {M : Type 1} → statement M
 results-between-spec =

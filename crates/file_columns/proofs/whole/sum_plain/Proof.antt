@@ -1,20 +1,20 @@
 -- The answer of the tally with the numbers from here on is the answer of all (`numbers_on`, `numbers-off`).
 use Rattle.std.proofs.Common.{◌≡◌, ◌-◌, ◌≤◌, false, length, drop, replicate, sym, ◌∙◌, subst, arith, to_z-of_z, w32, rules}
-use Rattle.numbers.specs.BigEndian.{signedAt}
+use Rattle.numbers.specs.BigEndian.{signed_at}
 use Rattle.steps.specs.declared.Form.TheVariants.{Plain}
 use Rattle.steps.specs.Width.{width_of}
-use Rattle.steps.specs.Numbers.{numbersIn}
+use Rattle.steps.specs.Numbers.{numbers_in}
 use Rattle.steps.specs.Laws.Numbers.{size-pos}
-use Rattle.steps.specs.Payload.{readIn}
-use Rattle.file_columns.specs.Passing.{heldSums, Sound, Adds}
-use Rattle.file_columns.specs.Laws.Passing.{sumsAfter, numbers-all, numbers_on, numbers-off, numbers-none}
+use Rattle.steps.specs.Payload.{read_in}
+use Rattle.file_columns.specs.Passing.{held_sums, Sound, Adds}
+use Rattle.file_columns.specs.Laws.Passing.{sums_after, numbers-all, numbers_on, numbers-off, numbers-none}
 use Rattle.file_columns.proofs.whole.sum_plain.Statement.{statement}
 use Rattle.file_columns.proofs.whole.sum_plain.Tie as tie
 
 abbrev invariant-loop : tie.invariant-loop
 invariant-loop payload size n types atoms bonds k at₀ tally₀ at tally =
     (at ≤ length payload) × Sound tally
-    × (heldSums types atoms bonds n false (readIn (Plain size) payload) ≡ sumsAfter types atoms bonds tally (numbersIn size (drop at payload)))
+    × (held_sums types atoms bonds n false (read_in (Plain size) payload) ≡ sums_after types atoms bonds tally (numbers_in size (drop at payload)))
 
 abbrev decreases-loop : tie.decreases-loop
 decreases-loop payload size n types atoms bonds k at₀ tally₀ at tally = length payload - at
@@ -33,7 +33,7 @@ add-cells-requires c κs = (omega arith, c.before.before.before.before.before.be
 
 -- what is added of the number that was read
 added : (c : tie.After-add-cells invariant-loop decreases-loop)
-    → Adds c.before.before.before.before.before.before.before.before.before.args.types c.before.before.before.before.before.before.before.before.before.args.atoms.now c.before.before.before.before.before.before.before.before.before.args.bonds.now c.before.before.before.loop.tally (replicate 1 (signedAt (width_of c.before.before.before.before.before.before.before.before.before.args.size) c.before.before.before.before.before.before.before.before.before.args.payload.now c.before.before.before.loop.at)) (signedAt (width_of c.before.before.before.before.before.before.before.before.before.args.size) c.before.before.before.before.before.before.before.before.before.args.payload.now c.before.before.before.loop.at) c.add-cells.result
+    → Adds c.before.before.before.before.before.before.before.before.before.args.types c.before.before.before.before.before.before.before.before.before.args.atoms.now c.before.before.before.before.before.before.before.before.before.args.bonds.now c.before.before.before.loop.tally (replicate 1 (signed_at (width_of c.before.before.before.before.before.before.before.before.before.args.size) c.before.before.before.before.before.before.before.before.before.args.payload.now c.before.before.before.loop.at)) (signed_at (width_of c.before.before.before.before.before.before.before.before.before.args.size) c.before.before.before.before.before.before.before.before.before.args.payload.now c.before.before.before.loop.at) c.add-cells.result
 added c = rw (to_z-of_z {w = w32} (record { sfits = c.before.number_at.type-inv }), c.before.number_at.ensures) at c.add-cells.ensures
 
 returns : tie.Need-returns invariant-loop decreases-loop

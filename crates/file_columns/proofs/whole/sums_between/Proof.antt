@@ -1,21 +1,21 @@
 -- The first sum and those that are left after it decide (`results-first`), and the last is that of the whole run (`run-last`).
 use Rattle.std.proofs.Common.{◌≡◌, ◌-◌, true, ◌&&◌, replicate, ℤ, sym, ap, ◌∙◌, to_z-of_z, w32, rules}
 use borrow.Author.Tests.{not-true, not-false}
-use Rattle.numbers.specs.Ranges.{allPass, between, allBetween}
-use Rattle.steps.specs.Delta.{plusDelta, resultsFrom}
+use Rattle.numbers.specs.Ranges.{all_pass, between, all_between}
+use Rattle.steps.specs.Delta.{plus_delta, results_from}
 use Rattle.steps.specs.Laws.Delta.{results-first, run-last}
 use Rattle.file_columns.proofs.whole.sums_between.Statement.{statement}
 use Rattle.file_columns.proofs.whole.sums_between.Tie as tie
 
 -- the first decides with the others
 first : (c : tie.Start)
-    → allBetween c.args.low c.args.high (resultsFrom true c.args.sum (replicate c.args.count c.args.value))
-    ≡ (between c.args.low c.args.high (plusDelta c.args.sum c.args.value) && allBetween c.args.low c.args.high (resultsFrom true (plusDelta c.args.sum c.args.value) (replicate (c.args.count - 1) c.args.value)))
-unfolding allPass
-first c = ap (allBetween c.args.low c.args.high) (results-first true c.args.sum c.args.value c.args.count c.requires)
+    → all_between c.args.low c.args.high (results_from true c.args.sum (replicate c.args.count c.args.value))
+    ≡ (between c.args.low c.args.high (plus_delta c.args.sum c.args.value) && all_between c.args.low c.args.high (results_from true (plus_delta c.args.sum c.args.value) (replicate (c.args.count - 1) c.args.value)))
+unfolding all_pass
+first c = ap (all_between c.args.low c.args.high) (results-first true c.args.sum c.args.value c.args.count c.requires)
 
 -- what the test of the first says
-tested : (c : tie.After-is-between) → c.is-between.result ≡ between c.before.before.args.low c.before.before.args.high (plusDelta c.before.before.args.sum c.before.before.args.value)
+tested : (c : tie.After-is-between) → c.is-between.result ≡ between c.before.before.args.low c.before.before.args.high (plus_delta c.before.before.args.sum c.before.before.args.value)
 tested c =
     let a = c.before.before in
     let d = rw (to_z-of_z {w = w32} a.ranges.sum, to_z-of_z {w = w32} a.ranges.value) at c.before.add-delta.ensures in
@@ -31,12 +31,12 @@ stays-between-requires c κs = sym c.before.is-between.ensures ∙ not-false _ c
 -- what is said of those that are left
 others : (c : tie.After-stays-between)
     → c.stays-between.result
-    ≡ allBetween c.before.before.before.before.args.low c.before.before.before.before.args.high (resultsFrom true (plusDelta c.before.before.before.before.args.sum c.before.before.before.before.args.value) (replicate (c.before.before.before.before.args.count - 1) c.before.before.before.before.args.value))
+    ≡ all_between c.before.before.before.before.args.low c.before.before.before.before.args.high (results_from true (plus_delta c.before.before.before.before.args.sum c.before.before.before.before.args.value) (replicate (c.before.before.before.before.args.count - 1) c.before.before.before.before.args.value))
 others c =
     let a = c.before.before.before.before in
     let d = rw (to_z-of_z {w = w32} a.ranges.sum, to_z-of_z {w = w32} a.ranges.value) at c.before.before.before.add-delta.ensures in
     let e = rw (to_z-of_z {w = w32} a.ranges.low, to_z-of_z {w = w32} a.ranges.high, to_z-of_z {w = w32} a.ranges.value, to_z-of_z {w = w32} (record { sfits = c.before.before.before.add-delta.type-inv })) at c.stays-between.ensures in
-    e ∙ ap (λ (x : ℤ). allBetween a.args.low a.args.high (resultsFrom true x (replicate (a.args.count - 1) a.args.value))) d
+    e ∙ ap (λ (x : ℤ). all_between a.args.low a.args.high (results_from true x (replicate (a.args.count - 1) a.args.value))) d
 
 returns-2 : tie.Need-returns-2
 returns-2 c =

@@ -4,15 +4,15 @@ use Rattle.steps.specs.declared.Size.{Size}
 use Rattle.steps.specs.declared.Size.TheVariants.{One, Two, Four}
 use Rattle.steps.specs.declared.Form.{Form}
 use Rattle.steps.specs.declared.Form.TheVariants.{Plain}
-use Rattle.steps.specs.Payload.{readIn}
+use Rattle.steps.specs.Payload.{read_in}
 use Rattle.file_columns.specs.declared.whole.Sums.{Sums}
-use Rattle.file_columns.specs.Passing.{heldSums}
+use Rattle.file_columns.specs.Passing.{held_sums}
 use Rattle.file_columns.proofs.whole.sums_of.Statement.{statement}
 use Rattle.file_columns.proofs.whole.sums_of.Tie as tie
 
 -- the sums over the payload by a form, with delta or without
 abbrev By : tie.Start → Form → Bool → Sums
-By c f d = heldSums c.args.types c.args.atoms.now c.args.bonds.now c.args.n d (readIn f c.args.payload.now)
+By c f d = held_sums c.args.types c.args.atoms.now c.args.bonds.now c.args.n d (read_in f c.args.payload.now)
 
 -- the answer for plain numbers of a size, where they are what is given
 plain : (c : tie.Start) (r : Sums) (z : Size) → c.args.form ≡ Plain z → c.args.delta ≡ false → r ≡ By c (Plain z) false → r ≡ By c c.args.form c.args.delta

@@ -1,13 +1,13 @@
 -- The sum before them and the next one are all the sums that there are (`turns`).
 use Rattle.std.proofs.Common.{sym, ap, ◌∙◌, arith, to_z-of_z, w32, rules}
-use Rattle.numbers.specs.Ranges.{allPass, between}
-use Rattle.steps.specs.Delta.{resultsFrom}
+use Rattle.numbers.specs.Ranges.{all_pass, between}
+use Rattle.steps.specs.Delta.{results_from}
 use Rattle.file_columns.specs.Laws.Around.{turns}
 use Rattle.file_columns.proofs.whole.turns_between.Statement.{statement}
 use Rattle.file_columns.proofs.whole.turns_between.Tie as tie
 
 returns : tie.Need-returns
-unfolding allPass resultsFrom
+unfolding all_pass results_from
 returns c = rw c.if1.true
 
 returns-2 : tie.Need-returns-2

@@ -1,12 +1,12 @@
 -- Each arm is the definition's case. Assumes nothing.
 use mathlib.Core.Path.{sym, ap}
 use borrow.Author.Rules.{rules}
-use Rattle.station.specs.Reading.{contentsOf}
+use Rattle.station.specs.Reading.{contents_of}
 use Rattle.station.proofs.files.told.Statement.{statement}
 use Rattle.station.proofs.files.told.Tie as tie
 
 returns : tie.Need-returns
-returns c = sym (ap contentsOf c.before.end.given.1)
+returns c = sym (ap contents_of c.before.end.given.1)
 
 pub told-spec : {M : Type 1} → statement M
 told-spec =

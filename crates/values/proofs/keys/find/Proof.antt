@@ -1,5 +1,5 @@
 -- The entries of the map are those that are searched.
-use Rattle.values.specs.Parts.{entriesOf}
+use Rattle.values.specs.Parts.{entries_of}
 use borrow.Author.Rules.{rules}
 use Rattle.values.proofs.keys.find.Statement.{statement}
 use Rattle.values.proofs.keys.find.Tie as tie
@@ -8,7 +8,7 @@ returns : tie.Need-returns
 returns c =
     λ t x e a.
     let i = c.before.entries_at.ensures.1 t x e a in
-    c.find-from.ensures t (entriesOf x) i.end i.all i.counts
+    c.find-from.ensures t (entries_of x) i.end i.all i.counts
 
 pub find_spec : {M : Type 1} → statement M
 find_spec =

@@ -6,7 +6,7 @@ use mir.Syntax.{w32}
 use mir.Val.{to_z, of_z}
 use mir.Facts.{to_z-of_z}
 use Rattle.numbers.specs.Laws.Ranges.{index-bits}
-use Rattle.messagepack.specs.Limits.{fileLimit}
+use Rattle.messagepack.specs.Limits.{file_limit}
 use Rattle.values.specs.Laws.Integers.{all-few, Summing, summing_start, summing-more, summing-negative, summing-end}
 use Rattle.values.specs.Walked.{Short, WalkedAll}
 use borrow.Author.Rules.{rules}
@@ -14,7 +14,7 @@ use Rattle.values.proofs.lists.sum_from.Statement.{statement}
 use Rattle.values.proofs.lists.sum_from.Tie as tie
 
 abbrev invariant-loop : tie.invariant-loop
-invariant-loop leads file n at total₀ left₀ p₀ total left p = ((left ≤ n) × (n ≤ fileLimit) × (total ≤ (n - left) * 4294967296)) × (Short file → WalkedAll leads file n at (λ ds e. Summing file ds p left total e))
+invariant-loop leads file n at total₀ left₀ p₀ total left p = ((left ≤ n) × (n ≤ file_limit) × (total ≤ (n - left) * 4294967296)) × (Short file → WalkedAll leads file n at (λ ds e. Summing file ds p left total e))
 
 abbrev decreases-loop : tie.decreases-loop
 decreases-loop leads file n at total₀ left₀ p₀ total left p = left

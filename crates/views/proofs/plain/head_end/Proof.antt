@@ -3,12 +3,12 @@ use mathlib.Core.Path.{sym, ap, ◌∙◌}
 use Prim.Native.Nat.{ℕ}
 use borrow.Author.Rules.{rules}
 use Rattle.heads.specs.declared.Head.{Head}
-use Rattle.values.specs.Heads.{onHead}
+use Rattle.values.specs.Heads.{on_head}
 use Rattle.views.proofs.plain.head_end.Statement.{statement}
 use Rattle.views.proofs.plain.head_end.Tie as tie
 
 of : Head → ℕ
-of h = onHead 0 (λ n p. p) h
+of h = on_head 0 (λ n p. p) h
 
 returns : tie.Need-returns
 unfolding of

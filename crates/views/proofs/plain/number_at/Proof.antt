@@ -3,12 +3,12 @@ use mathlib.Core.Path.{sym, ap, ◌∙◌}
 use Prim.Native.Nat.{ℕ}
 use borrow.Author.Rules.{rules}
 use Rattle.heads.specs.declared.Head.{Head}
-use Rattle.values.specs.Heads.{onHead}
+use Rattle.values.specs.Heads.{on_head}
 use Rattle.views.proofs.plain.number_at.Statement.{statement}
 use Rattle.views.proofs.plain.number_at.Tie as tie
 
 of : Head → ℕ
-of h = onHead 0 (λ n p. n) h
+of h = on_head 0 (λ n p. n) h
 
 returns : tie.Need-returns
 unfolding of

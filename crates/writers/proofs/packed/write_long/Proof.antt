@@ -1,34 +1,34 @@
 -- The parts of the value by its bits, for either sign.
 use Rattle.std.proofs.Common.{◌≡◌, ℕ, ◌+◌, ◌-◌, ◌/◌, ◌%◌, [], ◌∷◌, ◌++◌, replicate, sym, ap, ◌∙◌, ap₂, arith, to_z-of_z, w32, of_z, rules}
 use Rattle.steps.specs.Width.{upper, lower}
-use Rattle.steps.specs.Numbers.{bytesFor}
-use Rattle.steps.specs.Packing.{packOne}
+use Rattle.steps.specs.Numbers.{bytes_for}
+use Rattle.steps.specs.Packing.{pack_one}
 use Rattle.steps.specs.Laws.Packing.{limits}
-use Rattle.writers.specs.Bits.{bitsFor}
-use Rattle.writers.specs.Laws.Packed.{bytes-packOne-up, bytes-packOne-down}
+use Rattle.writers.specs.Bits.{bits_for}
+use Rattle.writers.specs.Laws.Packed.{bytes-pack_one-up, bytes-pack_one-down}
 use Rattle.writers.proofs.packed.write_long.Statement.{statement}
 use Rattle.writers.proofs.packed.write_long.Tie as tie
 
 up : (c : tie.After-upper)
-    → bytesFor c.before.before.before.before.args.size (packOne (upper c.before.before.before.before.args.size) (lower c.before.before.before.before.args.size) c.before.before.before.before.args.x)
-    ≡ bitsFor c.before.before.before.before.args.size (replicate (c.before.before.to-u32.result / c.upper.result) c.upper.result ++ (c.before.before.to-u32.result % c.upper.result ∷ []))
+    → bytes_for c.before.before.before.before.args.size (pack_one (upper c.before.before.before.before.args.size) (lower c.before.before.before.before.args.size) c.before.before.before.before.args.x)
+    ≡ bits_for c.before.before.before.before.args.size (replicate (c.before.before.to-u32.result / c.upper.result) c.upper.result ++ (c.before.before.to-u32.result % c.upper.result ∷ []))
 up c =
     let a = c.before.before.before.before in
     let u = c.before.before.to-u32.result in
-    bytes-packOne-up a.args.size u a.args.x a.ranges.x (c.before.before.to-u32.ensures ∙ ap (of_z w32) (to_z-of_z {w = w32} a.ranges.x)) c.before.if1.true
-    ∙ ap (λ (p : ℕ). bitsFor a.args.size (replicate (u / p) p ++ (u % p ∷ []))) (sym c.upper.ensures)
+    bytes-pack_one-up a.args.size u a.args.x a.ranges.x (c.before.before.to-u32.ensures ∙ ap (of_z w32) (to_z-of_z {w = w32} a.ranges.x)) c.before.if1.true
+    ∙ ap (λ (p : ℕ). bits_for a.args.size (replicate (u / p) p ++ (u % p ∷ []))) (sym c.upper.ensures)
 
 down : (c : tie.After-negated3)
-    → bytesFor c.before.before.before.before.before.before.before.args.size (packOne (upper c.before.before.before.before.before.before.before.args.size) (lower c.before.before.before.before.before.before.before.args.size) c.before.before.before.before.before.before.before.args.x)
-    ≡ bitsFor c.before.before.before.before.before.before.before.args.size (replicate (c.before.before.negated.result / c.before.before.before.lower.result) c.before.negated2.result ++ (c.negated3.result ∷ []))
+    → bytes_for c.before.before.before.before.before.before.before.args.size (pack_one (upper c.before.before.before.before.before.before.before.args.size) (lower c.before.before.before.before.before.before.before.args.size) c.before.before.before.before.before.before.before.args.x)
+    ≡ bits_for c.before.before.before.before.before.before.before.args.size (replicate (c.before.before.negated.result / c.before.before.before.lower.result) c.before.negated2.result ++ (c.negated3.result ∷ []))
 down c =
     let a = c.before.before.before.before.before.before.before in
     let z = a.args.size in
     let m = c.before.before.negated.result in
     let q = sym c.before.before.before.lower.ensures in
-    bytes-packOne-down z c.before.before.before.before.before.to-u32.result a.args.x m a.ranges.x (c.before.before.before.before.before.to-u32.ensures ∙ ap (of_z w32) (to_z-of_z {w = w32} a.ranges.x)) c.before.before.before.before.if1.false c.before.before.negated.ensures
-    ∙ ap (λ (n : ℕ). bitsFor z (replicate (m / n) ((4294967296 - n) % 4294967296) ++ ((4294967296 - m % n) % 4294967296 ∷ []))) q
-    ∙ ap₂ (λ (l r : ℕ). bitsFor z (replicate (m / c.before.before.before.lower.result) l ++ (r ∷ []))) (sym c.before.negated2.ensures) (sym c.negated3.ensures)
+    bytes-pack_one-down z c.before.before.before.before.before.to-u32.result a.args.x m a.ranges.x (c.before.before.before.before.before.to-u32.ensures ∙ ap (of_z w32) (to_z-of_z {w = w32} a.ranges.x)) c.before.before.before.before.if1.false c.before.before.negated.ensures
+    ∙ ap (λ (n : ℕ). bits_for z (replicate (m / n) ((4294967296 - n) % 4294967296) ++ ((4294967296 - m % n) % 4294967296 ∷ []))) q
+    ∙ ap₂ (λ (l r : ℕ). bits_for z (replicate (m / c.before.before.before.lower.result) l ++ (r ∷ []))) (sym c.before.negated2.ensures) (sym c.negated3.ensures)
 
 pub write-long-spec : {M : Type 1} → statement M
 write-long-spec =

@@ -1,7 +1,7 @@
 -- The loop's invariant: `n` runs are begun, the last with `v`, and the cells from `i` on are still to come.
 use Rattle.std.proofs.Common.{◌-◌, ◌<◌, ◌≤◌, map, length, drop, pos, sym, ap, arith, rules}
 use Rattle.steps.specs.Laws.Lists.{map_at, map-end}
-use Rattle.writers.specs.Laws.Runs.{runsOf-none, Counted, counted-first, counted-more, counted-last}
+use Rattle.writers.specs.Laws.Runs.{runs_of-none, Counted, counted-first, counted-more, counted-last}
 use Rattle.writers.proofs.runs.count_chars.Statement.{statement}
 use Rattle.writers.proofs.runs.count_chars.Tie as tie
 
@@ -32,7 +32,7 @@ count-chars-spec =
     (tie.spec
     invariant-loop
     decreases-loop
-    (λ c. sym (ap length (runsOf-none _ (map-end pos 0 c.before.before.args.values.now 0 (omega arith)))))
+    (λ c. sym (ap length (runs_of-none _ (map-end pos 0 c.before.before.args.values.now 0 (omega arith)))))
     (λ c. search rules)
     (λ c. omega (arith, c.shared-slice-known2.given 0))
     loop-holds

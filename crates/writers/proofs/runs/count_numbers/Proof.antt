@@ -1,15 +1,15 @@
 -- The loop's invariant: `n` cells up to the one at `i + 1` begin a run after the first, and the runs from that cell on are still to come.
 use Rattle.std.proofs.Common.{◌≡◌, ◌+◌, ◌-◌, ◌*◌, ◌<◌, ◌≤◌, length, pos, sym, ap, arith, rules}
-use Rattle.steps.specs.Delta.{deltasIf}
-use Rattle.steps.specs.RunLength.{runsOf}
+use Rattle.steps.specs.Delta.{deltas_if}
+use Rattle.steps.specs.RunLength.{runs_of}
 use Rattle.steps.specs.Laws.Delta.{deltas-end}
-use Rattle.writers.specs.Bits.{cellsAfter}
-use Rattle.writers.specs.Laws.Runs.{runsOf-none, next-cell, runs-next, column-one, cells-last}
+use Rattle.writers.specs.Bits.{cells_after}
+use Rattle.writers.specs.Laws.Runs.{runs_of-none, next-cell, runs-next, column-one, cells-last}
 use Rattle.writers.proofs.runs.count_numbers.Statement.{statement}
 use Rattle.writers.proofs.runs.count_numbers.Tie as tie
 
 abbrev invariant-loop : tie.invariant-loop
-invariant-loop values delta first last n₀ i₀ n i = (i + 2 ≤ length values) × (n ≤ i + 1) × (length (runsOf (deltasIf delta values)) ≡ n * 2 + length (runsOf (cellsAfter delta values i)))
+invariant-loop values delta first last n₀ i₀ n i = (i + 2 ≤ length values) × (n ≤ i + 1) × (length (runs_of (deltas_if delta values)) ≡ n * 2 + length (runs_of (cells_after delta values i)))
 
 abbrev decreases-loop : tie.decreases-loop
 decreases-loop values delta first last n₀ i₀ n i = length values - i
@@ -17,7 +17,7 @@ decreases-loop values delta first last n₀ i₀ n i = length values - i
 returns : tie.Need-returns invariant-loop decreases-loop
 returns c =
     let a = c.before.args in
-    sym (ap length (runsOf-none _ (deltas-end a.delta (pos 0) a.values.now 0 (omega arith))))
+    sym (ap length (runs_of-none _ (deltas-end a.delta (pos 0) a.values.now 0 (omega arith))))
 
 returns-2 : tie.Need-returns-2 invariant-loop decreases-loop
 returns-2 c = let a = c.before.before.args in sym (column-one a.delta a.values.now (omega arith))
@@ -38,7 +38,7 @@ loop-again : tie.Need-loop-preserved invariant-loop decreases-loop
 loop-again c = let p = c.before.before.loop in let b = c.begun-in.ensures in (omega arith, omega (arith, p.invariant.1, b.most), omega (arith, p.invariant.2, b.runs))
 
 -- what is left
-rest : (c : tie.After-begun-in2 invariant-loop decreases-loop) → (c.before.before.loop.n + c.begun-in2.result + 1) * 2 ≡ length (runsOf (deltasIf c.before.before.before.before.before.before.before.before.before.before.args.delta c.before.before.before.before.before.before.before.before.before.before.args.values.now))
+rest : (c : tie.After-begun-in2 invariant-loop decreases-loop) → (c.before.before.loop.n + c.begun-in2.result + 1) * 2 ≡ length (runs_of (deltas_if c.before.before.before.before.before.before.before.before.before.before.args.delta c.before.before.before.before.before.before.before.before.before.before.args.values.now))
 rest c =
     let a = c.before.before.before.before.before.before.before.before.before.before.args in
     let p = c.before.before.loop in

@@ -4,35 +4,35 @@ use mathlib.Core.Bool.{and-true}
 use borrow.Author.Tests.{not-true, not-false}
 use Rattle.steps.specs.declared.Size.TheVariants.{Four}
 use Rattle.steps.specs.declared.Form.TheVariants.{Runs}
-use Rattle.steps.specs.Delta.{deltasIf}
-use Rattle.steps.specs.RunLength.{runsOf}
-use Rattle.steps.specs.Laws.NumbersBack.{length-bytesFor}
-use Rattle.steps.specs.Payload.{allIn}
-use Rattle.columns.specs.Encode.{payloadOf}
+use Rattle.steps.specs.Delta.{deltas_if}
+use Rattle.steps.specs.RunLength.{runs_of}
+use Rattle.steps.specs.Laws.NumbersBack.{length-bytes_for}
+use Rattle.steps.specs.Payload.{all_in}
+use Rattle.columns.specs.Encode.{payload_of}
 use Rattle.writers.specs.Placed.{over}
 use Rattle.writers.specs.Laws.Placed.{answer-refused, answer-over, answer-in}
 use Rattle.writers.specs.Laws.Runs.{runs-payload}
 use Rattle.writers.proofs.runs.place_numbers.Statement.{statement}
 use Rattle.writers.proofs.runs.place_numbers.Tie as tie
 
-counted : (c : tie.After-count-numbers) → length (payloadOf (Runs c.before.before.before.before.args.range) c.before.before.before.before.args.delta c.before.before.before.before.args.values.now) ≡ c.count-numbers.result * 8
+counted : (c : tie.After-count-numbers) → length (payload_of (Runs c.before.before.before.before.args.range) c.before.before.before.before.args.delta c.before.before.before.before.args.values.now) ≡ c.count-numbers.result * 8
 counted c =
     let a = c.before.before.before.before.args in
-    let e = ap length (runs-payload a.range a.delta a.values.now) ∙ length-bytesFor Four (runsOf (deltasIf a.delta a.values.now)) in
+    let e = ap length (runs-payload a.range a.delta a.values.now) ∙ length-bytes_for Four (runs_of (deltas_if a.delta a.values.now)) in
     let n = c.count-numbers.ensures in
     omega arith
 
 returns : tie.Need-returns
 returns c =
     let a = c.before.before.before.args in
-    answer-refused (payloadOf (Runs a.range) a.delta a.values.now) a.buffer.now a.at (and-true (allIn a.range a.values.now) ∙ sym c.before.all_in.ensures ∙ not-true _ c.if1.true)
+    answer-refused (payload_of (Runs a.range) a.delta a.values.now) a.buffer.now a.at (and-true (all_in a.range a.values.now) ∙ sym c.before.all_in.ensures ∙ not-true _ c.if1.true)
 
 returns-2 : tie.Need-returns-2
 returns-2 c =
     let a = c.before.before.before.before.before.before.args in
     let k = counted c.before.before in
     let h : length a.buffer.now < a.at + c.before.before.count-numbers.result * 8 = leb-false _ _ (sym c.before.runs_fit.ensures ∙ not-true _ c.if2.true) in
-    answer-over (payloadOf (Runs a.range) a.delta a.values.now) a.buffer.now a.at (and-true (allIn a.range a.values.now) ∙ sym c.before.before.before.before.all_in.ensures ∙ not-false _ c.before.before.before.if1.false) (omega arith)
+    answer-over (payload_of (Runs a.range) a.delta a.values.now) a.buffer.now a.at (and-true (all_in a.range a.values.now) ∙ sym c.before.before.before.before.all_in.ensures ∙ not-false _ c.before.before.before.if1.false) (omega arith)
 
 write-numbers-requires : tie.Need-write-numbers-requires
 write-numbers-requires c κs =
@@ -53,7 +53,7 @@ returns-3 c =
     let a = c.before.before.before.before.before.before.before.before.before.before.args in
     let k = counted c.before.before.before.before.before.before in
     let h : a.at + c.before.before.before.before.before.before.count-numbers.result * 8 ≤ length a.buffer.now = leb-true _ _ (sym c.before.before.before.before.before.runs_fit.ensures ∙ not-false _ c.before.before.before.before.if2.false) in
-    answer-in (payloadOf (Runs a.range) a.delta a.values.now) a.buffer.now a.at (and-true (allIn a.range a.values.now) ∙ sym c.before.before.before.before.before.before.before.before.all_in.ensures ∙ not-false _ c.before.before.before.before.before.before.before.if1.false) (omega arith) (omega arith) (c.before.before.write-numbers.ensures ∙ ap (over a.buffer.now a.at) (sym (runs-payload a.range a.delta a.values.now)))
+    answer-in (payload_of (Runs a.range) a.delta a.values.now) a.buffer.now a.at (and-true (all_in a.range a.values.now) ∙ sym c.before.before.before.before.before.before.before.before.all_in.ensures ∙ not-false _ c.before.before.before.before.before.before.before.if1.false) (omega arith) (omega arith) (c.before.before.write-numbers.ensures ∙ ap (over a.buffer.now a.at) (sym (runs-payload a.range a.delta a.values.now)))
 
 pub place-numbers-spec : {M : Type 1} → statement M
 place-numbers-spec =

@@ -1,7 +1,7 @@
 -- Two numbers of 32 bits, one after the other; the count goes by its low 32 bits.
 use Rattle.std.proofs.Common.{ℕ, ◌+◌, ◌-◌, ◌%◌, List, ap, ◌∙◌, arith, rules}
 use Rattle.numbers.specs.BigEndian.{bytes_of}
-use Rattle.numbers.specs.Laws.BigEndian.{length-bytesOf, bytes_of_mod}
+use Rattle.numbers.specs.Laws.BigEndian.{length-bytes_of, bytes_of_mod}
 use Rattle.writers.specs.Placed.{over}
 use Rattle.writers.specs.Laws.Placed.{over-then}
 use Rattle.writers.proofs.runs.put_run.Statement.{statement}
@@ -14,8 +14,8 @@ returns c =
     let h = c.before.before.before.before.before.before.before.before.before.requires in
     let b = bytes_of 4 a.bits in
     let e = c.before.before.before.before.before.before.put_four.ensures in
-    let l = length-bytesOf 4 a.bits in
-    let m = length-bytesOf 4 a.count in
+    let l = length-bytes_of 4 a.bits in
+    let m = length-bytes_of 4 a.count in
     c.before.before.put-four2.ensures ∙ ap (λ (t : List ℕ). over t (a.at + 4) (bytes_of 4 (a.count % 4294967296))) e
     ∙ ap (over (over s a.at b) (a.at + 4)) (bytes_of_mod 4 a.count)
     ∙ over-then s a.at 4 b (bytes_of 4 a.count) l (omega arith)

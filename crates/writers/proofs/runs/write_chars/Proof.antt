@@ -2,20 +2,20 @@
 use Rattle.std.proofs.Common.{◌≡◌, ℕ, ◌+◌, ◌-◌, ◌<◌, ◌≤◌, [], ◌++◌, map, length, get_or, drop, pos, sym, refl, ap, ◌∙◌, arith, rules}
 use Rattle.numbers.specs.BigEndian.{bytes_of}
 use Rattle.steps.specs.declared.Size.TheVariants.{Four}
-use Rattle.steps.specs.Numbers.{bytesFor}
-use Rattle.steps.specs.RunLength.{runsFrom, runsOf}
+use Rattle.steps.specs.Numbers.{bytes_for}
+use Rattle.steps.specs.RunLength.{runs_from, runs_of}
 use Rattle.writers.specs.Placed.{over}
 use Rattle.steps.specs.Laws.Lists.{map_at, map-end}
 use Rattle.writers.specs.Laws.Placed.{over_none, ToCome, Parts, come-end, come-same, come-room, come-on}
-use Rattle.writers.specs.Laws.Numbers.{bytesFor-nil}
-use Rattle.writers.specs.Laws.Runs.{runsOf-none, runsOf-first, length_run, bytes-run-on, bytes-run-over, bytes-run-last}
+use Rattle.writers.specs.Laws.Numbers.{bytes_for-nil}
+use Rattle.writers.specs.Laws.Runs.{runs_of-none, runs_of-first, length_run, bytes-run-on, bytes-run-over, bytes-run-last}
 use Rattle.writers.proofs.runs.write_chars.Statement.{statement}
 use Rattle.writers.proofs.runs.write_chars.Tie as tie
 
 abbrev invariant-loop : tie.invariant-loop
 invariant-loop values buffer₀ start v₀ n₀ at₀ i₀ buffer v n at i =
     (i ≤ length values) × (n ≤ i) × (length buffer ≡ length buffer₀)
-    × ToCome (over buffer₀ start (bytesFor Four (runsOf (map pos values)))) buffer at (bytesFor Four (runsFrom (pos v) n (map pos (drop i values))))
+    × ToCome (over buffer₀ start (bytes_for Four (runs_of (map pos values)))) buffer at (bytes_for Four (runs_from (pos v) n (map pos (drop i values))))
 
 abbrev decreases-loop : tie.decreases-loop
 decreases-loop values buffer₀ start v₀ n₀ at₀ i₀ buffer v n at i = length values - i
@@ -23,14 +23,14 @@ decreases-loop values buffer₀ start v₀ n₀ at₀ i₀ buffer v n at i = len
 returns : tie.Need-returns invariant-loop decreases-loop
 returns c =
     let a = c.before.before.before.args in
-    sym (ap (over a.buffer.now a.start) (ap (bytesFor Four) (runsOf-none _ (map-end pos 0 a.values.now 0 (omega arith))) ∙ bytesFor-nil Four) ∙ over_none a.buffer.now a.start)
+    sym (ap (over a.buffer.now a.start) (ap (bytes_for Four) (runs_of-none _ (map-end pos 0 a.values.now 0 (omega arith))) ∙ bytes_for-nil Four) ∙ over_none a.buffer.now a.start)
 
 loop-holds : tie.Need-loop-init invariant-loop decreases-loop
 loop-holds c =
     let a = c.before.before.before.before in
     let s = a.args.values.now in
     let h : 0 < length s = omega arith in
-    (omega arith, omega arith, refl, come-same (record { gives = refl; room = a.requires }) (ap (bytesFor Four) (runsOf-first _ _ _ (map_at pos 0 s 0 h))))
+    (omega arith, omega arith, refl, come-same (record { gives = refl; room = a.requires }) (ap (bytes_for Four) (runs_of-first _ _ _ (map_at pos 0 s 0 h))))
 
 loop-again : tie.Need-loop-preserved invariant-loop decreases-loop
 loop-again c =
@@ -40,11 +40,11 @@ loop-again c =
 
 -- the run that is over
 over-now : (c : tie.Else2 invariant-loop decreases-loop)
-    → Parts (bytesFor Four (runsFrom (pos c.before.before.before.loop.v) c.before.before.before.loop.n (map pos (drop c.before.before.before.loop.i c.before.before.before.before.before.before.before.before.args.values.now)))) (bytes_of 4 c.before.before.before.loop.v ++ bytes_of 4 c.before.before.before.loop.n)
-    (bytesFor Four (runsFrom (pos (get_or c.before.before.before.before.before.before.before.before.args.values.now c.before.before.before.loop.i 0)) 1 (map pos (drop (c.before.before.before.loop.i + 1) c.before.before.before.before.before.before.before.before.args.values.now))))
+    → Parts (bytes_for Four (runs_from (pos c.before.before.before.loop.v) c.before.before.before.loop.n (map pos (drop c.before.before.before.loop.i c.before.before.before.before.before.before.before.before.args.values.now)))) (bytes_of 4 c.before.before.before.loop.v ++ bytes_of 4 c.before.before.before.loop.n)
+    (bytes_for Four (runs_from (pos (get_or c.before.before.before.before.before.before.before.before.args.values.now c.before.before.before.loop.i 0)) 1 (map pos (drop (c.before.before.before.loop.i + 1) c.before.before.before.before.before.before.before.before.args.values.now))))
 over-now c = bytes-run-over (pos c.before.before.before.loop.v) c.before.before.before.loop.n _ _ _ (map_at pos 0 c.before.before.before.before.before.before.before.before.args.values.now c.before.before.before.loop.i c.before.before.loop-test.true) c.if2.false
 
-last : (c : tie.After-loop invariant-loop decreases-loop) → Parts (bytesFor Four (runsFrom (pos c.before.loop.v) c.before.loop.n (map pos (drop c.before.loop.i c.before.before.before.before.before.before.args.values.now)))) (bytes_of 4 c.before.loop.v ++ bytes_of 4 c.before.loop.n) []
+last : (c : tie.After-loop invariant-loop decreases-loop) → Parts (bytes_for Four (runs_from (pos c.before.loop.v) c.before.loop.n (map pos (drop c.before.loop.i c.before.before.before.before.before.before.args.values.now)))) (bytes_of 4 c.before.loop.v ++ bytes_of 4 c.before.loop.n) []
 last c = bytes-run-last (pos c.before.loop.v) c.before.loop.n _ (map-end pos 0 c.before.before.before.before.before.before.args.values.now c.before.loop.i (omega arith))
 
 add_at : tie.Need-overflow-add-at invariant-loop decreases-loop

@@ -2,21 +2,21 @@
 use Rattle.std.proofs.Common.{◌≡◌, ℕ, ◌+◌, ◌-◌, ◌<◌, ◌≤◌, [], ◌∷◌, ◌++◌, length, get_or, drop, pos, sym, refl, ap, ◌∙◌, arith, w32, to_z, of_z, rules}
 use Rattle.numbers.specs.BigEndian.{bytes_of}
 use Rattle.steps.specs.declared.Size.TheVariants.{Four}
-use Rattle.steps.specs.Numbers.{bytesFor}
-use Rattle.steps.specs.Delta.{deltasIf, deltasFrom}
-use Rattle.steps.specs.RunLength.{runsFrom, runsOf}
+use Rattle.steps.specs.Numbers.{bytes_for}
+use Rattle.steps.specs.Delta.{deltas_if, deltas_from}
+use Rattle.steps.specs.RunLength.{runs_from, runs_of}
 use Rattle.steps.specs.Laws.Delta.{deltas-end}
 use Rattle.writers.specs.Placed.{over}
 use Rattle.writers.specs.Laws.Placed.{over_none, ToCome, Parts, come-end, come-same, come-room, come-on}
-use Rattle.writers.specs.Laws.Numbers.{bytesFor-nil, bits-same}
-use Rattle.writers.specs.Laws.Runs.{runsOf-none, runsOf-first, length_run, next-cell, bytes-run-on, bytes-run-over, bytes-run-last}
+use Rattle.writers.specs.Laws.Numbers.{bytes_for-nil, bits-same}
+use Rattle.writers.specs.Laws.Runs.{runs_of-none, runs_of-first, length_run, next-cell, bytes-run-on, bytes-run-over, bytes-run-last}
 use Rattle.writers.proofs.runs.write_numbers.Statement.{statement}
 use Rattle.writers.proofs.runs.write_numbers.Tie as tie
 
 abbrev invariant-loop : tie.invariant-loop
 invariant-loop values delta buffer₀ start before₀ v₀ n₀ at₀ i₀ buffer before v n at i =
     (i ≤ length values) × (n ≤ i) × (v < 4294967296) × (length buffer ≡ length buffer₀)
-    × ToCome (over buffer₀ start (bytesFor Four (runsOf (deltasIf delta values)))) buffer at (bytesFor Four (runsFrom (to_z w32 v) n (deltasFrom delta (to_z w32 before) (drop i values))))
+    × ToCome (over buffer₀ start (bytes_for Four (runs_of (deltas_if delta values)))) buffer at (bytes_for Four (runs_from (to_z w32 v) n (deltas_from delta (to_z w32 before) (drop i values))))
 
 abbrev decreases-loop : tie.decreases-loop
 decreases-loop values delta buffer₀ start before₀ v₀ n₀ at₀ i₀ buffer before v n at i = length values - i
@@ -24,18 +24,18 @@ decreases-loop values delta buffer₀ start before₀ v₀ n₀ at₀ i₀ buffe
 returns : tie.Need-returns invariant-loop decreases-loop
 returns c =
     let a = c.before.before.args in
-    sym (ap (over a.buffer.now a.start) (ap (bytesFor Four) (runsOf-none _ (deltas-end a.delta (pos 0) a.values.now 0 (omega arith))) ∙ bytesFor-nil Four) ∙ over_none a.buffer.now a.start)
+    sym (ap (over a.buffer.now a.start) (ap (bytes_for Four) (runs_of-none _ (deltas-end a.delta (pos 0) a.values.now 0 (omega arith))) ∙ bytes_for-nil Four) ∙ over_none a.buffer.now a.start)
 
 loop-holds : tie.Need-loop-init invariant-loop decreases-loop
 loop-holds c =
     let a = c.before.before.before.before.before.args in
     let h : 0 < length a.values.now = omega arith in
-    (omega arith, omega arith, omega (arith, c.to-u32.type-inv), refl, come-same (record { gives = refl; room = c.before.before.before.before.before.requires }) (ap (bytesFor Four) (runsOf-first _ _ _ (next-cell a.delta (pos 0) a.values.now 0 h (record { sfits = c.before.before.before2.given }) (record { sfits = c.before.delta-if.type-inv }) c.before.delta-if.ensures c.to-u32.ensures))))
+    (omega arith, omega arith, omega (arith, c.to-u32.type-inv), refl, come-same (record { gives = refl; room = c.before.before.before.before.before.requires }) (ap (bytes_for Four) (runs_of-first _ _ _ (next-cell a.delta (pos 0) a.values.now 0 h (record { sfits = c.before.before.before2.given }) (record { sfits = c.before.delta-if.type-inv }) c.before.delta-if.ensures c.to-u32.ensures))))
 
 -- the next cell
 come : (c : tie.After-to-u322 invariant-loop decreases-loop)
-    → deltasFrom c.before.before.before.before.before.before.before.before.before.before.args.delta (to_z w32 c.before.before.before.before.loop.before) (drop c.before.before.before.before.loop.i c.before.before.before.before.before.before.before.before.before.before.args.values.now)
-    ≡ to_z w32 c.to-u322.result ∷ deltasFrom c.before.before.before.before.before.before.before.before.before.before.args.delta (to_z w32 (of_z w32 (get_or c.before.before.before.before.before.before.before.before.before.before.args.values.now c.before.before.before.before.loop.i (pos 0)))) (drop (c.before.before.before.before.loop.i + 1) c.before.before.before.before.before.before.before.before.before.before.args.values.now)
+    → deltas_from c.before.before.before.before.before.before.before.before.before.before.args.delta (to_z w32 c.before.before.before.before.loop.before) (drop c.before.before.before.before.loop.i c.before.before.before.before.before.before.before.before.before.before.args.values.now)
+    ≡ to_z w32 c.to-u322.result ∷ deltas_from c.before.before.before.before.before.before.before.before.before.before.args.delta (to_z w32 (of_z w32 (get_or c.before.before.before.before.before.before.before.before.before.before.args.values.now c.before.before.before.before.loop.i (pos 0)))) (drop (c.before.before.before.before.loop.i + 1) c.before.before.before.before.before.before.before.before.before.before.args.values.now)
 come c =
     let a = c.before.before.before.before.before.before.before.before.before.before.args in
     let p = c.before.before.before.before.loop in
@@ -44,8 +44,8 @@ come c =
 
 -- the run that is over
 over-now : (c : tie.Else2 invariant-loop decreases-loop)
-    → Parts (bytesFor Four (runsFrom (to_z w32 c.before.before.before.before.before.loop.v) c.before.before.before.before.before.loop.n (deltasFrom c.before.before.before.before.before.before.before.before.before.before.before.args.delta (to_z w32 c.before.before.before.before.before.loop.before) (drop c.before.before.before.before.before.loop.i c.before.before.before.before.before.before.before.before.before.before.before.args.values.now)))) (bytes_of 4 c.before.before.before.before.before.loop.v ++ bytes_of 4 c.before.before.before.before.before.loop.n)
-    (bytesFor Four (runsFrom (to_z w32 c.before.to-u322.result) 1 (deltasFrom c.before.before.before.before.before.before.before.before.before.before.before.args.delta (to_z w32 (of_z w32 (get_or c.before.before.before.before.before.before.before.before.before.before.before.args.values.now c.before.before.before.before.before.loop.i (pos 0)))) (drop (c.before.before.before.before.before.loop.i + 1) c.before.before.before.before.before.before.before.before.before.before.before.args.values.now))))
+    → Parts (bytes_for Four (runs_from (to_z w32 c.before.before.before.before.before.loop.v) c.before.before.before.before.before.loop.n (deltas_from c.before.before.before.before.before.before.before.before.before.before.before.args.delta (to_z w32 c.before.before.before.before.before.loop.before) (drop c.before.before.before.before.before.loop.i c.before.before.before.before.before.before.before.before.before.before.before.args.values.now)))) (bytes_of 4 c.before.before.before.before.before.loop.v ++ bytes_of 4 c.before.before.before.before.before.loop.n)
+    (bytes_for Four (runs_from (to_z w32 c.before.to-u322.result) 1 (deltas_from c.before.before.before.before.before.before.before.before.before.before.before.args.delta (to_z w32 (of_z w32 (get_or c.before.before.before.before.before.before.before.before.before.before.before.args.values.now c.before.before.before.before.before.loop.i (pos 0)))) (drop (c.before.before.before.before.before.loop.i + 1) c.before.before.before.before.before.before.before.before.before.before.before.args.values.now))))
 over-now c =
     let p = c.before.before.before.before.before.loop in
     let u = bits-same c.before.to-u322.result (omega (arith, c.before.to-u322.type-inv)) in
@@ -53,7 +53,7 @@ over-now c =
     rw w at (bytes-run-over (to_z w32 p.v) p.n _ _ _ (come c.before) (λ e. c.if2.false (sym u ∙ e ∙ w)))
 
 last : (c : tie.After-loop invariant-loop decreases-loop)
-    → Parts (bytesFor Four (runsFrom (to_z w32 c.before.loop.v) c.before.loop.n (deltasFrom c.before.before.before.before.before.before.before.args.delta (to_z w32 c.before.loop.before) (drop c.before.loop.i c.before.before.before.before.before.before.before.args.values.now)))) (bytes_of 4 c.before.loop.v ++ bytes_of 4 c.before.loop.n) []
+    → Parts (bytes_for Four (runs_from (to_z w32 c.before.loop.v) c.before.loop.n (deltas_from c.before.before.before.before.before.before.before.args.delta (to_z w32 c.before.loop.before) (drop c.before.loop.i c.before.before.before.before.before.before.before.args.values.now)))) (bytes_of 4 c.before.loop.v ++ bytes_of 4 c.before.loop.n) []
 last c =
     let a = c.before.before.before.before.before.before.before.args in
     let p = c.before.loop in
