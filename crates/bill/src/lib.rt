@@ -1,6 +1,8 @@
 // The month's bill, added up exactly from the receipts: for each station its accepted and its refused jobs, and the total of the accepted ones. Bytes
 // are billed exactly when they are receipts, one after another, whose jobs rise within each station. Receipts are entered into a ledger of three
 // columns, each indexed by the station; a program that holds a piece of the receipts at a time enters one piece after another by the same step.
+#![tactic(auto)]
+
 ghost use Rattle.std.specs.Prelude.{◌≡◌, ℕ, suc, ◌%◌, ◌&&◌, length, take, replicate, if◌then◌else◌, ◌==◌, nat_eq, slice_index, slice_set};
 ghost use Rattle.refusal.specs.Answer.{answered, leaves};
 ghost use Rattle.receipt.specs.Receipt.{station_limit};
@@ -21,7 +23,7 @@ pub const STATIONS: usize = receipt::STATION_LIMIT as usize + 1;
 pub const ROOM: usize = (STATIONS - 1) * 46 + 13;
 
 // What was entered: how many bytes and receipts, and the refusal of the receipt after them, or 0 where entering ended.
-#[derive(Drop)]
+#[derive(Clone, Copy)]
 pub struct Entered {
     pub refusal: u8,
     pub bytes: usize,

@@ -1,4 +1,6 @@
 // One cell of a column of any kind. The payload is read at most twice, and nothing is copied.
+#![tactic(auto)]
+
 ghost use Rattle.std.specs.Prelude.{◌≡◌, true, false, ℕ};
 ghost use Rattle.columns.specs.Table.{is_strings};
 ghost use Rattle.columns.specs.Decode.{decode, judged_payload};
@@ -9,7 +11,7 @@ use columns::{HEADER_SIZE, Header, Kind, Wanted};
 use steps::{Form, Range, Size};
 
 // A whole number, a letter, a float, or the refusal.
-#[derive(Drop)]
+#[derive(Clone, Copy)]
 pub enum Cell {
     Int(i32),
     Char(u8),

@@ -1,5 +1,7 @@
 // Columns: the table of the sixteen codecs, and a column's header with its refusals 14 to 17. specs/ has what a column decodes to
 // and what its cells encode to, once for all codecs.
+#![tactic(auto)]
+
 ghost use Rattle.std.specs.Prelude.{◌≡◌, ◌≤◌};
 ghost use Rattle.columns.specs.Table.{codec_of, kind_tag, is_real, suits, length_limit, parameter_ok, used, size_right};
 ghost use Rattle.columns.specs.Header.{judged, header_of};
@@ -19,7 +21,7 @@ pub const NAME_LIMIT: u32 = 255;
 const DIVISOR_LIMIT: u32 = numbers::INTEGER_LIMIT as u32;
 
 // The kinds of columns (paper 01: real by codec 1, real by codecs 9 to 13, small, short, whole, names, letters).
-#[derive(Drop)]
+#[derive(Clone, Copy)]
 pub enum Kind {
     Float32,
     FixedPoint,
@@ -31,7 +33,7 @@ pub enum Kind {
 }
 
 // What a caller asks for: one kind, real columns of either kind, or any.
-#[derive(Drop)]
+#[derive(Clone, Copy)]
 pub enum Wanted {
     Only(Kind),
     Real,
@@ -39,7 +41,7 @@ pub enum Wanted {
 }
 
 // What the header's parameter is.
-#[derive(Drop)]
+#[derive(Clone, Copy)]
 pub enum Parameter {
     Unused,
     Divisor,
@@ -47,21 +49,21 @@ pub enum Parameter {
 }
 
 // A row of the table: kind, form of the payload, whether delta follows, and what the parameter is.
-#[derive(Drop)]
+#[derive(Clone, Copy)]
 pub enum Codec {
     Known(Kind, Form, bool, Parameter),
     Unknown,
 }
 
 // A header that passes, with length, parameter, kind, form and delta; or its refusal.
-#[derive(Drop)]
+#[derive(Clone, Copy)]
 pub enum Header {
     Good(usize, u32, Kind, Form, bool),
     Refused(u8),
 }
 
 // What an encoder will do: form of the payload, delta, and length and parameter as they are written; or its refusal.
-#[derive(Drop)]
+#[derive(Clone, Copy)]
 pub enum Plan {
     Good(Form, bool, u32, u32),
     Refused(u8),

@@ -5,7 +5,7 @@ ghost use Rattle.commands.specs.Bills.{unread, opened_run, read_run, held_by, de
 
 // A run of receipts, as far as it is read: how many bytes it may still have until it is over the limit; how many bytes are held, of receipts that are
 // not entered yet; the file in which the first of these receipts begins, its number among those that begin there, and its refusal, or 0.
-#[derive(Drop)]
+#[derive(Clone, Copy)]
 pub struct Run {
     pub left: usize,
     pub held: usize,

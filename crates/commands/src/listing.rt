@@ -10,7 +10,7 @@ use lines::single::Sort;
 use text::Number;
 
 // What a field is, the codec of a column, and the length.
-#[derive(Drop)]
+#[derive(Clone, Copy)]
 pub struct What {
     pub sort: Sort,
     pub codec: Number,

@@ -6,7 +6,7 @@ use sentences::OfPart;
 use text::Number;
 
 // The file is accepted or the data were written; the file or the column is refused; or nothing was produced.
-#[derive(Drop)]
+#[derive(Clone, Copy)]
 pub enum Status {
     Done,
     Refused,
@@ -14,7 +14,7 @@ pub enum Status {
 }
 
 // The descriptor to which the status is written, or none.
-#[derive(Drop)]
+#[derive(Clone, Copy)]
 pub enum Descriptor {
     At(i32),
     None,

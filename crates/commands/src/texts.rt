@@ -8,7 +8,7 @@ use sentences::OfPart;
 use views::shapes::Shape;
 
 // How a value is shown: as one line, as the line of a string, as a line for each value of an array; or not, and what is said.
-#[derive(Drop)]
+#[derive(Clone, Copy)]
 pub enum Way {
     One,
     Text,

@@ -5,7 +5,7 @@ ghost use Rattle.commands.specs.Words.{command_of, about_of, raw_of, flagged, wo
 use sentences::OfPart;
 use text::Number;
 
-#[derive(Drop)]
+#[derive(Clone, Copy)]
 pub enum Command {
     Check,
     Receipt,
@@ -21,7 +21,7 @@ pub enum Command {
 }
 
 // A number that a command asks for, or none: the word says no number, or one that is out of range.
-#[derive(Drop)]
+#[derive(Clone, Copy)]
 pub enum Asked {
     Is(u32),
     None,

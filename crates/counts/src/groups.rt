@@ -11,7 +11,7 @@ use heads::{Head, Kind};
 use values::lists::Length;
 
 // Where the lists of a group type stand; 0 for one that is not there.
-#[derive(Drop)]
+#[derive(Clone, Copy)]
 pub struct Places {
     pub charges: usize,
     pub names: usize,
@@ -21,14 +21,14 @@ pub struct Places {
 }
 
 // Where the lists of a group type stand, and where it ends.
-#[derive(Drop)]
+#[derive(Clone, Copy)]
 pub struct Found {
     pub places: Places,
     pub end: usize,
 }
 
 // The refusal of a group type by rule 5, or 0 with its atoms and bonds; and where it ends.
-#[derive(Drop)]
+#[derive(Clone, Copy)]
 pub struct Group {
     pub refusal: u8,
     pub atoms: u32,

@@ -12,7 +12,7 @@ ghost use Rattle.counts.specs.IndexPlaces.{ListIn};
 use heads::{Head, Kind};
 
 // Where the list of chains of a map stands, 0 where there is none, and where the map ends.
-#[derive(Drop)]
+#[derive(Clone, Copy)]
 pub struct List {
     pub at: usize,
     pub end: usize,

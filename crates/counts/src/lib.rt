@@ -1,6 +1,8 @@
 // The eleven rules of paper 01, "Counts that must agree", in their order; specs/Counts.antt has each as a definition. Rule 4 is judged by
 // `file_columns`, rule 5 for one group type by the module `groups`, and rule 11 for one list by the module `indices`. Each function takes any
 // bytes and any places, and promises a meaning for a file that has been walked.
+#![tactic(auto)]
+
 mod groups;
 mod indices;
 
@@ -26,7 +28,7 @@ pub const COUNT_LIMIT: usize = 16_777_216;
 const FEW_TYPES: usize = 128;
 
 // The five num fields; one that is out of range is one above the limit.
-#[derive(Drop)]
+#[derive(Clone, Copy)]
 pub struct Counts {
     pub bonds: usize,
     pub atoms: usize,

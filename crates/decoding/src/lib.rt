@@ -1,5 +1,7 @@
 // Decoders of columns of numbers, characters and strings into a lent buffer, for any bytes and any buffer: one pass to check, one to
 // write. On success the buffer begins with the column and everything beyond is unchanged; on refusal nothing has changed.
+#![tactic(auto)]
+
 ghost use Rattle.std.specs.Prelude.{◌≡◌, true, false, ◌++◌, ◌+◌, ◌≤◌, length, drop, replicate};
 ghost use Rattle.columns.specs.Table.{suits};
 ghost use Rattle.columns.specs.Decode.{decode, judged_payload};
@@ -15,7 +17,7 @@ use refusal::Answer;
 use steps::{Form, Range, Size};
 
 // How many integers were written, and the divisor; or the refusal.
-#[derive(Drop)]
+#[derive(Clone, Copy)]
 pub enum Fixed {
     Column(usize, i32),
     Refused(u8),

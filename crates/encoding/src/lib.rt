@@ -1,5 +1,7 @@
 // The encoders of MMTF columns: the cells of a column to its bytes, the header and the payload in the writer's form, with the refusals
 // 15, 16, 18 and 25 in this order. Every call is total: where it refuses, it changes nothing.
+#![tactic(auto)]
+
 ghost use Rattle.std.specs.Prelude.{◌≡◌, true, ◌≤◌, length};
 ghost use Rattle.std.specs.Int.{w32};
 ghost use Rattle.std.proofs.Common.{of_z};

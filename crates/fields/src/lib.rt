@@ -2,6 +2,8 @@
 // type, with the set of those that are present; and the refusals 12, 13 and 24. The types stand in one table of bytes, made once for a pass
 // and lent. Values, arrays and maps are gone through by functions that call each other, the levels left falling. Each function takes any bytes
 // and any place, and promises a meaning for a file that has been walked (`Walked.antt` of values).
+#![tactic(auto)]
+
 ghost use Rattle.std.specs.Prelude.{◌≡◌, true, false, List, ℕ, ◌+◌, ◌*◌, ◌^◌, ◌≤◌, ◌<◌, length, get_or, take, drop, set};
 ghost use Rattle.numbers.specs.BigEndian.{unsigned_at};
 ghost use Rattle.text.specs.Equal.{equal};
@@ -103,7 +105,7 @@ pub const ENTITY_LIST: usize = BIO_ASSEMBLY_LIST + 1;
 
 // What a pass over a file's entries notes of the named fields: where each one's value stands and where it ends, 0 and 0 where it is absent; the
 // set of those present, a bit for each; whether each of them has its type.
-#[derive(Drop)]
+#[derive(Clone, Copy)]
 pub struct Fields {
     pub places: [usize; FIELD_COUNT],
     pub ends: [usize; FIELD_COUNT],
@@ -112,14 +114,14 @@ pub struct Fields {
 }
 
 // A place, and how many values are left from there on.
-#[derive(Drop)]
+#[derive(Clone, Copy)]
 pub struct Run {
     pub at: usize,
     pub left: usize,
 }
 
 // Where a field's value ends, and whether it has its type.
-#[derive(Drop)]
+#[derive(Clone, Copy)]
 pub struct Judged {
     pub end: usize,
     pub typed: bool,

@@ -1,6 +1,8 @@
 // The columns of a file at their places: the refusal of the first that has one, their lengths, and what their cells add up to. The table of
 // columns is gone through by numbers, which stand for the rows of specs/Columns.antt. Each function takes any bytes and any places, and promises
 // a meaning for a file that has been walked (`Walked.antt` of values).
+#![tactic(auto)]
+
 pub mod whole;
 
 ghost use Rattle.std.specs.Prelude.{◌≡◌, ◌<◌, slice_index};

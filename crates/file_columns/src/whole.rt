@@ -23,14 +23,14 @@ pub const TYPE_LIMIT: usize = 4_096;
 pub const FIELD_NAME_SIZE: u32 = 4;
 
 // The length and the parameter of a column that decodes, or its refusal.
-#[derive(Drop)]
+#[derive(Clone, Copy)]
 pub enum Checked {
     Good(usize, u32),
     Refused(u8),
 }
 
 // Whether all cells are indices, and the sums of two tables over them.
-#[derive(Drop)]
+#[derive(Clone, Copy)]
 pub struct Sums {
     pub inside: bool,
     pub atoms: u64,
@@ -38,14 +38,14 @@ pub struct Sums {
 }
 
 // The last of some results that all lie between two numbers; or one does not.
-#[derive(Drop)]
+#[derive(Clone, Copy)]
 enum Last {
     Within(i32),
     Outside,
 }
 
 // The cells to come, the sums over those before them, and the last of these.
-#[derive(Drop)]
+#[derive(Clone, Copy)]
 struct Tally {
     left: usize,
     atoms: u64,
@@ -54,7 +54,7 @@ struct Tally {
 }
 
 // A tally with some results more; or one is no index, or they are too many.
-#[derive(Drop)]
+#[derive(Clone, Copy)]
 enum Step {
     On(Tally),
     Off,

@@ -1,6 +1,8 @@
 // Real columns as floats: the bits of single precision in a lent buffer, for any bytes and any buffer: one pass to check, one to write.
 // Codec 1 keeps its bits; each integer of codecs 9 to 13 is divided once. On success the buffer begins with the column and everything
 // beyond is unchanged; on refusal nothing has changed.
+#![tactic(auto)]
+
 ghost use Rattle.std.specs.Prelude.{◌≡◌, true, false, ◌&&◌, ◌+◌, ◌≤◌, length, pos, T};
 ghost use Rattle.std.specs.Float.Ieee.Positive.{positive};
 ghost use Rattle.columns.specs.Decode.{decode};

@@ -1,13 +1,15 @@
 // Heads of MessagePack values: the lead byte's kind, and the number that lead byte and the bytes after it hold.
 // Kind and head size stand in two constant tables of 256 rows, one for each lead byte. `leads` packs them into one table, which is lent to each
 // call, so that one look gives both. Any table, any bytes and any place are taken.
+#![tactic(auto)]
+
 ghost use Rattle.std.specs.Prelude.{◌≡◌, ◌+◌, ◌/◌, ◌%◌, ◌≤◌, ◌<◌, length};
 ghost use Rattle.heads.specs.Lead.{held_by};
 ghost use Rattle.heads.specs.Table.{kind_table, size_table, lead_table, kind_from, kind_by, sized_number, head_by};
 ghost use Rattle.heads.specs.Head.{kind_at, head_at};
 
 // The kind of the value that starts at a place.
-#[derive(Drop)]
+#[derive(Clone, Copy)]
 pub enum Kind {
     Unsigned,
     Signed,
@@ -23,7 +25,7 @@ pub enum Kind {
 }
 
 // What a head says.
-#[derive(Drop)]
+#[derive(Clone, Copy)]
 pub enum Head {
     // The number that it holds, and the place after it.
     At(usize, usize),

@@ -1,4 +1,6 @@
 // The values of a column as lines of text in a lent buffer: as many lines as have room. Every call is total. Module `single` puts one line.
+#![tactic(auto)]
+
 mod exact;
 pub mod single;
 
@@ -10,21 +12,21 @@ ghost use Rattle.lines.specs.Decimals.{float_text, float_in};
 ghost use Rattle.lines.specs.Lines.{line, Lines, names_in};
 
 // How many values were put as lines, and how many bytes these take.
-#[derive(Drop)]
+#[derive(Clone, Copy)]
 pub struct Gathered {
     pub values: usize,
     pub bytes: usize,
 }
 
 // How many decimal places a divisor gives: so many if it is a power of ten, or none that end.
-#[derive(Drop)]
+#[derive(Clone, Copy)]
 pub enum Places {
     Exactly(usize),
     Endless,
 }
 
 // How a float is written: in exact decimal, or in the hexadecimal notation of C.
-#[derive(Drop)]
+#[derive(Clone, Copy)]
 pub enum Notation {
     Decimal,
     Hexadecimal,

@@ -11,7 +11,7 @@ use crate::Places;
 use text::Number;
 
 // What a field is: a column is a binary with the header of a codec.
-#[derive(Drop)]
+#[derive(Clone, Copy)]
 pub enum Sort {
     Integer,
     Float,

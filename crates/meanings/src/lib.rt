@@ -1,5 +1,7 @@
 // The meanings of the refusal numbers in words: written for a caller who has a number, and put into the sentences of the program. The table is
 // read by `words_in`, which reads any table of numbered words.
+#![tactic(auto)]
+
 ghost use Rattle.std.specs.Prelude.{◌≡◌, length};
 ghost use Rattle.text.specs.Put.{Put};
 ghost use Rattle.meanings.specs.Meanings.{meaning_of, meaning_answer, meaning_buffer};

@@ -2,6 +2,8 @@
 // file is a writing of a map within the limits. Values, arrays and maps are walked by functions that call each other, the levels left falling.
 // The keys of the maps that are open stand in two tables that are made once for a walk: where each starts, and a print of it to compare first.
 // The places of the outer keys are handed over, so that nothing walks a file again to find them.
+#![tactic(auto)]
+
 ghost use Rattle.std.specs.Prelude.{◌≡◌, ℕ, ◌+◌, ◌*◌, ◌<◌, ◌≤◌, true, false, ◌↔◌, length, take, drop, ◌≢◌, slice_index};
 ghost use Rattle.refusal.specs.Answer.{answered, leaves};
 ghost use Rattle.numbers.specs.BigEndian.{unsigned_at};
@@ -36,21 +38,21 @@ const KEY_ROWS: usize = NESTING_LIMIT * ENTRY_LIMIT;
 const OUTER_ROWS: usize = KEY_ROWS - ENTRY_LIMIT;
 
 // Where a value ends, or the number of its refusal.
-#[derive(Drop)]
+#[derive(Clone, Copy)]
 pub enum Walk {
     End(usize),
     Refused(u8),
 }
 
 // A string's first byte and its length, or the number of its refusal.
-#[derive(Drop)]
+#[derive(Clone, Copy)]
 pub enum Text {
     At(usize, usize),
     Refused(u8),
 }
 
 // A value that holds no others, as `Walk` has it; or that it holds others, and which.
-#[derive(Drop)]
+#[derive(Clone, Copy)]
 pub enum Leaf {
     End(usize),
     Refused(u8),
@@ -59,21 +61,21 @@ pub enum Leaf {
 }
 
 // Where a value that is quickly found ends, or that it is another.
-#[derive(Drop)]
+#[derive(Clone, Copy)]
 pub enum Quick {
     End(usize),
     Other,
 }
 
 // A place, and how many values are left from there on.
-#[derive(Drop)]
+#[derive(Clone, Copy)]
 pub struct Run {
     pub at: usize,
     pub left: usize,
 }
 
 // A short string's first byte and its length, or that it is another value.
-#[derive(Drop)]
+#[derive(Clone, Copy)]
 pub enum Short {
     At(usize, usize),
     Other,

@@ -1,5 +1,7 @@
 // The C boundary: each call thin over a library's, with its contract. include/mmtf.h declares them for C.
 // On refusal no out parameter changes.
+#![tactic(auto)]
+
 ghost use Rattle.std.specs.Prelude.{◌≡◌, ◌↔◌, length, take, pos};
 ghost use Rattle.std.specs.Int.{w32};
 ghost use Rattle.refusal.specs.Answer.{answer_number, answer_count};

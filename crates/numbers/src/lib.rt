@@ -1,6 +1,8 @@
 // Numbers: big-endian in bytes, of 16 and 32 bits, unsigned and signed in two's complement, read from a slice and written into a buffer; casts
 // to wider types; tests of ranges; a float by its bits. Every call is total: a place where the bytes are not all inside reads as 0, and a
 // write there changes nothing.
+#![tactic(auto)]
+
 ghost use Rattle.std.specs.Prelude.{◌≡◌, ◌+◌, ◌-◌, ◌%◌, ◌≤◌, ◌<◌, length, ◌&&◌, pos};
 ghost use Rattle.std.specs.Int.{w16, w32};
 ghost use Rattle.std.proofs.Common.{to_z, of_z};

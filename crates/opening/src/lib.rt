@@ -1,5 +1,7 @@
 // A file opened: its verdict and, of an accepted file, the set of its named fields and the part of each, by one walk of the container and one pass
 // over the outer map. The parts are those of the fields' views, so that a program decodes every column with no further walk.
+#![tactic(auto)]
+
 ghost use Rattle.std.specs.Prelude.{◌≡◌, ◌≤◌, ◌-◌, length};
 ghost use Rattle.heads.specs.Table.{lead_table};
 ghost use Rattle.heads.specs.Head.{head_at};
@@ -14,7 +16,7 @@ use heads::{Head, Kind};
 use values::Part;
 
 // The set of an accepted file's named fields, a bit for each, or the refusal.
-#[derive(Drop)]
+#[derive(Clone, Copy)]
 pub enum Opening {
     Presence(u64),
     Refused(u8),

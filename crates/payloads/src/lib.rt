@@ -1,5 +1,7 @@
 // A column's payload, read in one pass: whether its numbers are allowed (18) and as many as the header says (19), and whether its results
 // are exact in single precision. A run of any length costs one turn, so that time is linear in the bytes.
+#![tactic(auto)]
+
 ghost use Rattle.std.specs.Prelude.{◌≡◌, ◌+◌, ◌-◌, ◌*◌, ◌/◌, ◌<◌, ◌≤◌, true, false, not, ◌&&◌, ◌||◌, length, pos, if◌then◌else◌, ◌==◌, nat_le};
 ghost use Rattle.std.specs.Int.{w8};
 ghost use Rattle.std.proofs.Common.{to_z};
@@ -22,14 +24,14 @@ use steps::{Form, Range, Size, Turn};
 pub const EXACT_LIMIT: i32 = 16_777_216;
 
 // What a scan answers: whether the results are of a form that is judged, and exact; or the refusal.
-#[derive(Drop)]
+#[derive(Clone, Copy)]
 pub enum Outcome {
     Fine(bool),
     Refused(u8),
 }
 
 // A value, how many times it stands there, and where the rest starts.
-#[derive(Drop)]
+#[derive(Clone, Copy)]
 pub enum Item {
     Run(i32, usize, usize),
     Wrong,

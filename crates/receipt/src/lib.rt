@@ -1,5 +1,7 @@
 // Receipts: what a lab is billed by. One is written for a file, whatever its bytes, and shows one unit exactly when the file is accepted; and one is
 // read back from bytes that are a receipt by the rules of paper 01, or found at a place of bytes that go on.
+#![tactic(auto)]
+
 ghost use Rattle.std.specs.Prelude.{◌≡◌, ℕ, length, take, drop};
 ghost use Rattle.numbers.specs.Ranges.{within};
 ghost use Rattle.text.specs.Put.{Put};
@@ -33,7 +35,7 @@ pub const RECEIPT_LIMIT: usize = 128;
 const ROOM: usize = 176;
 
 // The ten numbers of a receipt, in the order of its lines.
-#[derive(Drop)]
+#[derive(Clone, Copy)]
 pub struct Receipt {
     pub station: u32,
     pub job: u32,
@@ -48,21 +50,21 @@ pub struct Receipt {
 }
 
 // What bytes are read as: a receipt's numbers, or the refusal.
-#[derive(Drop)]
+#[derive(Clone, Copy)]
 pub enum Reading {
     Numbers(Receipt),
     Refused(u8),
 }
 
 // What stands at a place of bytes: a receipt, and where it ends; or none.
-#[derive(Drop)]
+#[derive(Clone, Copy)]
 pub enum Found {
     At(Receipt, usize),
     None,
 }
 
 // A line of a receipt: its number, and the place after it.
-#[derive(Drop)]
+#[derive(Clone, Copy)]
 pub struct Line {
     pub number: u32,
     pub end: usize,

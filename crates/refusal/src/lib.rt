@@ -1,6 +1,8 @@
 // The table of refusal numbers: one number for each meaning, the same in every call, output and format. A number is bound to its meaning by
 // name and not by place, so that a new row moves no other. Numbers of rules are joined in their order, and a call that fills a lent buffer
 // answers a count or a number.
+#![tactic(auto)]
+
 ghost use Rattle.std.specs.Prelude.{◌≡◌};
 ghost use Rattle.refusal.specs.Table.{refusal_number};
 ghost use Rattle.refusal.specs.First.{unless as numberUnless};
@@ -69,7 +71,7 @@ pub const RECEIPT_MALFORMED: u8 = 29;
 pub const JOB_NOT_RISING: u8 = 30;
 
 // The meanings, each under the name of its number.
-#[derive(Drop)]
+#[derive(Clone, Copy)]
 pub enum Refusal {
     Accepted,
     FileOverLimit,
@@ -105,7 +107,7 @@ pub enum Refusal {
 }
 
 // What a call answers that fills a lent buffer: how many elements it wrote, or the number of its refusal.
-#[derive(Drop)]
+#[derive(Clone, Copy)]
 pub enum Answer {
     Count(usize),
     Refused(u8),

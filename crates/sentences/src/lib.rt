@@ -1,5 +1,7 @@
 // The sentences that the program says, one line each: of a file, of a part of it, of a word, of receipts, and of the output. Every call is total. A sentence is
 // a form of a table in which marks stand for what differs.
+#![tactic(auto)]
+
 ghost use Rattle.std.specs.Prelude.{◌≡◌};
 ghost use Rattle.text.specs.Put.{Put};
 ghost use Rattle.text.specs.Ascii.{ascii};
@@ -10,7 +12,7 @@ ghost use Rattle.sentences.specs.Sentences.{is_gzip, advice_of, refusal_of, reas
 ghost use Rattle.sentences.specs.Steps.{forms, verdict_row, bill_row, row_of};
 
 // What a person can do about a refused file.
-#[derive(Drop)]
+#[derive(Clone, Copy)]
 pub enum Advice {
     None,
     Floats,
@@ -18,14 +20,14 @@ pub enum Advice {
 }
 
 // What is said of a file that was not judged. A reason is the number of the system's error.
-#[derive(Drop)]
+#[derive(Clone, Copy)]
 pub enum OfFile {
     TooLong,
     Unreadable(u32),
 }
 
 // What is said of a part of a file. A refusal has its number.
-#[derive(Drop)]
+#[derive(Clone, Copy)]
 pub enum OfPart {
     NoField,
     NoColumn,
@@ -36,7 +38,7 @@ pub enum OfPart {
 }
 
 // What is said of a word.
-#[derive(Drop)]
+#[derive(Clone, Copy)]
 pub enum OfWord {
     NoCommand,
     NoStation,
@@ -45,7 +47,7 @@ pub enum OfWord {
 
 // A sentence: the verdict on a file; what else is said of a file, of a part of it or of a word; the refusal of receipts, with the number in its file
 // of the one at fault; or why the output was not written.
-#[derive(Drop)]
+#[derive(Clone, Copy)]
 pub enum Sentence {
     Verdict(u8, Advice),
     File(OfFile),

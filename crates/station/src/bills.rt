@@ -14,14 +14,14 @@ use refusal::Answer;
 use sentences::Sentence;
 
 // What reading files gives: how far the run of their receipts is read, or nothing, and why was said.
-#[derive(Drop)]
+#[derive(Clone, Copy)]
 pub enum Files {
     Run(Run),
     None,
 }
 
 // How far a file is read: there may be more of it, it has ended, or a read failed with the number of an error.
-#[derive(Drop)]
+#[derive(Clone, Copy)]
 pub enum Reached {
     More(Run),
     Ended(Run),

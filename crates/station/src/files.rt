@@ -6,21 +6,21 @@ use crate::say;
 use sentences::{OfFile, Sentence};
 
 // What reading a file gives: how many bytes it has, or nothing, and why was said.
-#[derive(Drop)]
+#[derive(Clone, Copy)]
 pub enum Contents {
     Bytes(usize),
     None,
 }
 
 // A file that is open for reading, or nothing, and why was said.
-#[derive(Drop)]
+#[derive(Clone, Copy)]
 pub enum Opened {
     At(i32),
     None,
 }
 
 // How an input ended: after so many bytes, or too long, or with the number of an error.
-#[derive(Drop)]
+#[derive(Clone, Copy)]
 pub enum End {
     After(usize),
     TooLong,

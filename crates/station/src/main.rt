@@ -1,6 +1,8 @@
 // The service desk's command: whether structure files are accepted, a file's receipt, its fields, their values and its columns, and the bill of
 // receipts. Verdicts and data go to standard output, other sentences to standard error. The first word is the number of a descriptor, and the last
 // act is to write the status there, one digit.
+#![tactic(auto)]
+
 mod about;
 mod bills;
 mod files;
@@ -22,7 +24,7 @@ use sentences::{OfPart, OfWord, Sentence};
 use shown::Shown;
 
 // What is done with a file.
-#[derive(Drop)]
+#[derive(Clone, Copy)]
 pub enum Task {
     Check,
     Receipt(u32, u32),

@@ -7,7 +7,7 @@ use receipt::Reading;
 use refusal::Answer;
 
 // How many bytes a receipt has and the verdict in it; or the number of the refusal.
-#[derive(Drop)]
+#[derive(Clone, Copy)]
 pub enum Made {
     Receipt(usize, u8),
     Refused(u8),

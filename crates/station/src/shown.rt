@@ -14,7 +14,7 @@ const VALUES: usize = 65536;
 const FLOATS: usize = 16384;
 
 // What became of a column: whether its values were written whole, or the number of the refusal.
-#[derive(Drop)]
+#[derive(Clone, Copy)]
 pub enum Shown {
     Written(bool),
     Refused(u8),

@@ -1,6 +1,8 @@
 // The steps that the codecs are made of: signed big-endian numbers of 1, 2 and 4 bytes, run-length, delta and recursive index
 // (packing), each defined once on lists in specs/. The calls here are the steps on single numbers and the check of names, and every call
 // is total.
+#![tactic(auto)]
+
 ghost use Rattle.std.specs.Prelude.{◌≡◌, ◌+◌, ◌<◌, ◌≤◌, true, ◌&&◌, map, length, take, drop, pos, nat_le};
 ghost use Rattle.std.specs.Int.{w8};
 ghost use Rattle.std.proofs.Common.{to_z};
@@ -12,7 +14,7 @@ ghost use Rattle.steps.specs.Payload.{least_in, most_in, in_range, all_in, padde
 ghost use Rattle.steps.specs.Steps.{turn_of, one_name, word_of, zeros_last};
 
 // The size of a number, in bytes.
-#[derive(Drop)]
+#[derive(Clone, Copy)]
 pub enum Size {
     One,
     Two,
@@ -20,7 +22,7 @@ pub enum Size {
 }
 
 // The numbers that a value may be.
-#[derive(Drop)]
+#[derive(Clone, Copy)]
 pub enum Range {
     Int8,
     Int16,
@@ -29,7 +31,7 @@ pub enum Range {
 }
 
 // How a payload holds its values: a number for each, packed numbers, runs of a value and a count, or the bytes of names.
-#[derive(Drop)]
+#[derive(Clone, Copy)]
 pub enum Form {
     Plain(Size),
     Packed(Size),
@@ -38,7 +40,7 @@ pub enum Form {
 }
 
 // What one packed number does to a result: the sum goes on, or is done, or is outside 32 bits.
-#[derive(Drop)]
+#[derive(Clone, Copy)]
 pub enum Turn {
     More(i32),
     Done(i32),

@@ -1,6 +1,8 @@
 // The verdict on a file: 0 exactly when it is accepted, else the number of the first rule that it breaks, by the order of paper 01; and what a
 // receipt says of the file. One walk of the container, one pass over the outer map that notes and judges the named fields, one pass over each
 // column, and the rules of counts.
+#![tactic(auto)]
+
 ghost use Rattle.std.specs.Prelude.{◌≡◌, ◌↔◌};
 ghost use Rattle.counts.specs.Steps.{Small};
 ghost use Rattle.structure.specs.Accepted.{Accepted, entries_number, verdict_of};
@@ -12,7 +14,7 @@ use fields::Fields;
 
 // What a receipt says of a file: the verdict, and of an accepted file the five num fields and the set of its named fields, a bit for each; of a
 // refused one zeros.
-#[derive(Drop)]
+#[derive(Clone, Copy)]
 pub struct Summary {
     pub verdict: u8,
     pub models: u32,

@@ -1,12 +1,14 @@
 // Bytes as text: whether two strings of bytes are the same, whether a word stands at a place, text put into a lent buffer, one piece after the
 // other, and decimal words read as numbers. Every call is total: of what goes beyond the buffer's end nothing is put.
+#![tactic(auto)]
+
 ghost use Rattle.std.specs.Prelude.{◌≡◌, [], ◌∷◌, length, drop};
 ghost use Rattle.text.specs.Equal.{equal, begins};
 ghost use Rattle.text.specs.Put.{Put};
 ghost use Rattle.text.specs.Decimal.{glyph, decimal, with_digit, number_in};
 
 // The number that a word says, or that it is none.
-#[derive(Drop)]
+#[derive(Clone, Copy)]
 pub enum Number {
     Is(u32),
     None,

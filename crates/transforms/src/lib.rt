@@ -1,5 +1,7 @@
 // A transform's matrix: four rows of four floats, by the number of its assembly in bioAssemblyList and its own number in that. Of the file the
 // container is judged, and the type of bioAssemblyList, and no other field.
+#![tactic(auto)]
+
 ghost use Rattle.std.specs.Prelude.{◌≡◌, true, ◌+◌, ◌≤◌, take, drop};
 ghost use Rattle.std.proofs.Math.Option.{some};
 ghost use Rattle.messagepack.specs.Document.{count};
@@ -12,14 +14,14 @@ ghost use Rattle.transforms.specs.Steps.{FoundSays, WalkedPast, refused_by, answ
 use heads::{Head, Kind};
 
 // The refusal of a transform's matrix, or 0, with the matrix's sixteen floats in order; zeros on refusal.
-#[derive(Drop)]
+#[derive(Clone, Copy)]
 pub struct Transform {
     pub refusal: u8,
     pub floats: [f32; 16],
 }
 
 // The place of a value, or that there is none.
-#[derive(Drop)]
+#[derive(Clone, Copy)]
 pub enum Found {
     At(usize),
     Absent,

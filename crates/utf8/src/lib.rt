@@ -1,5 +1,7 @@
 // Whether bytes are UTF-8 by RFC 3629: the encodings of Unicode scalar values one after another, up to 10FFFF, without
 // surrogates, each in its shortest form. The check goes a step at a time and refuses at the first fault.
+#![tactic(auto)]
+
 ghost use Rattle.std.specs.Prelude.{◌≡◌, true, ◌↔◌, ℕ, suc, ◌+◌, ◌<◌, ◌≤◌, length, drop, get_or};
 ghost use Rattle.utf8.specs.Utf8.{Utf8};
 ghost use Rattle.utf8.specs.Check.{is_utf8, due, following, is_ascii};
@@ -7,7 +9,7 @@ ghost use Rattle.utf8.specs.Check.{lowest as lowestOf, highest as highestOf};
 ghost use Rattle.utf8.specs.Step.{onward, Forward, LeadAt};
 
 // The place after what a step passed over, or a fault.
-#[derive(Drop)]
+#[derive(Clone, Copy)]
 enum Step {
     Next(usize),
     Bad,

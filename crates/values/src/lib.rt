@@ -2,6 +2,8 @@
 // file that has been walked (specs/Walked.antt). The table of lead bytes is lent (`heads::leads`). The commonest lead bytes are looked at before
 // the table, since files are mostly made of them: `text_at` says so by a case of its definition. What `skip` answers by another table is left
 // free, since it goes by the lead bytes and by the table that is lent.
+#![tactic(auto)]
+
 pub mod keys;
 pub mod lists;
 
@@ -16,14 +18,14 @@ ghost use Rattle.values.specs.Walked.{Walked, WalkedOver};
 use heads::{Head, Kind};
 
 // A place, and how many bytes, values or entries stand from there on.
-#[derive(Drop)]
+#[derive(Clone, Copy)]
 pub struct Part {
     pub at: usize,
     pub count: usize,
 }
 
 // A step over a value: where it goes on, and how many values are inside; or no value stands there.
-#[derive(Drop)]
+#[derive(Clone, Copy)]
 pub enum Over {
     On(usize, usize),
     Stop,

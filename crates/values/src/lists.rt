@@ -7,21 +7,21 @@ ghost use Rattle.values.specs.Walked.{Short, Walked, WalkedAll, WalkedPlace};
 ghost use Rattle.values.specs.Integers.{integers_of, integers_in, list_in, summed, array_length};
 
 // The sum of integers, or that one of them is negative.
-#[derive(Drop)]
+#[derive(Clone, Copy)]
 pub enum Sum {
     Is(u64),
     Negative,
 }
 
 // An integer, and where it ends.
-#[derive(Drop)]
+#[derive(Clone, Copy)]
 pub struct Integer {
     pub value: i32,
     pub end: usize,
 }
 
 // Whether a list is there, and how many entries it has, 0 where it is not.
-#[derive(Drop)]
+#[derive(Clone, Copy)]
 pub struct Length {
     pub there: bool,
     pub count: usize,

@@ -1,5 +1,7 @@
 // Views: the part of a file that shows an outer key's value, for any name and any key of a file that passes as a container; a file is walked
 // once, and the places of its outer keys come from that walk. Modules have what stands at a place, and the shape of a value.
+#![tactic(auto)]
+
 pub mod plain;
 pub mod shapes;
 
@@ -17,7 +19,7 @@ use heads::{Head, Kind};
 use refusal::Answer;
 
 // Where a part starts and how long it is, or the number of the refusal.
-#[derive(Drop)]
+#[derive(Clone, Copy)]
 pub enum Place {
     At(usize, usize),
     Refused(u8),

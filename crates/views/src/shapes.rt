@@ -7,7 +7,7 @@ ghost use Rattle.views.specs.Shapes.{is_plain, all_plain, kind_shape, shape_of, 
 use heads::Kind;
 
 // A plain value, a binary, an array of plain values, or a value that holds others.
-#[derive(Drop)]
+#[derive(Clone, Copy)]
 pub enum Shape {
     Integer,
     Float,

@@ -1,6 +1,8 @@
 // The writers of payloads: `plain` for numbers, floats and names of one number a cell, `packed`, and `runs`. Here is what they share: what
 // they say, whether a form may hold a column's cells (18), room (25), delta, and the bytes of one number. Every call of a module is total,
 // and where it refuses it changes nothing.
+#![tactic(auto)]
+
 pub mod packed;
 pub mod plain;
 pub mod runs;
@@ -15,7 +17,7 @@ ghost use Rattle.writers.specs.Placed.{over};
 use steps::Range;
 
 // What a writer says: how many bytes it put, that a cell is not allowed, or that there is no room.
-#[derive(Drop)]
+#[derive(Clone, Copy)]
 pub enum Placed {
     Bytes(usize),
     NotAllowed,

@@ -12,7 +12,7 @@ use crate::Placed;
 use steps::{Form, Range, Size};
 
 // The next value to be written, the place of its bytes, and the value before it.
-#[derive(Drop)]
+#[derive(Clone, Copy)]
 struct Spot {
     next: usize,
     at: usize,
