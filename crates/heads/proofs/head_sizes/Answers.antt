@@ -2,12 +2,8 @@
 use mathlib.Core.Path.{refl}
 use Rattle.heads.specs.Lead.{more_of}
 use Rattle.heads.specs.Table.{size_table}
-use Rattle.heads.proofs.head_sizes.Statement.{statement}
-use Rattle.heads.proofs.head_sizes.Tie as tie
+use Rattle.heads.proofs.head_sizes.Goals as goal
 
-returns : tie.Need-returns
+pub returns : goal.returns
 unfolding size_table more_of
 returns c = refl
-
-pub head-sizes-spec : {M : Type 1} → statement M
-head-sizes-spec = tie.close (tie.spec returns)

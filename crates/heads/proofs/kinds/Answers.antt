@@ -2,12 +2,8 @@
 use mathlib.Core.Path.{refl}
 use Rattle.heads.specs.Lead.{kind_of}
 use Rattle.heads.specs.Table.{kind_table}
-use Rattle.heads.proofs.kinds.Statement.{statement}
-use Rattle.heads.proofs.kinds.Tie as tie
+use Rattle.heads.proofs.kinds.Goals as goal
 
-returns : tie.Need-returns
+pub returns : goal.returns
 unfolding kind_table kind_of
 returns c = refl
-
-pub kinds-spec : {M : Type 1} → statement M
-kinds-spec = tie.close (tie.spec returns)
