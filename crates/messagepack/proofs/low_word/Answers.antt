@@ -1,0 +1,9 @@
+-- The word is made of the four bytes, and each test is of one of them.
+use Rattle.std.proofs.Common.{arith, ltb-true}
+use Rattle.messagepack.specs.Laws.Quick.{word_low}
+use Rattle.messagepack.proofs.low_word.Goals as goal
+
+pub returns : goal.returns
+returns c =
+    let a = c.args in
+    λ q i h. word_low a.bytes.now a.at _ (λ j. omega (arith, c.shared_slice_known-1.given j)) c.requires c.word-four.ensures c.if-four-ge128.false c.if-four-ge128-2.false c.if-high-ge128.false (ltb-true _ 0x80 q) i h
