@@ -7,4 +7,3 @@ pub mod Encode
 pub mod CanHold
 pub mod WriterForm
 pub mod Shortest
-pub mod Laws

@@ -5,4 +5,3 @@ pub mod Indices
 pub mod GroupPlaces
 pub mod IndexPlaces
 pub mod Steps
-pub mod Laws

@@ -3,4 +3,3 @@ pub mod Lead
 pub mod Head
 pub mod Table
 pub mod Span
-pub mod Laws

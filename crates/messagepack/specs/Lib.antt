@@ -8,4 +8,3 @@ pub mod Read
 pub mod Outer
 pub mod Keys
 pub mod Quick
-pub mod Laws

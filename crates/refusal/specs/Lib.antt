@@ -2,4 +2,3 @@
 pub mod Table
 pub mod First
 pub mod Answer
-pub mod Laws

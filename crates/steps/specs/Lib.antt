@@ -9,4 +9,3 @@ pub mod Payload
 pub mod Steps
 pub mod Fits
 pub mod WriterForm
-pub mod Laws

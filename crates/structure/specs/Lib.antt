@@ -3,4 +3,3 @@ pub mod Accepted
 pub mod Summary
 pub mod Worked
 pub mod Steps
-pub mod Laws

@@ -5,7 +5,7 @@ use Rattle.std.proofs.Common.{sym, ap, subst, ◌∙◌, append-nil, arith, leng
 use Rattle.std.proofs.lemmas.Bool.{eqb-false, lt-leb}
 use Rattle.refusal.specs.Table.{accepted, file_over_limit, buffer_too_small, receipt_malformed, job_not_rising}
 use Rattle.refusal.specs.First.{or_else, unless}
-use Rattle.refusal.specs.Laws.First.{or_else-left, or_else-right, unless_holds}
+use Rattle.refusal.proofs.Laws.First.{or_else-left, or_else-right, unless_holds}
 use Rattle.refusal.specs.Answer.{answered, leaves}
 use Rattle.refusal.specs.declared.Answer.{Answer}
 use Rattle.refusal.specs.declared.Answer.TheVariants.{Count, Refused}

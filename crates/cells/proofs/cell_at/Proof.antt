@@ -18,8 +18,8 @@ use Rattle.columns.specs.declared.Header.TheVariants.{Good}
 use Rattle.columns.specs.Header.{header_size}
 use Rattle.columns.specs.Table.{is_strings}
 use Rattle.columns.specs.Decode.{Decoding, judged_payload}
-use Rattle.columns.specs.Laws.Table.{Passes, header-passes, strings-row}
-use Rattle.columns.specs.Laws.Decode.{decode-refused, decode-good}
+use Rattle.columns.proofs.Laws.Table.{Passes, header-passes, strings-row}
+use Rattle.columns.proofs.Laws.Decode.{decode-refused, decode-good}
 use Rattle.cells.specs.Calls.{cell_of}
 use Rattle.cells.specs.Laws.Table.{cells-row}
 use Rattle.cells.specs.Laws.Calls.{cell-refused}

@@ -15,7 +15,7 @@ use Rattle.steps.specs.declared.Form.TheVariants.{Packed}
 use Rattle.steps.specs.Width.{size_of}
 use Rattle.steps.specs.Delta.{sums_if}
 use Rattle.steps.specs.Payload.{read_in}
-use Rattle.steps.specs.Laws.Delta.{results-plain}
+use Rattle.steps.proofs.Laws.Delta.{results-plain}
 use Rattle.cells.specs.Steps.{is_direct}
 use Rattle.cells.specs.Laws.Table.{direct-plain, direct-names}
 use Rattle.cells.specs.Laws.Found.{plain_here}

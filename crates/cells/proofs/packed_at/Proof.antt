@@ -16,7 +16,7 @@ use Rattle.steps.specs.declared.Form.TheVariants.{Packed}
 use Rattle.steps.specs.Width.{width_of, size_of, upper, lower}
 use Rattle.steps.specs.Delta.{plus_delta}
 use Rattle.steps.specs.Packing.{is_limit}
-use Rattle.steps.specs.Laws.Numbers.{size-pos}
+use Rattle.steps.proofs.Laws.Numbers.{size-pos}
 use Rattle.steps.specs.Payload.{read_in}
 use Rattle.payloads.specs.Laws.Plain.{number-part}
 use Rattle.cells.specs.Laws.Found.{Sought, sought-start, sought-end, sought-more, sought-done, sought-here}

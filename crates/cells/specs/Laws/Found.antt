@@ -18,11 +18,11 @@ use Rattle.steps.specs.Numbers.{numbers_in}
 use Rattle.steps.specs.Delta.{plus_delta, sums_if, advance, results_from, last_from, after_run}
 use Rattle.steps.specs.Packing.{is_limit}
 use Rattle.steps.specs.Steps.{turn_of}
-use Rattle.steps.specs.Laws.Numbers.{length-numbers}
-use Rattle.steps.specs.Laws.NumbersBack.{signed_at-32}
-use Rattle.steps.specs.Laws.Packing.{turn_inside, turn-outside}
+use Rattle.steps.proofs.Laws.Numbers.{length-numbers}
+use Rattle.steps.proofs.Laws.NumbersBack.{signed_at-32}
+use Rattle.steps.proofs.Laws.Packing.{turn_inside, turn-outside}
 use Rattle.steps.specs.Payload.{read_in}
-use Rattle.steps.specs.Laws.Delta.{length-results, results-append, last-append, run_at, run-last}
+use Rattle.steps.proofs.Laws.Delta.{length-results, results-append, last-append, run_at, run-last}
 use Rattle.payloads.specs.declared.Outcome.{Outcome}
 use Rattle.payloads.specs.declared.Outcome.TheVariants.{Fine, Refused}
 use Rattle.payloads.specs.Scan.{judges_exact, scan_of}

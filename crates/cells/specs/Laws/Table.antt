@@ -10,7 +10,7 @@ use Rattle.columns.specs.declared.Parameter.{Parameter}
 use Rattle.columns.specs.declared.Codec.{Codec}
 use Rattle.columns.specs.declared.Codec.TheVariants.{Known, Unknown}
 use Rattle.columns.specs.Table.{codec_of, is_strings, is_names}
-use Rattle.columns.specs.Laws.Rows.{every-codec}
+use Rattle.columns.proofs.Laws.Rows.{every-codec}
 use Rattle.cells.specs.Steps.{is_direct}
 
 abbrev row_ok : Codec → Bool

@@ -1,7 +1,7 @@
 -- Each arm is the table's row; what is left is beyond the table (`past-four`, four rows at a time).
 use mathlib.Core.Path.{sym, ap}
 use Rattle.columns.specs.Table.{codec_of}
-use Rattle.columns.specs.Laws.Table.{codec-unknown, past-four}
+use Rattle.columns.proofs.Laws.Table.{codec-unknown, past-four}
 use Rattle.columns.proofs.codec_of.Goals as goal
 
 pub returns-in-1 : goal.returns-in-1

@@ -1,7 +1,7 @@
 -- The difference is the other number.
 use mathlib.Core.Path.{sym}
 use Prim.Native.Nat.{◌-◌}
-use Rattle.counts.specs.Laws.Steps.{sum_less, sum-rest}
+use Rattle.counts.proofs.Laws.Steps.{sum_less, sum-rest}
 use Rattle.counts.proofs.adds_up.Statement.{statement}
 use Rattle.counts.proofs.adds_up.Tie as tie
 

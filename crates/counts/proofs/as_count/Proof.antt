@@ -7,7 +7,7 @@ use mir.Val.{of_z}
 use mir.Facts.{to_z-of_z}
 use lib.IntN.{nat_abs}
 use Rattle.numbers.specs.Laws.Ranges.{index-bits}
-use Rattle.counts.specs.Laws.Steps.{count-negative, count-large, count_small}
+use Rattle.counts.proofs.Laws.Steps.{count-negative, count-large, count_small}
 use borrow.Author.Rules.{rules}
 use Rattle.counts.proofs.as_count.Statement.{statement}
 use Rattle.counts.proofs.as_count.Tie as tie

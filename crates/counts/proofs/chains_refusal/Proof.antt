@@ -5,7 +5,7 @@ use borrow.Author.Tests.{not-true, not-false}
 use Rattle.text.specs.Equal.{equal}
 use Rattle.fields.specs.Table.{named}
 use Rattle.fields.specs.Fields.{field, find_row, is_required}
-use Rattle.counts.specs.Laws.Steps.{count-named, sum-named, items-integers, sum-negative, sum_is, chains-unfit, chains-groups, chains-models, chains-are}
+use Rattle.counts.proofs.Laws.Steps.{count-named, sum-named, items-integers, sum-negative, sum_is, chains-unfit, chains-groups, chains-models, chains-are}
 use borrow.Author.Rules.{rules}
 use Rattle.counts.proofs.chains_refusal.Statement.{statement}
 use Rattle.counts.proofs.chains_refusal.Tie as tie

@@ -5,7 +5,7 @@ use mir.Syntax.{w32}
 use mir.Val.{to_z, of_z}
 use mir.Facts.{to_z-of_z}
 use Rattle.counts.specs.Steps.{as_count}
-use Rattle.counts.specs.Laws.Steps.{count_most}
+use Rattle.counts.proofs.Laws.Steps.{count_most}
 use borrow.Author.Rules.{rules}
 use Rattle.counts.proofs.count_at.Statement.{statement}
 use Rattle.counts.proofs.count_at.Tie as tie

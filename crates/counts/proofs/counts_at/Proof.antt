@@ -4,7 +4,7 @@ use Prim.Native.Nat.{◌-◌}
 use Rattle.text.specs.Equal.{equal}
 use Rattle.fields.specs.Table.{named}
 use Rattle.fields.specs.Fields.{find_row, is_required}
-use Rattle.counts.specs.Laws.Steps.{integer-named}
+use Rattle.counts.proofs.Laws.Steps.{integer-named}
 use borrow.Author.Rules.{rules}
 use Rattle.counts.proofs.counts_at.Statement.{statement}
 use Rattle.counts.proofs.counts_at.Tie as tie

@@ -5,7 +5,7 @@ use native.Mathlib.Omega.{arith}
 use lib.ListN.{length, length-set}
 use Rattle.values.specs.Walked.{Short, WalkedAll}
 use Rattle.file_columns.specs.Passing.{Hold}
-use Rattle.counts.specs.Laws.Tables.{Judged, judged-start, judged-next, judged-refused, judged-more, judged-end, tables-said}
+use Rattle.counts.proofs.Laws.Tables.{Judged, judged-start, judged-next, judged-refused, judged-more, judged-end, tables-said}
 use borrow.Author.Rules.{rules}
 use Rattle.counts.proofs.fill_tables.Statement.{statement}
 use Rattle.counts.proofs.fill_tables.Tie as tie

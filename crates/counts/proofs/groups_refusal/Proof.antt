@@ -4,7 +4,7 @@ use native.Mathlib.Omega.{arith}
 use Rattle.text.specs.Equal.{equal}
 use Rattle.fields.specs.Table.{named}
 use Rattle.fields.specs.Fields.{find_row, is_required}
-use Rattle.counts.specs.Laws.Steps.{count-named}
+use Rattle.counts.proofs.Laws.Steps.{count-named}
 use borrow.Author.Rules.{rules}
 use Rattle.counts.proofs.groups_refusal.Statement.{statement}
 use Rattle.counts.proofs.groups_refusal.Tie as tie

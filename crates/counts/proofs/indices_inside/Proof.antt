@@ -8,7 +8,7 @@ use Rattle.fields.specs.Table.{named}
 use Rattle.fields.specs.Fields.{field, find_row}
 use Rattle.fields.specs.Tests.{all}
 use Rattle.counts.specs.Indices.{chains_inside, transforms_inside}
-use Rattle.counts.specs.Laws.Steps.{says-named, and_first, and-true}
+use Rattle.counts.proofs.Laws.Steps.{says-named, and_first, and-true}
 use borrow.Author.Rules.{rules}
 use Rattle.counts.proofs.indices_inside.Statement.{statement}
 use Rattle.counts.proofs.indices_inside.Tie as tie

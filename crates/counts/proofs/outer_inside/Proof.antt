@@ -15,7 +15,7 @@ use Rattle.columns.specs.declared.Kind.TheVariants.{Int32}
 use Rattle.columns.specs.declared.Wanted.TheVariants.{Only}
 use Rattle.file_columns.specs.Columns.{cells_in}
 use Rattle.file_columns.specs.Laws.Columns.{right-named}
-use Rattle.counts.specs.Laws.Steps.{says-named}
+use Rattle.counts.proofs.Laws.Steps.{says-named}
 use borrow.Author.Rules.{rules}
 use Rattle.counts.proofs.outer_inside.Statement.{statement}
 use Rattle.counts.proofs.outer_inside.Tie as tie

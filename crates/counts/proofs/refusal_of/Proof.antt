@@ -8,7 +8,7 @@ use Rattle.fields.specs.Table.{named}
 use Rattle.file_columns.specs.Cells.{type_limit}
 use Rattle.fields.specs.Fields.{find_row}
 use Rattle.counts.specs.Counts.{counted_of}
-use Rattle.counts.specs.Laws.Steps.{count-named, types-few, types-many, chains-fine, counts-types, counts-chains, counts-lengths, counts-groups, counts-values}
+use Rattle.counts.proofs.Laws.Steps.{count-named, types-few, types-many, chains-fine, counts-types, counts-chains, counts-lengths, counts-groups, counts-values}
 use borrow.Author.Rules.{rules}
 use Rattle.counts.proofs.refusal_of.Statement.{statement}
 use Rattle.counts.proofs.refusal_of.Tie as tie

@@ -12,8 +12,8 @@ use Rattle.file_columns.specs.Laws.Columns.{right-named}
 use Rattle.counts.specs.Group.{atoms_of, bonds_of}
 use Rattle.counts.specs.GroupPlaces.{agrees}
 use Rattle.counts.specs.Counts.{counted_of}
-use Rattle.counts.specs.Laws.Tables.{filled-each}
-use Rattle.counts.specs.Laws.Steps.{says-named, here-named, stands-named, groups-refused, groups-fine, totals-are, pairs-cells, agree-cells}
+use Rattle.counts.proofs.Laws.Tables.{filled-each}
+use Rattle.counts.proofs.Laws.Steps.{says-named, here-named, stands-named, groups-refused, groups-fine, totals-are, pairs-cells, agree-cells}
 use borrow.Author.Rules.{rules}
 use Rattle.counts.proofs.types_refusal.Statement.{statement}
 use Rattle.counts.proofs.types_refusal.Tie as tie

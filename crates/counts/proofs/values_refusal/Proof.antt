@@ -2,7 +2,7 @@
 use mathlib.Core.Path.{sym, ◌∙◌}
 use borrow.Author.Tests.{not-true, not-false}
 use Rattle.counts.specs.Counts.{counted_of}
-use Rattle.counts.specs.Laws.Steps.{values-index, values-order, values_listed, values-chains, values-fine}
+use Rattle.counts.proofs.Laws.Steps.{values-index, values-order, values_listed, values-chains, values-fine}
 use borrow.Author.Rules.{rules}
 use Rattle.counts.proofs.values_refusal.Statement.{statement}
 use Rattle.counts.proofs.values_refusal.Tie as tie

@@ -5,7 +5,7 @@ use Rattle.text.specs.Equal.{equal}
 use Rattle.fields.specs.Table.{named}
 use Rattle.fields.specs.Fields.{field, find_row}
 use Rattle.file_columns.specs.Laws.Columns.{right-named}
-use Rattle.counts.specs.Laws.Steps.{says-named, and_first, and-true}
+use Rattle.counts.proofs.Laws.Steps.{says-named, and_first, and-true}
 use borrow.Author.Rules.{rules}
 use Rattle.counts.proofs.values_right.Statement.{statement}
 use Rattle.counts.proofs.values_right.Tie as tie

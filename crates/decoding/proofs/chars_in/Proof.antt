@@ -8,7 +8,7 @@ use Rattle.steps.specs.declared.Form.TheVariants.{Runs}
 use Rattle.columns.specs.declared.Kind.TheVariants as kind
 use Rattle.columns.specs.declared.Header.TheVariants.{Good}
 use Rattle.columns.specs.Decode.{judged_payload}
-use Rattle.columns.specs.Laws.Buffer.{answers-refused}
+use Rattle.columns.proofs.Laws.Buffer.{answers-refused}
 use Rattle.payloads.specs.Laws.Judged.{Holds, judged-refused, read-fine, holds-small, holds-done}
 use Rattle.decoding.specs.Calls.{as_byte}
 use Rattle.decoding.proofs.chars_in.Statement.{statement}

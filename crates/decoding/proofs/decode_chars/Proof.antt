@@ -14,11 +14,11 @@ use Rattle.columns.specs.declared.Header.TheVariants.{Good}
 use Rattle.columns.specs.declared.Wanted.TheVariants.{Only}
 use Rattle.columns.specs.Header.{header_size}
 use Rattle.columns.specs.Decode.{Decoding, decode, judged_payload}
-use Rattle.columns.specs.Laws.Table.{Passes, header-passes}
-use Rattle.columns.specs.Laws.Rows.{same_kind}
-use Rattle.columns.specs.Laws.Decode.{decode-refused, decode-good}
+use Rattle.columns.proofs.Laws.Table.{Passes, header-passes}
+use Rattle.columns.proofs.Laws.Rows.{same_kind}
+use Rattle.columns.proofs.Laws.Decode.{decode-refused, decode-good}
 use Rattle.columns.specs.Buffer.{decoded_answer}
-use Rattle.columns.specs.Laws.Buffer.{answers-refused}
+use Rattle.columns.proofs.Laws.Buffer.{answers-refused}
 use Rattle.decoding.specs.Calls.{as_byte, byte_buffer}
 use Rattle.decoding.specs.Laws.Table.{chars-row}
 use Rattle.decoding.proofs.decode_chars.Statement.{statement}

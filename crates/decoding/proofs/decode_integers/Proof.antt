@@ -6,10 +6,10 @@ use borrow.Author.Rules.{rules}
 use Rattle.numbers.specs.BigEndian.{unsigned_at}
 use Rattle.columns.specs.Header.{header_size}
 use Rattle.columns.specs.Decode.{Decoding, decode}
-use Rattle.columns.specs.Laws.Table.{Passes, header-passes, no_names}
-use Rattle.columns.specs.Laws.Decode.{decode-refused, decode-good}
+use Rattle.columns.proofs.Laws.Table.{Passes, header-passes, no_names}
+use Rattle.columns.proofs.Laws.Decode.{decode-refused, decode-good}
 use Rattle.columns.specs.Buffer.{decoded_answer}
-use Rattle.columns.specs.Laws.Buffer.{answers-refused}
+use Rattle.columns.proofs.Laws.Buffer.{answers-refused}
 use Rattle.payloads.specs.Laws.Scan.{part-whole}
 use Rattle.decoding.specs.Calls.{as_number, number_buffer}
 use Rattle.decoding.specs.Laws.Table.{written_row}

@@ -8,16 +8,16 @@ use Rattle.columns.specs.declared.Kind.TheVariants as kind
 use Rattle.columns.specs.declared.Wanted.TheVariants.{Only}
 use Rattle.columns.specs.Header.{header_size}
 use Rattle.columns.specs.Decode.{Decoding, decode, judged_payload}
-use Rattle.columns.specs.Laws.Table.{Passes, header-passes, strings-row}
-use Rattle.columns.specs.Laws.Rows.{same_kind}
+use Rattle.columns.proofs.Laws.Table.{Passes, header-passes, strings-row}
+use Rattle.columns.proofs.Laws.Rows.{same_kind}
 use Rattle.columns.specs.Table.{is_strings}
 use Rattle.columns.specs.Buffer.{decoded_answer}
-use Rattle.columns.specs.Laws.Buffer.{answers-refused}
+use Rattle.columns.proofs.Laws.Buffer.{answers-refused}
 use Rattle.decoding.specs.Calls.{as_byte, byte_buffer}
 use Rattle.columns.specs.declared.Header.TheVariants.{Good}
 use Rattle.steps.specs.declared.Form.{Form}
 use Rattle.steps.specs.declared.Form.TheVariants.{Names}
-use Rattle.columns.specs.Laws.Decode.{decode-refused, decode-good}
+use Rattle.columns.proofs.Laws.Decode.{decode-refused, decode-good}
 use Rattle.decoding.proofs.decode_strings.Statement.{statement}
 use Rattle.decoding.proofs.decode_strings.Tie as tie
 

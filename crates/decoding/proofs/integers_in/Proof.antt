@@ -4,7 +4,7 @@ use native.Mathlib.Omega.{arith}
 use borrow.Author.Rules.{rules}
 use Rattle.columns.specs.declared.Header.TheVariants.{Good}
 use Rattle.columns.specs.Decode.{judged_payload}
-use Rattle.columns.specs.Laws.Buffer.{answers-refused}
+use Rattle.columns.proofs.Laws.Buffer.{answers-refused}
 use Rattle.payloads.specs.Laws.Judged.{Holds, judged-refused, read-fine, holds-small, holds-done}
 use Rattle.decoding.specs.Calls.{as_number}
 use Rattle.decoding.specs.Laws.Table.{written-other}

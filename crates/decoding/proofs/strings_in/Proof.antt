@@ -8,13 +8,13 @@ use Rattle.numbers.specs.Laws.BigEndian.{bytes-of}
 use Rattle.steps.specs.declared.Size.TheVariants.{One}
 use Rattle.steps.specs.declared.Form.TheVariants.{Names}
 use Rattle.steps.specs.Numbers.{numbers_in}
-use Rattle.steps.specs.Laws.Names.{names-length}
-use Rattle.steps.specs.Laws.Delta.{results-plain}
-use Rattle.steps.specs.Laws.PayloadBack.{held_in-read}
+use Rattle.steps.proofs.Laws.Names.{names-length}
+use Rattle.steps.proofs.Laws.Delta.{results-plain}
+use Rattle.steps.proofs.Laws.PayloadBack.{held_in-read}
 use Rattle.refusal.specs.declared.Answer.TheVariants.{Count}
 use Rattle.columns.specs.declared.Header.TheVariants.{Good}
 use Rattle.columns.specs.Decode.{column, judged_payload}
-use Rattle.columns.specs.Laws.Buffer.{answers-refused, answers-small, answers-done}
+use Rattle.columns.proofs.Laws.Buffer.{answers-refused, answers-small, answers-done}
 use Rattle.decoding.specs.Calls.{as_byte}
 use Rattle.payloads.specs.Laws.Judged.{judged-refused, judged-fine}
 use Rattle.decoding.specs.Laws.Names.{names-read, names-bytes}

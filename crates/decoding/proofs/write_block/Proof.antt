@@ -12,7 +12,7 @@ use Rattle.steps.specs.declared.Size.{Size}
 use Rattle.steps.specs.Width.{size_of, upper, lower}
 use Rattle.steps.specs.Delta.{plus_delta}
 use Rattle.steps.specs.Packing.{is_limit}
-use Rattle.steps.specs.Laws.Numbers.{size-pos}
+use Rattle.steps.proofs.Laws.Numbers.{size-pos}
 use Rattle.payloads.specs.Limits.{packed_size}
 use Rattle.payloads.specs.Blocks.{count_in, block_number}
 use Rattle.payloads.specs.Laws.Blocks.{StoredTo, number-inside, index-inside, number-filled, none-limit, quick-limit, stored-start, stored-length, stored_next}

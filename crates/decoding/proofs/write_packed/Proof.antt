@@ -13,7 +13,7 @@ use Rattle.steps.specs.declared.Size.{Size}
 use Rattle.steps.specs.declared.Size.TheVariants.{One, Two, Four}
 use Rattle.steps.specs.declared.Form.TheVariants.{Packed}
 use Rattle.steps.specs.Width.{size_of}
-use Rattle.steps.specs.Laws.Numbers.{size-pos}
+use Rattle.steps.proofs.Laws.Numbers.{size-pos}
 use Rattle.payloads.specs.Limits.{packed_size}
 use Rattle.payloads.specs.Results.{HasRoom}
 use Rattle.payloads.specs.Laws.Totals.{WrittenTotal, total-written-start, total-written-within}

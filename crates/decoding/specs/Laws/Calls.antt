@@ -10,8 +10,8 @@ use Rattle.columns.specs.declared.Parameter.TheVariants.{Divisor}
 use Rattle.columns.specs.Table.{used}
 use Rattle.columns.specs.Decode.{Decoding, refused, column, decode}
 use Rattle.columns.specs.Buffer.{decoded_answer}
-use Rattle.columns.specs.Laws.Decode.{decode-rules, decode-kind}
-use Rattle.columns.specs.Laws.CanHold.{parameter_of, kind-parameter}
+use Rattle.columns.proofs.Laws.Decode.{decode-rules, decode-kind}
+use Rattle.columns.proofs.Laws.CanHold.{parameter_of, kind-parameter}
 use Rattle.decoding.specs.Calls.{with_divisor, fixed_answer}
 
 -- the divisor of a fixed point column stands in its header

@@ -8,7 +8,7 @@ use Rattle.steps.specs.declared.Range.TheVariants.{Ascii}
 use Rattle.steps.specs.declared.Form.TheVariants.{Names}
 use Rattle.steps.specs.Numbers.{numbers_in}
 use Rattle.steps.specs.Payload.{all_in, read_in}
-use Rattle.steps.specs.Laws.Names.{names-length}
+use Rattle.steps.proofs.Laws.Names.{names-length}
 use Rattle.decoding.specs.Calls.{as_byte}
 use Rattle.decoding.specs.Laws.Signs.{bytes-numbers}
 

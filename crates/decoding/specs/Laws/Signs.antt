@@ -6,7 +6,7 @@ use Rattle.std.proofs.Math.Facts.{to_z_pos}
 use Rattle.numbers.specs.BigEndian.{Bytes}
 use Rattle.steps.specs.declared.Size.TheVariants.{One}
 use Rattle.steps.specs.Numbers.{numbers_in}
-use Rattle.steps.specs.Laws.Names.{numbers-bytes, high_byte}
+use Rattle.steps.proofs.Laws.Names.{numbers-bytes, high_byte}
 use Rattle.decoding.specs.Calls.{as_byte}
 
 -- a byte is the lowest byte of its number

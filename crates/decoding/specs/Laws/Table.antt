@@ -12,7 +12,7 @@ use Rattle.columns.specs.declared.Parameter.{Parameter}
 use Rattle.columns.specs.declared.Codec.{Codec}
 use Rattle.columns.specs.declared.Codec.TheVariants.{Known, Unknown}
 use Rattle.columns.specs.Table.{codec_of, is_kind, is_names}
-use Rattle.columns.specs.Laws.Rows.{every-codec}
+use Rattle.columns.proofs.Laws.Rows.{every-codec}
 use Rattle.decoding.specs.Steps.{is_written}
 
 abbrev codec_ok : Codec → Bool

@@ -20,8 +20,8 @@ use Rattle.columns.specs.Header.{header_bytes, header_size}
 use Rattle.columns.specs.declared.Plan.{Plan}
 use Rattle.columns.specs.declared.Plan.TheVariants as plan
 use Rattle.columns.specs.Encode.{payload_of, Encoding, refused, bytes, plan_of, encoded_by, encode}
-use Rattle.columns.specs.Laws.Header.{length-header}
-use Rattle.columns.specs.Laws.Encode.{encode-plan}
+use Rattle.columns.proofs.Laws.Header.{length-header}
+use Rattle.columns.proofs.Laws.Encode.{encode-plan}
 use Rattle.writers.specs.declared.Placed.{Placed}
 use Rattle.writers.specs.Placed.{over, placed, laid}
 use Rattle.writers.specs.Laws.Placed.{over-length, over-then, over-written}

@@ -18,14 +18,14 @@ use Rattle.columns.specs.Encode.{Encoding, bytes, encode}
 use Rattle.columns.specs.CanHold.{is_one_of, least_by, most_by, CanHold}
 use Rattle.columns.specs.WriterForm.{WriterForm}
 use Rattle.columns.specs.Buffer.{decoded_answer, decoded_buffer}
-use Rattle.columns.specs.Laws.Buffer.{answers-done}
-use Rattle.columns.specs.Laws.Decode.{decode-rules, decode-kind, decode-wanted}
-use Rattle.columns.specs.Laws.Rows.{same_kind}
-use Rattle.columns.specs.Laws.Form.{used-twice}
-use Rattle.columns.specs.Laws.Encode.{Encoded, encode-rules}
-use Rattle.columns.specs.Laws.CanHold.{parameter_of, kind-parameter, codec-kind, encode-exactly, decode-held}
-use Rattle.columns.specs.Laws.RoundTrip.{codec-at, field_at, decode-encode, encode-decode}
-use Rattle.columns.specs.Laws.Shortest.{encode-holds, encode-fewest}
+use Rattle.columns.proofs.Laws.Buffer.{answers-done}
+use Rattle.columns.proofs.Laws.Decode.{decode-rules, decode-kind, decode-wanted}
+use Rattle.columns.proofs.Laws.Rows.{same_kind}
+use Rattle.columns.proofs.Laws.Form.{used-twice}
+use Rattle.columns.proofs.Laws.Encode.{Encoded, encode-rules}
+use Rattle.columns.proofs.Laws.CanHold.{parameter_of, kind-parameter, codec-kind, encode-exactly, decode-held}
+use Rattle.columns.proofs.Laws.RoundTrip.{codec-at, field_at, decode-encode, encode-decode}
+use Rattle.columns.proofs.Laws.Shortest.{encode-holds, encode-fewest}
 use Rattle.decoding.specs.declared.Fixed.TheVariants as fixed
 use Rattle.decoding.specs.Calls as decoding
 use Rattle.floats.specs.Calls as floats

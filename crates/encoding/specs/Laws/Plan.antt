@@ -19,9 +19,9 @@ use Rattle.columns.specs.declared.Codec.TheVariants.{Known, Unknown}
 use Rattle.columns.specs.Table.{table, codec_of, suits, length_limit, parameter_ok, used}
 use Rattle.columns.specs.declared.Plan.TheVariants.{Good, Refused}
 use Rattle.columns.specs.Encode.{results, whole_results, payload_of, plan_by, plan_of}
-use Rattle.columns.specs.Laws.Encode.{plan-rules}
-use Rattle.columns.specs.Laws.Rows.{same_kind}
-use Rattle.columns.specs.Laws.CanHold.{Rows, row_at}
+use Rattle.columns.proofs.Laws.Encode.{plan-rules}
+use Rattle.columns.proofs.Laws.Rows.{same_kind}
+use Rattle.columns.proofs.Laws.CanHold.{Rows, row_at}
 use Rattle.encoding.specs.Steps.{NumberKind, NumberForm}
 
 -- The refusals

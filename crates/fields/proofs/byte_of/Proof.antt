@@ -6,7 +6,7 @@ use lib.Dec.{lit<}
 use lib.ListN.{length, take, drop, get_or-eq_default}
 use lib.Seq.{get_or-take, get_or-drop}
 use borrow.Author.Rules.{rules}
-use Rattle.heads.specs.Laws.Span.{part_length_lem}
+use Rattle.heads.proofs.Laws.Span.{part_length_lem}
 use Rattle.fields.proofs.byte_of.Statement.{statement}
 use Rattle.fields.proofs.byte_of.Tie as tie
 

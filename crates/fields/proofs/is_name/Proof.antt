@@ -6,7 +6,7 @@ use native.Mathlib.Omega.{arith}
 use lib.ListN.{length, take, drop}
 use borrow.Author.Rules.{rules}
 use Rattle.text.specs.Equal.{equal}
-use Rattle.heads.specs.Laws.Span.{part_length_lem}
+use Rattle.heads.proofs.Laws.Span.{part_length_lem}
 use Rattle.fields.specs.Numbers.{type_table, row_at, table_byte}
 use Rattle.fields.specs.Laws.Numbers.{table-length, name-long, name-sized, name-part}
 use Rattle.fields.proofs.is_name.Tie as tie

@@ -11,8 +11,8 @@ use Rattle.numbers.specs.Laws.Tests.{clash, and_left, and_right}
 use Rattle.text.specs.Equal.{equal}
 use Rattle.text.specs.Laws.Equal.{equal-true, false-equal, equal-lengths}
 use Rattle.std.proofs.lemmas.Bool.{eqb-false}
-use Rattle.heads.specs.Laws.Table.{rows_at, values_length}
-use Rattle.heads.specs.Laws.Span.{part_length_lem}
+use Rattle.heads.proofs.Laws.Table.{rows_at, values_length}
+use Rattle.heads.proofs.Laws.Span.{part_length_lem}
 use Rattle.messagepack.specs.Document.{Document}
 use Rattle.fields.specs.Types.{FieldType, Rows, plain, array_of, map_with, last, row}
 use Rattle.fields.specs.Table.{group_rows, transform_rows, assembly_rows, entity_rows, named, field_count}

@@ -10,8 +10,8 @@ use Rattle.std.proofs.Math.Dec.{eqb}
 use Rattle.std.proofs.Math.ListN.{length}
 use Rattle.heads.specs.Head.{kind_at, head_at}
 use Rattle.heads.specs.Table.{lead_table}
-use Rattle.heads.specs.Laws.Head.{Told, alone-head, float-kind, float-head}
-use Rattle.heads.specs.Laws.Table.{low-lead, array-lead, string-lead}
+use Rattle.heads.proofs.Laws.Head.{Told, alone-head, float-kind, float-head}
+use Rattle.heads.proofs.Laws.Table.{low-lead, array-lead, string-lead}
 use Rattle.heads.specs.declared.Head.{Head}
 use Rattle.heads.specs.declared.Kind.{Kind}
 use Rattle.messagepack.specs.Document.{Document, Documents, Entries, integer, float, string, binary, array, map, none, item, empty, entry, count, size, WritesAll, WritesEntries}

@@ -6,7 +6,7 @@ use Rattle.numbers.specs.BigEndian.{Bytes, number_of, bytes_of, unsigned_at}
 use Rattle.numbers.specs.Laws.BigEndian.{bytes_of-number_of, part_bytes, unsigned_at-in}
 use Rattle.text.specs.Equal.{equal}
 use Rattle.text.specs.Laws.Equal.{equal-refl, equal-false}
-use Rattle.heads.specs.Laws.Span.{part_length_lem}
+use Rattle.heads.proofs.Laws.Span.{part_length_lem}
 
 -- bytes that hold the same number, in as many bytes, are the same
 number_same : (x y : List ℕ) → Bytes x → Bytes y → length x ≡ length y → number_of x ≡ number_of y → x ≡ y

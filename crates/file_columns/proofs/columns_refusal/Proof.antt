@@ -1,6 +1,6 @@
 -- The columns before are fine; the one at hand is judged.
 use Rattle.std.proofs.Common.{◌≡◌, ◌-◌, drop, sym, refl, ◌∙◌, arith, rules}
-use Rattle.refusal.specs.Laws.First.{or_else-next, or_else-first}
+use Rattle.refusal.proofs.Laws.First.{or_else-next, or_else-first}
 use Rattle.file_columns.specs.Columns.{columns, columns_number, first_number}
 use Rattle.file_columns.specs.Steps.{WalkedFields, column_count}
 use Rattle.file_columns.specs.Laws.Steps.{value_at, number-next, number-end}

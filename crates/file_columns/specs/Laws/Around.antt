@@ -9,7 +9,7 @@ use Rattle.std.proofs.Math.Facts.{of_z-to_z, Fits-of_z}
 use borrow.Author.Tests.{le-leb, lt-leb, leb-true, leb-false}
 use Rattle.numbers.specs.Ranges.{all_pass, between}
 use Rattle.steps.specs.Delta.{plus_delta, results_from}
-use Rattle.steps.specs.Laws.Delta.{wrapped, plus-fits}
+use Rattle.steps.proofs.Laws.Delta.{wrapped, plus-fits}
 use Rattle.file_columns.specs.Passing.{ahead_of}
 
 -- the place of an integer among those of 32 bits, 0 for the smallest

@@ -6,7 +6,7 @@ use Rattle.std.proofs.Common.{ap, subst, arith, lit≤}
 use Rattle.std.proofs.Math.Option.{Option, some, none as nothing}
 use Prim.Native.String as Text
 use Rattle.refusal.specs.Table.{column_short, length_differs}
-use Rattle.refusal.specs.Laws.First.{or_else-left, or_else-right, or_else-zero, or_else-most}
+use Rattle.refusal.proofs.Laws.First.{or_else-left, or_else-right, or_else-zero, or_else-most}
 use Rattle.numbers.specs.BigEndian.{unsigned_at}
 use Rattle.numbers.specs.Laws.Tests.{either}
 use Rattle.text.specs.Ascii.{ascii}

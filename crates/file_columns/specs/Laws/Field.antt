@@ -7,7 +7,7 @@ use borrow.Author.Tests.{le-leb, eqb-true, not-false}
 use Rattle.refusal.specs.Table.{header_range}
 use Rattle.numbers.specs.BigEndian.{unsigned_at}
 use Rattle.steps.specs.declared.Form.{Form}
-use Rattle.steps.specs.Laws.Delta.{length-sums_if}
+use Rattle.steps.proofs.Laws.Delta.{length-sums_if}
 use Rattle.columns.specs.declared.Kind.{Kind}
 use Rattle.columns.specs.declared.Wanted.{Wanted}
 use Rattle.columns.specs.declared.Wanted.TheVariants.{Only}
@@ -17,9 +17,9 @@ use Rattle.columns.specs.declared.Header.TheVariants as header
 use Rattle.columns.specs.Table.{is_strings, suits, is_name_size, used, elements}
 use Rattle.columns.specs.Header.{header_size, header_of}
 use Rattle.columns.specs.Decode.{Decoding, refused, column, judged_payload, decode}
-use Rattle.columns.specs.Laws.Table.{Passes, header-passes, other_row, strings-row}
-use Rattle.columns.specs.Laws.Rows.{same_kind}
-use Rattle.columns.specs.Laws.Decode.{Decoded, decode-rules, decode-refused, decode-good}
+use Rattle.columns.proofs.Laws.Table.{Passes, header-passes, other_row, strings-row}
+use Rattle.columns.proofs.Laws.Rows.{same_kind}
+use Rattle.columns.proofs.Laws.Decode.{Decoded, decode-rules, decode-refused, decode-good}
 use Rattle.payloads.specs.Laws.Scan.{elements-one}
 use Rattle.file_columns.specs.declared.whole.Checked.TheVariants.{Good, Refused}
 use Rattle.file_columns.specs.Field.{field_name_size, other_names, field_column, length_of, checked_of}

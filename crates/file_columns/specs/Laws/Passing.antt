@@ -18,11 +18,11 @@ use Rattle.steps.specs.declared.Form.TheVariants.{Plain, Names}
 use Rattle.steps.specs.Width.{width_of, size_of}
 use Rattle.steps.specs.Numbers.{numbers_in}
 use Rattle.steps.specs.Delta.{plus_delta, sums_if, results_from, last_from}
-use Rattle.steps.specs.Laws.Numbers.{numbers-step, numbers-end, length-numbers}
+use Rattle.steps.proofs.Laws.Numbers.{numbers-step, numbers-end, length-numbers}
 use Rattle.steps.specs.Payload.{read_in, held_in}
-use Rattle.steps.specs.Laws.Names.{names-length}
-use Rattle.steps.specs.Laws.PayloadBack.{held_in-read}
-use Rattle.steps.specs.Laws.Delta.{results-plain, results-append, length-results, results-first}
+use Rattle.steps.proofs.Laws.Names.{names-length}
+use Rattle.steps.proofs.Laws.PayloadBack.{held_in-read}
+use Rattle.steps.proofs.Laws.Delta.{results-plain, results-append, length-results, results-first}
 use Rattle.columns.specs.declared.Kind.{Kind}
 use Rattle.columns.specs.Table.{elements, is_names}
 use Rattle.columns.specs.Decode.{Decoding, refused, column, judged_values}

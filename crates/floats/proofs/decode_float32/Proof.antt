@@ -18,11 +18,11 @@ use Rattle.columns.specs.Table.{suits}
 use Rattle.columns.specs.declared.Header.TheVariants.{Good}
 use Rattle.columns.specs.Header.{header_size}
 use Rattle.columns.specs.Decode.{Decoding, judged_payload}
-use Rattle.columns.specs.Laws.Buffer.{Answers, answers-refused}
+use Rattle.columns.proofs.Laws.Buffer.{Answers, answers-refused}
 use Rattle.floats.specs.Calls.{exactly, float_bits}
 use Rattle.columns.specs.declared.Wanted.TheVariants.{Real}
-use Rattle.columns.specs.Laws.Table.{Passes, header-passes}
-use Rattle.columns.specs.Laws.Decode.{decode-refused, decode-good}
+use Rattle.columns.proofs.Laws.Table.{Passes, header-passes}
+use Rattle.columns.proofs.Laws.Decode.{decode-refused, decode-good}
 use Rattle.floats.specs.Laws.Table.{fixed-row, float-row}
 use Rattle.floats.proofs.decode_float32.Statement.{statement}
 use Rattle.floats.proofs.decode_float32.Tie as tie

@@ -10,7 +10,7 @@ use Rattle.steps.specs.Delta.{sums_if}
 use Rattle.columns.specs.declared.Kind.TheVariants as kind
 use Rattle.columns.specs.declared.Header.TheVariants.{Good}
 use Rattle.columns.specs.Decode.{column, judged_payload}
-use Rattle.columns.specs.Laws.Buffer.{answers-refused}
+use Rattle.columns.proofs.Laws.Buffer.{answers-refused}
 use Rattle.payloads.specs.Laws.Judged.{Holds, scan-refused, scan-fine, holds-small, holds-done}
 use Rattle.payloads.specs.Exact.{exact, all_exact}
 use Rattle.floats.specs.Laws.Table.{exact-names, divided-judged}

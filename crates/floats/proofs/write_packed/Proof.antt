@@ -20,7 +20,7 @@ use Rattle.steps.specs.declared.Form.TheVariants.{Packed}
 use Rattle.steps.specs.Width.{width_of, size_of, upper, lower}
 use Rattle.steps.specs.Delta.{plus_delta}
 use Rattle.steps.specs.Packing.{is_limit}
-use Rattle.steps.specs.Laws.Numbers.{size-pos}
+use Rattle.steps.proofs.Laws.Numbers.{size-pos}
 use Rattle.payloads.specs.Results.{HasRoom, Wrote, ResultsExact}
 use Rattle.payloads.specs.Laws.Packed.{part-first}
 use Rattle.payloads.specs.Laws.Totals.{WrittenTotal, total-written-start, total-written-length, total-written-more, total-written-room, total-written-exact, total-written-done, total-written-end}

@@ -15,7 +15,7 @@ use Rattle.columns.specs.declared.Parameter.TheVariants.{Unused, Divisor, NameSi
 use Rattle.columns.specs.declared.Codec.{Codec}
 use Rattle.columns.specs.declared.Codec.TheVariants.{Known, Unknown}
 use Rattle.columns.specs.Table.{codec_of, parameter_ok, is_names}
-use Rattle.columns.specs.Laws.Rows.{every-codec}
+use Rattle.columns.proofs.Laws.Rows.{every-codec}
 use Rattle.payloads.specs.Scan.{judges_exact}
 use Rattle.floats.specs.Steps.{is_divided}
 

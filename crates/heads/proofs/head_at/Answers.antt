@@ -6,7 +6,7 @@ use Prim.Native.Nat.{ℕ, ◌+◌, ◌%◌}
 use lib.ListN.{get_or}
 use Rattle.numbers.specs.Laws.BigEndian.{bytes-of}
 use Rattle.heads.specs.Table.{head_by}
-use Rattle.heads.specs.Laws.Table.{head-rule}
+use Rattle.heads.proofs.Laws.Table.{head-rule}
 use Rattle.heads.specs.declared.Head.{Head}
 use Rattle.heads.proofs.head_at.Goals as goal
 

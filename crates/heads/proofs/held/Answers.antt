@@ -1,7 +1,7 @@
 -- The ranges of the tests are those of `held-ranges`.
 use native.Mathlib.Omega.{arith}
 use borrow.Author.Tests.{lt-ltb, le-ltb}
-use Rattle.heads.specs.Laws.Table.{held-ranges}
+use Rattle.heads.proofs.Laws.Table.{held-ranges}
 use Rattle.heads.proofs.held.Goals as goal
 
 pub returns-then-b-lt128 : goal.returns-then-b-lt128

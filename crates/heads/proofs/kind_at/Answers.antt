@@ -4,7 +4,7 @@ use native.Mathlib.Omega.{arith}
 use borrow.Author.Tests.{lt-ltb, le-ltb}
 use Rattle.numbers.specs.Laws.BigEndian.{bytes-of}
 use Rattle.heads.specs.Table.{kind_by}
-use Rattle.heads.specs.Laws.Table.{kind-rule}
+use Rattle.heads.proofs.Laws.Table.{kind-rule}
 use Rattle.heads.specs.declared.Kind.{Kind}
 use Rattle.heads.proofs.kind_at.Goals as goal
 

@@ -9,8 +9,8 @@ use Rattle.refusal.specs.declared.Refusal.{Refusal}
 use Rattle.refusal.specs.declared.Answer.{Answer}
 use Rattle.refusal.specs.declared.Answer.TheVariants.{Count, Refused}
 use Rattle.refusal.specs.Table.{refusal_number, buffer_too_small, no_such_entry}
-use Rattle.refusal.specs.Laws.Table.{first_with, refusal_of, refusal_of-refusal_number}
-use Rattle.refusal.specs.Laws.Table as table
+use Rattle.refusal.proofs.Laws.Table.{first_with, refusal_of, refusal_of-refusal_number}
+use Rattle.refusal.proofs.Laws.Table as table
 use Rattle.numbers.specs.Laws.Tests.{and_left, and_right}
 use Rattle.text.specs.Put.{Put}
 use Rattle.text.specs.Laws.Put.{put_all, put-page}

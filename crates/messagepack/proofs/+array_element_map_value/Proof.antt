@@ -9,9 +9,9 @@ use Rattle.heads.specs.declared.Head.{Head}
 use Rattle.messagepack.specs.Walk.{value_at, many_at}
 use Rattle.messagepack.specs.Keys.{Free, Kept, KeysWalked, ValueWalked, EntriesNoted, ValueNoted}
 use Rattle.messagepack.specs.declared.Walk.{Walk}
-use Rattle.messagepack.specs.Laws.Walk as w
-use Rattle.messagepack.specs.Laws.Quick.{leaf-ends, leaf-refuses, quick-ends}
-use Rattle.messagepack.specs.Laws.Tables.{kept-all, kept_then, walked_as, walked-in, walked_more, noted-as, free-less, free-kept, Going, entries-unnoted, value-unnoted, going-first, going-noted, going-last, going-rows, going-key, going-free, going-value, going_next}
+use Rattle.messagepack.proofs.Laws.Walk as w
+use Rattle.messagepack.proofs.Laws.Quick.{leaf-ends, leaf-refuses, quick-ends}
+use Rattle.messagepack.proofs.Laws.Tables.{kept-all, kept_then, walked_as, walked-in, walked_more, noted-as, free-less, free-kept, Going, entries-unnoted, value-unnoted, going-first, going-noted, going-last, going-rows, going-key, going-free, going-value, going_next}
 use Rattle.messagepack.proofs.array.Reads as array
 use Rattle.messagepack.proofs.array.Kinds as array-kinds
 use Rattle.messagepack.proofs.+array_element_map_value.Lts-array as array-lts

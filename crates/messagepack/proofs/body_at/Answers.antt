@@ -1,6 +1,6 @@
 -- The two tests are that the bytes are inside.
 use Rattle.std.proofs.Common.{sym, arith}
-use Rattle.messagepack.specs.Laws.Walk.{body-in, body-out}
+use Rattle.messagepack.proofs.Laws.Walk.{body-in, body-out}
 use Rattle.messagepack.proofs.body_at.Goals as goal
 
 pub returns-then-file-p : goal.returns-then-file-p

@@ -9,8 +9,8 @@ use Rattle.messagepack.specs.Limits.{entry_limit}
 use Rattle.messagepack.specs.Rules.{Container}
 use Rattle.messagepack.specs.Walk.{container_number}
 use Rattle.messagepack.specs.Outer.{keys_answer}
-use Rattle.messagepack.specs.Laws.Container.{container-exactly}
-use Rattle.messagepack.specs.Laws.Outer.{keys-few, keys-number}
+use Rattle.messagepack.proofs.Laws.Container.{container-exactly}
+use Rattle.messagepack.proofs.Laws.Outer.{keys-few, keys-number}
 use Rattle.messagepack.proofs.container.Goals as goal
 
 -- the number of an answer

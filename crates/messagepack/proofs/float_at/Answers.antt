@@ -1,7 +1,7 @@
 -- The float ends five bytes on, if they are there.
 use Rattle.std.proofs.Common.{arith}
 use Rattle.messagepack.specs.Quick.{other}
-use Rattle.messagepack.specs.Laws.Quick.{float-ends}
+use Rattle.messagepack.proofs.Laws.Quick.{float-ends}
 use Rattle.messagepack.proofs.float_at.Goals as goal
 
 pub returns-then-file-at-lt5 : goal.returns-then-file-at-lt5

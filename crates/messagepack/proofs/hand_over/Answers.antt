@@ -3,7 +3,7 @@ use Rattle.std.proofs.Common.{◌≡◌, ℕ, ◌+◌, ◌-◌, ◌*◌, ◌≤�
 use Rattle.messagepack.specs.Limits.{entry_limit}
 use Rattle.messagepack.specs.Outer.{outer_levels}
 use Rattle.messagepack.specs.Keys.{table_length}
-use Rattle.messagepack.specs.Laws.Tables.{row_copied, rows-refused, rows-copied}
+use Rattle.messagepack.proofs.Laws.Tables.{row_copied, rows-refused, rows-copied}
 use Rattle.messagepack.proofs.hand_over.Goals as goal
 
 -- the outer map has as many rows as a map has entries at most

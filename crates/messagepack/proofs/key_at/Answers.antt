@@ -1,7 +1,7 @@
 -- A short string is the key; else each kind is a case of the definition.
 use Rattle.std.proofs.Common.{sym, ◌∙◌}
-use Rattle.messagepack.specs.Laws.Walk.{key-by}
-use Rattle.messagepack.specs.Laws.Quick.{short-key}
+use Rattle.messagepack.proofs.Laws.Walk.{key-by}
+use Rattle.messagepack.proofs.Laws.Quick.{short-key}
 use Rattle.messagepack.proofs.key_at.Goals as goal
 
 pub returns-in-At : goal.returns-in-At

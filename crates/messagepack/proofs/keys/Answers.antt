@@ -1,7 +1,7 @@
 -- Each kind of the outer value is a case of the definition; only a map's keys are looked for.
 use Rattle.std.proofs.Common.{sym, ◌∙◌, lit<}
-use Rattle.messagepack.specs.Laws.Walk.{file-over, file-by}
-use Rattle.messagepack.specs.Laws.Outer.{keys-refused}
+use Rattle.messagepack.proofs.Laws.Walk.{file-over, file-by}
+use Rattle.messagepack.proofs.Laws.Outer.{keys-refused}
 use Rattle.messagepack.proofs.keys.Goals as goal
 
 pub returns-then-file-gt-FILE_LIMIT : goal.returns-then-file-gt-FILE_LIMIT

@@ -1,7 +1,7 @@
 -- Each kind is a case of the definition.
 use Rattle.std.proofs.Common.{sym, ap, ◌∙◌}
 use Rattle.messagepack.specs.Quick.{leaf_of}
-use Rattle.messagepack.specs.Laws.Quick.{leaf-by}
+use Rattle.messagepack.proofs.Laws.Quick.{leaf-by}
 use Rattle.messagepack.proofs.leaf_at.Goals as goal
 
 pub returns-in-Missing : goal.returns-in-Missing

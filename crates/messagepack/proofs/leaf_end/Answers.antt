@@ -1,6 +1,6 @@
 -- The quick look's end is the value's, and so is the leaf's.
 use Rattle.std.proofs.Common.{sym, ◌∙◌}
-use Rattle.messagepack.specs.Laws.Quick.{leaf-quick}
+use Rattle.messagepack.proofs.Laws.Quick.{leaf-quick}
 use Rattle.messagepack.proofs.leaf_end.Goals as goal
 
 pub returns-in-End-leaf_at : goal.returns-in-End-leaf_at

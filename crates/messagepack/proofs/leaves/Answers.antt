@@ -1,5 +1,5 @@
 -- What is left from here on decides, at every depth.
-use Rattle.messagepack.specs.Laws.Quick.{run-next}
+use Rattle.messagepack.proofs.Laws.Quick.{run-next}
 use Rattle.messagepack.proofs.leaves.Goals as goal
 
 pub loop-left-preserved : goal.loop-left-preserved

@@ -1,6 +1,6 @@
 -- The word is made of the four bytes, and each test is of one of them.
 use Rattle.std.proofs.Common.{arith, ltb-true}
-use Rattle.messagepack.specs.Laws.Quick.{word_low}
+use Rattle.messagepack.proofs.Laws.Quick.{word_low}
 use Rattle.messagepack.proofs.low_word.Goals as goal
 
 pub returns : goal.returns

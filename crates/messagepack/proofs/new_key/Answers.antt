@@ -1,9 +1,9 @@
 -- Each case of the key is a case of `Noted`; a key's place fits the table, since it ends inside the file.
 use Rattle.std.proofs.Common.{sym, ◌∙◌, arith}
 use Rattle.messagepack.specs.Keys.{refused, repeated, noted}
-use Rattle.heads.specs.Laws.Head.{head-inside}
-use Rattle.messagepack.specs.Laws.Walk.{text-is, key-is}
-use Rattle.messagepack.specs.Laws.Tables.{sought}
+use Rattle.heads.proofs.Laws.Head.{head-inside}
+use Rattle.messagepack.proofs.Laws.Walk.{text-is, key-is}
+use Rattle.messagepack.proofs.Laws.Tables.{sought}
 use Rattle.messagepack.proofs.new_key.Goals as goal
 
 pub print_of-print-requires : goal.print_of-print-requires

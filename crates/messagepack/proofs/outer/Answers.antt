@@ -1,7 +1,7 @@
 -- Each case of the walk is a case of `ended`; the tables are as long as a walk asks, and the rows of a map that ends have the places of its keys.
 use Rattle.std.proofs.Common.{ℕ, List, length, sym, ap, ◌∙◌, lit<}
 use Rattle.refusal.specs.Answer.{leaves}
-use Rattle.messagepack.specs.Laws.Outer.{map-cut, map-refused, map-ended, map-after, keys-refused, keys-told, keys-left}
+use Rattle.messagepack.proofs.Laws.Outer.{map-cut, map-refused, map-ended, map-after, keys-refused, keys-told, keys-left}
 use Rattle.messagepack.proofs.outer.Goals as goal
 
 pub returns-in_default : goal.returns-in_default

@@ -1,6 +1,6 @@
 -- A print is the size with the first and the last bytes added, modulo 2^32.
 use Rattle.std.proofs.Common.{ℕ, ◌+◌, ◌*◌, ◌%◌, sym, ap, ◌∙◌, ap₂}
-use Rattle.messagepack.specs.Laws.Tables.{print-four, print-two, print-short}
+use Rattle.messagepack.proofs.Laws.Tables.{print-four, print-two, print-short}
 use Rattle.messagepack.proofs.print_of.Goals as goal
 
 pub returns-then-m-lt2 : goal.returns-then-m-lt2

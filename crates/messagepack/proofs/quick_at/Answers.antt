@@ -1,7 +1,7 @@
 -- A lead byte below 80 is an integer, and ca is a float's; a short string ends where it ends.
 use Rattle.std.proofs.Common.{arith}
 use Rattle.messagepack.specs.Quick.{other}
-use Rattle.messagepack.specs.Laws.Quick.{low-ends, short-ends, short-inside}
+use Rattle.messagepack.proofs.Laws.Quick.{low-ends, short-ends, short-inside}
 use Rattle.messagepack.proofs.quick_at.Goals as goal
 
 pub returns-then-file-at : goal.returns-then-file-at

@@ -1,7 +1,7 @@
 -- Both heads are there, and what is compared are the keys' bytes.
 use Rattle.std.proofs.Common.{◌≡◌, ◌+◌, ◌-◌, sym, ◌∙◌, ap₂, arith}
 use Rattle.text.specs.Equal.{equal}
-use Rattle.messagepack.specs.Laws.Tables.{there-read, there-head}
+use Rattle.messagepack.proofs.Laws.Tables.{there-read, there-head}
 use Rattle.messagepack.proofs.same_key.Goals as goal
 
 pub returns-in_default : goal.returns-in_default

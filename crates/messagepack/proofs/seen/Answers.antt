@@ -2,7 +2,7 @@
 -- with this print is compared.
 use Rattle.std.proofs.Common.{◌-◌, true, false, sym, ◌∙◌, subst, arith}
 use Rattle.messagepack.specs.Keys.{key_here, KeyThere, RowHolds}
-use Rattle.messagepack.specs.Laws.Tables.{row-holds, row-differs, row_same, none_seen, seen_none, seen_next}
+use Rattle.messagepack.proofs.Laws.Tables.{row-holds, row-differs, row_same, none_seen, seen_none, seen_next}
 use Rattle.messagepack.proofs.seen.Goals as goal
 
 pub returns-then-hits-eq0 : goal.returns-then-hits-eq0

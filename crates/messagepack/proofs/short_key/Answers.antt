@@ -1,7 +1,7 @@
 -- The tests are those of a key whose length is in its lead byte and whose bytes are below 80.
 use Rattle.std.proofs.Common.{◌≡◌, ◌+◌, ◌-◌, arith}
 use Rattle.messagepack.specs.Quick.{another}
-use Rattle.messagepack.specs.Laws.Quick.{short-found, empty-found}
+use Rattle.messagepack.proofs.Laws.Quick.{short-found, empty-found}
 use Rattle.messagepack.proofs.short_key.Goals as goal
 
 pub returns-then-file-at : goal.returns-then-file-at

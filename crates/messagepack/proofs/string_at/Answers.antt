@@ -1,6 +1,6 @@
 -- Each case of the string is a case of the definition; a string ends inside the file.
 use Rattle.std.proofs.Common.{sym, ◌∙◌, arith}
-use Rattle.messagepack.specs.Laws.Walk.{text-is}
+use Rattle.messagepack.proofs.Laws.Walk.{text-is}
 use Rattle.messagepack.proofs.string_at.Goals as goal
 
 pub overflow_add-result : goal.overflow_add-result

@@ -1,7 +1,7 @@
 -- Each case of head and body is a case of the definition; the part that is tested is the body.
 use Rattle.std.proofs.Common.{◌≡◌, ℕ, ◌-◌, true, false, take, drop, sym, ap, ◌∙◌, arith}
 use Rattle.utf8.specs.Check.{is_utf8}
-use Rattle.messagepack.specs.Laws.Walk.{body_end, text-cut, text-short, text-tested}
+use Rattle.messagepack.proofs.Laws.Walk.{body_end, text-cut, text-short, text-tested}
 use Rattle.messagepack.proofs.text_at.Goals as goal
 
 pub slice_bounds-is_utf8-count : goal.slice_bounds-is_utf8-count

@@ -14,7 +14,7 @@ use Rattle.views.specs.Place.{place_of}
 use Rattle.fields.specs.Table.{named, field_count}
 use Rattle.fields.specs.Fields.{names_of, field_names, presence_of}
 use Rattle.structure.specs.Accepted.{Accepted, entries_number, verdict_of}
-use Rattle.structure.specs.Laws.Accepted.{accepted-exactly, container-document, one-document, verdict-container, verdict-document}
+use Rattle.structure.proofs.Laws.Accepted.{accepted-exactly, container-document, one-document, verdict-container, verdict-document}
 use Rattle.opening.specs.declared.Opening.{Opening}
 use Rattle.opening.specs.Opening.{fields_room, part_start, part_length, starts_of, lengths_of, opening_by, opening_of}
 use Rattle.opening.specs.Steps.{span_place, SpansSay}

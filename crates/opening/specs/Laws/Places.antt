@@ -11,13 +11,13 @@ use Rattle.heads.specs.Head.{kind_at, head_at}
 use Rattle.heads.specs.declared.Kind.{Kind}
 use Rattle.heads.specs.declared.Head.{Head}
 use Rattle.heads.specs.Table.{lead_table, kind_by, head_by}
-use Rattle.heads.specs.Laws.Table.{kind-rule, head-rule}
+use Rattle.heads.proofs.Laws.Table.{kind-rule, head-rule}
 use Rattle.messagepack.specs.Limits.{nesting_limit}
 use Rattle.messagepack.specs.Document.{Document, Entries, string, empty, entry, size}
 use Rattle.messagepack.specs.Rules.{depth, depth_entries, Container}
 use Rattle.messagepack.specs.Walk.{value_at, container_number}
 use Rattle.messagepack.specs.declared.Walk.{Walk}
-use Rattle.messagepack.specs.Laws.Complete.{value-of}
+use Rattle.messagepack.proofs.Laws.Complete.{value-of}
 use Rattle.values.specs.Parts.{look}
 use Rattle.values.specs.Places.{At, AtEntries}
 use Rattle.values.specs.Heads.{entries_by}

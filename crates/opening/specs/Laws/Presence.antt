@@ -9,7 +9,7 @@ use Rattle.numbers.specs.BigEndian.{Bytes}
 use Rattle.text.specs.Equal.{equal}
 use Rattle.messagepack.specs.Document.{Entries, empty, entry}
 use Rattle.messagepack.specs.Walk.{container_number}
-use Rattle.messagepack.specs.Laws.Container.{container-exactly}
+use Rattle.messagepack.proofs.Laws.Container.{container-exactly}
 use Rattle.values.specs.Parts.{look}
 use Rattle.views.specs.View.{Viewable, has_key, view_number}
 use Rattle.views.specs.Place.{place_of, place_number}
@@ -20,7 +20,7 @@ use Rattle.fields.specs.Tests.{is_there}
 use Rattle.fields.specs.Fields.{row_count, names_of, field_names, present, bit, set_of, presence_of}
 use Rattle.fields.specs.Laws.Fields.{named_count}
 use Rattle.structure.specs.Accepted.{Accepted}
-use Rattle.structure.specs.Laws.Accepted.{accepted-container, one-document}
+use Rattle.structure.proofs.Laws.Accepted.{accepted-container, one-document}
 
 -- bit i of a set
 

@@ -1,6 +1,6 @@
 -- In 64 bits the product and the sum do not wrap, and the count may be taken modulo 2 ^ 32 (`times_mod`).
 use Rattle.std.proofs.Common.{◌≡◌, ◌+◌, ◌*◌, ◌%◌, ◌^◌, ap, ◌∙◌, arith, to_z-of_z, w32, to_z, of_z, rules}
-use Rattle.steps.specs.Laws.Delta.{times_mod, times-fit}
+use Rattle.steps.proofs.Laws.Delta.{times_mod, times-fit}
 use Rattle.payloads.proofs.add_times.Statement.{statement}
 use Rattle.payloads.proofs.add_times.Tie as tie
 

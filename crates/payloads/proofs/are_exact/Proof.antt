@@ -8,7 +8,7 @@ use Rattle.steps.specs.Width.{width_of, upper, lower}
 use Rattle.steps.specs.Delta.{plus_delta}
 use Rattle.steps.specs.Packing.{is_limit}
 use Rattle.steps.specs.Payload.{read_in}
-use Rattle.steps.specs.Laws.Numbers.{size-pos}
+use Rattle.steps.proofs.Laws.Numbers.{size-pos}
 use Rattle.payloads.specs.Laws.Totals.{Summed, summed-start, summed-next, summed-end}
 use Rattle.payloads.proofs.are_exact.Statement.{statement}
 use Rattle.payloads.proofs.are_exact.Tie as tie

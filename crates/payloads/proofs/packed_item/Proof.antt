@@ -4,7 +4,7 @@ use Rattle.steps.specs.declared.Form.TheVariants.{Packed}
 use Rattle.steps.specs.declared.Turn.{Turn}
 use Rattle.steps.specs.Width.{size_of}
 use Rattle.steps.specs.Steps.{turn_of}
-use Rattle.steps.specs.Laws.Numbers.{size-pos}
+use Rattle.steps.proofs.Laws.Numbers.{size-pos}
 use Rattle.payloads.specs.declared.Item.TheVariants.{Wrong, End}
 use Rattle.payloads.specs.Items.{item_at}
 use Rattle.payloads.specs.Laws.Items.{result_at, next, result-turn, result-end, packed-item}

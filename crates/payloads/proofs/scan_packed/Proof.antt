@@ -2,7 +2,7 @@
 use Rattle.std.proofs.Common.{◌+◌, ◌-◌, ◌≤◌, Bool, ◌&&◌, length, sym, ap, ◌∙◌, arith, to_z-of_z, w32, to_z, of_z, rules}
 use Rattle.steps.specs.Width.{size_of}
 use Rattle.steps.specs.Steps.{turn_of}
-use Rattle.steps.specs.Laws.Numbers.{size-pos}
+use Rattle.steps.proofs.Laws.Numbers.{size-pos}
 use Rattle.steps.specs.Delta.{advance}
 use Rattle.payloads.specs.Exact.{exact}
 use Rattle.payloads.specs.Laws.Packed.{Unpacked, unpacked-start, unpacked-more, unpacked-done, unpacked-wrong, unpacked-unfinished, unpacked-other, unpacked-all}

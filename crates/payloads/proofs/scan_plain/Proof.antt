@@ -1,6 +1,6 @@
 -- The count of plain numbers is the payload's size (`plain_other`, `plain-right`).
 use Rattle.std.proofs.Common.{ℕ, ◌/◌, length, sym, ap, ◌∙◌, rules}
-use Rattle.steps.specs.Laws.Numbers.{size-pos}
+use Rattle.steps.proofs.Laws.Numbers.{size-pos}
 use Rattle.payloads.specs.declared.Outcome.TheVariants.{Fine}
 use Rattle.payloads.specs.Laws.Plain.{plain_other, plain-right}
 use Rattle.payloads.proofs.scan_plain.Statement.{statement}

@@ -13,7 +13,7 @@ use Rattle.steps.specs.declared.Form.TheVariants.{Packed}
 use Rattle.steps.specs.Width.{width_of, size_of, upper, lower}
 use Rattle.steps.specs.Delta.{plus_delta}
 use Rattle.steps.specs.Packing.{is_limit}
-use Rattle.steps.specs.Laws.Delta.{plus-fits}
+use Rattle.steps.proofs.Laws.Delta.{plus-fits}
 use Rattle.payloads.specs.Limits.{limits_in}
 use Rattle.payloads.specs.Blocks.{count_in, block_number, total_in, stored_in, NoLimit, HasPlaces, StoredTotals}
 use Rattle.payloads.specs.Results.{HasRoom, Wrote}

@@ -9,8 +9,8 @@ use Rattle.steps.specs.declared.Size.{Size}
 use Rattle.steps.specs.declared.Size.TheVariants.{One, Two, Four}
 use Rattle.steps.specs.Numbers.{numbers_in}
 use Rattle.steps.specs.Fits.{Every}
-use Rattle.steps.specs.Laws.Allowed.{and-true}
-use Rattle.steps.specs.Laws.NumbersBack.{numbers_in-fit}
+use Rattle.steps.proofs.Laws.Allowed.{and-true}
+use Rattle.steps.proofs.Laws.NumbersBack.{numbers_in-fit}
 use Rattle.payloads.specs.Exact.{exact_limit, exact, all_exact}
 
 pub every-exact : (P : ℤ → Type 0) → ((x : ℤ) → P x → exact x ≡ true) → (xs : List ℤ) → Every P xs → all_exact xs ≡ true

@@ -20,7 +20,7 @@ use Rattle.steps.specs.RunLength.{expand}
 use Rattle.steps.specs.Packing.{is_limit, in32, unpack_from}
 use Rattle.steps.specs.Payload.{number_size, in_range, all_in, only_in, read_in}
 use Rattle.steps.specs.Steps.{turn_of}
-use Rattle.steps.specs.Laws.Numbers.{size-pos, numbers-step, numbers-end}
+use Rattle.steps.proofs.Laws.Numbers.{size-pos, numbers-step, numbers-end}
 use Rattle.payloads.specs.declared.Item.{Item}
 use Rattle.payloads.specs.declared.Item.TheVariants as item
 use Rattle.payloads.specs.declared.Item.TheVariants.{Run, End}

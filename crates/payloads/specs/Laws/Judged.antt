@@ -8,13 +8,13 @@ use Rattle.refusal.specs.declared.Answer.TheVariants as answer
 use Rattle.steps.specs.declared.Form.{Form}
 use Rattle.steps.specs.Delta.{sums_if}
 use Rattle.steps.specs.Payload.{read_in, held_in}
-use Rattle.steps.specs.Laws.Delta.{length-sums_if}
-use Rattle.steps.specs.Laws.PayloadBack.{held_in-read}
+use Rattle.steps.proofs.Laws.Delta.{length-sums_if}
+use Rattle.steps.proofs.Laws.PayloadBack.{held_in-read}
 use Rattle.columns.specs.declared.Kind.{Kind}
 use Rattle.columns.specs.declared.Header.TheVariants as header
 use Rattle.columns.specs.Table.{is_names, elements}
 use Rattle.columns.specs.Decode.{Decoding, refused, column, judged_values, judged_payload}
-use Rattle.columns.specs.Laws.Buffer.{Answers, answers-small, answers-done}
+use Rattle.columns.proofs.Laws.Buffer.{Answers, answers-small, answers-done}
 use Rattle.payloads.specs.declared.Outcome.TheVariants.{Fine, Refused}
 use Rattle.payloads.specs.Exact.{all_exact}
 use Rattle.payloads.specs.Results.{Wrote}

@@ -17,8 +17,8 @@ use Rattle.steps.specs.Width.{width_of, size_of, upper, lower}
 use Rattle.steps.specs.Packing.{is_limit}
 use Rattle.steps.specs.Payload.{read_in}
 use Rattle.steps.specs.Steps.{turn_of}
-use Rattle.steps.specs.Laws.NumbersBack.{signed_at-fits}
-use Rattle.steps.specs.Laws.Packing.{mag-add, turn_inside}
+use Rattle.steps.proofs.Laws.NumbersBack.{signed_at-fits}
+use Rattle.steps.proofs.Laws.Packing.{mag-add, turn_inside}
 use Rattle.steps.specs.Delta.{sums_if}
 use Rattle.payloads.specs.Exact.{exact_limit, exact, all_exact}
 use Rattle.payloads.specs.Results.{ResultsJudged}

@@ -11,9 +11,9 @@ use Rattle.steps.specs.declared.Turn.TheVariants.{More, Done, Wrong}
 use Rattle.steps.specs.Width.{width_of, size_of}
 use Rattle.steps.specs.Delta.{advance, results_from, last_from}
 use Rattle.steps.specs.Steps.{turn_of}
-use Rattle.steps.specs.Laws.Allowed.{and-true}
+use Rattle.steps.proofs.Laws.Allowed.{and-true}
 use Rattle.steps.specs.Payload.{read_in}
-use Rattle.steps.specs.Laws.Delta.{results-one, last_one}
+use Rattle.steps.proofs.Laws.Delta.{results-one, last_one}
 use Rattle.payloads.specs.declared.Outcome.TheVariants.{Fine, Refused}
 use Rattle.payloads.specs.Exact.{exact, all_exact}
 use Rattle.payloads.specs.Scan.{scan_of}

@@ -15,8 +15,8 @@ use Rattle.steps.specs.declared.Form.TheVariants.{Plain}
 use Rattle.steps.specs.Width.{width_of, size_of}
 use Rattle.steps.specs.Delta.{sums_if}
 use Rattle.steps.specs.Numbers.{numbers_in}
-use Rattle.steps.specs.Laws.Numbers.{numbers-step, length-numbers}
-use Rattle.steps.specs.Laws.Delta.{results-plain}
+use Rattle.steps.proofs.Laws.Numbers.{numbers-step, length-numbers}
+use Rattle.steps.proofs.Laws.Delta.{results-plain}
 use Rattle.steps.specs.Payload.{read_in}
 use Rattle.payloads.specs.declared.Outcome.TheVariants.{Fine, Refused}
 use Rattle.payloads.specs.Exact.{exact, all_exact}

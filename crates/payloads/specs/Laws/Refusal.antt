@@ -15,7 +15,7 @@ use Rattle.steps.specs.declared.Form.TheVariants.{Packed, Names}
 use Rattle.steps.specs.Numbers.{numbers_in}
 use Rattle.steps.specs.Delta.{sums_if}
 use Rattle.steps.specs.Payload.{all_in, padded, allowed, only_if, read_in, held_in}
-use Rattle.steps.specs.Laws.Names.{names-length, allowed-bytes}
+use Rattle.steps.proofs.Laws.Names.{names-length, allowed-bytes}
 use Rattle.columns.specs.Table.{elements, is_names}
 use Rattle.payloads.specs.declared.Outcome.TheVariants.{Fine, Refused}
 use Rattle.payloads.specs.Exact.{all_exact}

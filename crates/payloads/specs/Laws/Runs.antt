@@ -13,7 +13,7 @@ use Rattle.steps.specs.declared.Range.{Range}
 use Rattle.steps.specs.declared.Form.{Form}
 use Rattle.steps.specs.declared.Form.TheVariants.{Runs}
 use Rattle.steps.specs.Payload.{in_range, read_in}
-use Rattle.steps.specs.Laws.Delta.{results-plain}
+use Rattle.steps.proofs.Laws.Delta.{results-plain}
 use Rattle.payloads.specs.Results.{paste, Filled, HasResults, Covered, Wrote}
 use Rattle.payloads.specs.Laws.Items.{count_bits, runs-count, runs-run, runs-wrong}
 use Rattle.payloads.specs.Laws.Scan.{map-id, map_both, rest_of}

@@ -10,8 +10,8 @@ use Rattle.steps.specs.declared.Form.{Form}
 use Rattle.steps.specs.declared.Form.TheVariants.{Plain, Packed, Runs, Names}
 use Rattle.steps.specs.Delta.{sums_if}
 use Rattle.steps.specs.Payload.{padded, only_if, read_in, held_in}
-use Rattle.steps.specs.Laws.Allowed.{and-true, and-more}
-use Rattle.steps.specs.Laws.Delta.{results-plain}
+use Rattle.steps.proofs.Laws.Allowed.{and-true, and-more}
+use Rattle.steps.proofs.Laws.Delta.{results-plain}
 use Rattle.columns.specs.Table.{is_names, elements}
 use Rattle.payloads.specs.declared.Outcome.{Outcome}
 use Rattle.payloads.specs.declared.Outcome.TheVariants.{Fine, Refused}

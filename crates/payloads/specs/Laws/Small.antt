@@ -14,10 +14,10 @@ use Rattle.steps.specs.Fits.{Every}
 use Rattle.steps.specs.Numbers.{numbers_in}
 use Rattle.steps.specs.Packing.{is_limit, in32, unpack_from}
 use Rattle.steps.specs.Payload.{read_in}
-use Rattle.steps.specs.Laws.Numbers.{length-numbers}
-use Rattle.steps.specs.Laws.NumbersBack.{numbers_in-fit}
-use Rattle.steps.specs.Laws.Packing.{mag-add}
-use Rattle.steps.specs.Laws.Delta.{results-plain}
+use Rattle.steps.proofs.Laws.Numbers.{length-numbers}
+use Rattle.steps.proofs.Laws.NumbersBack.{numbers_in-fit}
+use Rattle.steps.proofs.Laws.Packing.{mag-add}
+use Rattle.steps.proofs.Laws.Delta.{results-plain}
 use Rattle.payloads.specs.Exact.{all_exact}
 use Rattle.payloads.specs.Limits.{packed_size, exact_limits}
 use Rattle.payloads.specs.Blocks.{count_in}

@@ -15,10 +15,10 @@ use Rattle.steps.specs.Width.{width_of, size_of, upper, lower}
 use Rattle.steps.specs.Delta.{plus_delta, sums_if, advance, results_from}
 use Rattle.steps.specs.Packing.{is_limit}
 use Rattle.steps.specs.Steps.{turn_of}
-use Rattle.steps.specs.Laws.NumbersBack.{signed_at-32}
-use Rattle.steps.specs.Laws.Delta.{wrapped, plus-zero}
-use Rattle.steps.specs.Laws.Packing.{turn_inside, turn-outside}
-use Rattle.steps.specs.Laws.Allowed.{and-true}
+use Rattle.steps.proofs.Laws.NumbersBack.{signed_at-32}
+use Rattle.steps.proofs.Laws.Delta.{wrapped, plus-zero}
+use Rattle.steps.proofs.Laws.Packing.{turn_inside, turn-outside}
+use Rattle.steps.proofs.Laws.Allowed.{and-true}
 use Rattle.steps.specs.Payload.{read_in}
 use Rattle.payloads.specs.declared.Outcome.{Outcome}
 use Rattle.payloads.specs.declared.Outcome.TheVariants.{Fine, Refused}

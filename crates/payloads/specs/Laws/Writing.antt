@@ -8,7 +8,7 @@ use Rattle.std.proofs.lemmas.List.{length-map, length-replicate, set_at}
 use Rattle.steps.specs.declared.Form.{Form}
 use Rattle.steps.specs.Delta.{advance, results_from, last_from}
 use Rattle.steps.specs.Payload.{read_in}
-use Rattle.steps.specs.Laws.Delta.{length-results, results-append, last-append}
+use Rattle.steps.proofs.Laws.Delta.{length-results, results-append, last-append}
 use Rattle.payloads.specs.Exact.{all_exact}
 use Rattle.payloads.specs.Results.{paste, Filled, HasRoom, HasResults, Wrote, ResultsExact}
 use Rattle.payloads.specs.Laws.Exact.{exact-parts}

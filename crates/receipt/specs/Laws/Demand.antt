@@ -1,7 +1,7 @@
 -- Demand 3 holds: each part is a law of its own.
 -- Assumes nothing.
-use Rattle.messagepack.specs.Laws.Unique.{no-two-documents}
-use Rattle.structure.specs.Laws.Accepted as structure
+use Rattle.messagepack.proofs.Laws.Unique.{no-two-documents}
+use Rattle.structure.proofs.Laws.Accepted as structure
 use Rattle.receipt.specs.Demand.{Demand3}
 use Rattle.receipt.specs.Laws.File.{receipt-left, unit-accepted, unit-refused}
 

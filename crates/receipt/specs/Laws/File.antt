@@ -13,8 +13,8 @@ use Rattle.text.specs.Put.{Put}
 use Rattle.text.specs.Laws.Put.{put_all}
 use Rattle.structure.specs.Accepted.{Accepted, verdict_of}
 use Rattle.structure.specs.Summary.{accepted_summary, refused, summary_of}
-use Rattle.structure.specs.Laws.Accepted.{accepted-exactly}
-use Rattle.structure.specs.Laws.Summary.{verdict-most, verdict-refused, summary-accepted, summary-refused, accepted-few, accepted-fields}
+use Rattle.structure.proofs.Laws.Accepted.{accepted-exactly}
+use Rattle.structure.proofs.Laws.Summary.{verdict-most, verdict-refused, summary-accepted, summary-refused, accepted-few, accepted-fields}
 use Rattle.structure.specs.declared.Summary.{Summary}
 use Rattle.receipt.specs.declared.Receipt.{Receipt}
 use Rattle.receipt.specs.Receipt.{verdict_limit, fields_least, fields_most, receipt_limit, page_room, numbered, written, rules_kept}

@@ -3,8 +3,8 @@ use Rattle.std.specs.Prelude.{◌≡◌, refl, List, ℕ, ◌%◌}
 use Rattle.std.proofs.Common.{sym, ◌∙◌, ap, arith}
 use Rattle.numbers.specs.BigEndian.{Bytes}
 use Rattle.structure.specs.Accepted.{verdict_of}
-use Rattle.structure.specs.Laws.Accepted.{accepted-exactly}
-use Rattle.structure.specs.Laws.Summary.{verdict-most}
+use Rattle.structure.proofs.Laws.Accepted.{accepted-exactly}
+use Rattle.structure.proofs.Laws.Summary.{verdict-most}
 use Rattle.receipt.specs.File.{ReceiptOf, accepts, refuses, Receipted}
 use Rattle.receipt.specs.Reading.{reading_of}
 use Rattle.receipt.specs.Laws.Reading.{reading-exactly}

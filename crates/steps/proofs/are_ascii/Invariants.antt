@@ -2,7 +2,7 @@
 use Rattle.std.proofs.Common.{◌≡◌, ◌-◌, ◌≤◌, ◌&&◌, leb, map, pos}
 use Rattle.steps.specs.declared.Range.TheVariants.{Ascii}
 use Rattle.steps.specs.Payload.{all_in}
-use Rattle.steps.specs.Laws.Allowed.{left}
+use Rattle.steps.proofs.Laws.Allowed.{left}
 use Rattle.steps.proofs.are_ascii.Given as goal
 
 abbrev pub invariant-loop-i : goal.invariant-loop-i

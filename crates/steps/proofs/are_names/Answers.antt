@@ -2,7 +2,7 @@
 use Rattle.std.proofs.Common.{◌≡◌, true, map, pos, sym, ◌∙◌}
 use Rattle.steps.specs.declared.Range.TheVariants.{Ascii}
 use Rattle.steps.specs.Payload.{all_in}
-use Rattle.steps.specs.Laws.Padding.{allowed-padded, padded-one}
+use Rattle.steps.proofs.Laws.Padding.{allowed-padded, padded-one}
 use Rattle.steps.proofs.are_names.Lts as lts
 use Rattle.steps.proofs.are_names.Reads as reads
 use Rattle.steps.proofs.are_names.Tie as tie

@@ -3,8 +3,8 @@ use Rattle.std.proofs.Common.{◌≡◌, ℕ, ◌+◌, ◌-◌, ◌*◌, ◌/◌
 use native.Mathlib.Nat.{lt-div-mul-add}
 use Rattle.steps.specs.Payload.{padded_from}
 use Rattle.steps.specs.Steps.{one_name}
-use Rattle.steps.specs.Laws.Allowed.{and-more}
-use Rattle.steps.specs.Laws.Padding.{whole-name, name-left}
+use Rattle.steps.proofs.Laws.Allowed.{and-more}
+use Rattle.steps.proofs.Laws.Padding.{whole-name, name-left}
 use Rattle.steps.proofs.are_padded.Goals as goal
 
 -- a name before the last whole one ends inside

@@ -1,9 +1,9 @@
 -- The loop's invariant: what was tested and what is left decide.
 use Rattle.std.proofs.Common.{◌≡◌, ℕ, ◌+◌, ◌-◌, Bool, not, ◌&&◌, ◌||◌, eqb, map, get_or, drop, pos, sym, ap, ◌∙◌, arith}
 use Rattle.steps.specs.Payload.{padded_from}
-use Rattle.steps.specs.Laws.Lists.{map_at, map-end}
-use Rattle.steps.specs.Laws.Allowed.{and-true, and-more}
-use Rattle.steps.specs.Laws.Padding.{name-first, name-next, name-end}
+use Rattle.steps.proofs.Laws.Lists.{map_at, map-end}
+use Rattle.steps.proofs.Laws.Allowed.{and-true, and-more}
+use Rattle.steps.proofs.Laws.Padding.{name-first, name-next, name-end}
 use Rattle.steps.proofs.is_padded.Goals as goal
 
 pub loop-i-init : goal.loop-i-init

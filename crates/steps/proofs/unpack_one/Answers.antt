@@ -5,7 +5,7 @@ use Rattle.steps.specs.Width.{upper, lower}
 use Rattle.steps.specs.Packing.{is_limit}
 use Rattle.steps.specs.declared.Turn.TheVariants.{More, Done}
 use Rattle.steps.specs.Steps.{turn_of}
-use Rattle.steps.specs.Laws.Packing.{mag-add, in-32, below-32, above-32, turn-outside, turn_inside}
+use Rattle.steps.proofs.Laws.Packing.{mag-add, in-32, below-32, above-32, turn-outside, turn_inside}
 use Rattle.steps.proofs.unpack_one.Lts as lts
 use Rattle.steps.proofs.unpack_one.Reads as reads
 use Rattle.steps.proofs.unpack_one.Tie as tie

@@ -1,7 +1,7 @@
 -- The fields, then the columns, then the counts.
 use mathlib.Core.Path.{sym, ◌∙◌}
 use Prim.Native.Nat.{◌-◌}
-use Rattle.refusal.specs.Laws.First.{refused-or_else, passed-or_else}
+use Rattle.refusal.proofs.Laws.First.{refused-or_else, passed-or_else}
 use Rattle.fields.specs.Laws.Fields.{fields-exactly}
 use Rattle.file_columns.specs.Laws.Columns.{columns-exactly}
 use borrow.Author.Rules.{rules}

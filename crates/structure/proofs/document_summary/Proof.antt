@@ -1,8 +1,8 @@
 -- A document that is refused has its number; one that is not has its counts and its fields.
 use mathlib.Core.Path.{sym, ap, ◌∙◌}
 use Rattle.structure.specs.Summary.{refused}
-use Rattle.structure.specs.Laws.Accepted.{entries-exactly}
-use Rattle.structure.specs.Laws.Summary.{said-accepted, said-refused, summary-counted}
+use Rattle.structure.proofs.Laws.Accepted.{entries-exactly}
+use Rattle.structure.proofs.Laws.Summary.{said-accepted, said-refused, summary-counted}
 use borrow.Author.Rules.{rules}
 use Rattle.structure.proofs.document_summary.Statement.{statement}
 use Rattle.structure.proofs.document_summary.Tie as tie

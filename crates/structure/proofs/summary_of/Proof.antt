@@ -2,7 +2,7 @@
 use mathlib.Core.Path.{sym, ◌∙◌}
 use Rattle.messagepack.specs.Document.{map}
 use Rattle.values.specs.Laws.Places.{outer-at}
-use Rattle.structure.specs.Laws.Summary.{summary-container, summary-document}
+use Rattle.structure.proofs.Laws.Summary.{summary-container, summary-document}
 use borrow.Author.Rules.{rules}
 use Rattle.structure.proofs.summary_of.Statement.{statement}
 use Rattle.structure.proofs.summary_of.Tie as tie

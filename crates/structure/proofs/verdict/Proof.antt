@@ -3,8 +3,8 @@ use mathlib.Core.Path.{sym, ap, ◌∙◌}
 use Prim.Native.Nat.{◌-◌}
 use native.Mathlib.Omega.{arith}
 use Rattle.numbers.specs.Laws.BigEndian.{bytes-of}
-use Rattle.structure.specs.Laws.Accepted.{accepted-exactly}
-use Rattle.structure.specs.Laws.Summary.{summary-verdict}
+use Rattle.structure.proofs.Laws.Accepted.{accepted-exactly}
+use Rattle.structure.proofs.Laws.Summary.{summary-verdict}
 use Rattle.structure.specs.declared.Summary.{Summary}
 use borrow.Author.Rules.{rules}
 use Rattle.structure.proofs.verdict.Statement.{statement}

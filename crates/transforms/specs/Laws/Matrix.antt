@@ -12,7 +12,7 @@ use Rattle.heads.specs.Lead.{more_of, held_by}
 use Rattle.heads.specs.Head.{Holds, kind_at, head_at}
 use Rattle.heads.specs.declared.Kind.{Kind}
 use Rattle.heads.specs.declared.Head.{Head}
-use Rattle.heads.specs.Laws.Table.{more_of-bound}
+use Rattle.heads.proofs.Laws.Table.{more_of-bound}
 use Rattle.messagepack.specs.Document.{Document, Documents, integer, float, string, binary, array, map, none, item, count, Writes}
 use Rattle.values.specs.Parts.{bits_of, items_of, entries_of, look}
 use Rattle.values.specs.Places.{At, AtAll, PlaceSays, there as stands}
@@ -20,7 +20,7 @@ use Rattle.values.specs.Heads.{is_float}
 use Rattle.values.specs.Laws.Places.{heads, read-heads, open-float, open-item, Stands}
 use Rattle.messagepack.specs.Rules.{Container}
 use Rattle.messagepack.specs.Walk.{container_number}
-use Rattle.messagepack.specs.Laws.Unique.{document_of-is}
+use Rattle.messagepack.proofs.Laws.Unique.{document_of-is}
 use Rattle.fields.specs.Types.{FieldType, Rows, array_of, exactly, map_with, a_float, Each, Has, HasType, Fits}
 use Rattle.fields.specs.Table.{transform_rows, assembly_rows, named}
 use Rattle.fields.specs.Tests.{is_there, typed}

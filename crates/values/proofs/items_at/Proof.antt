@@ -1,7 +1,7 @@
 -- Each kind is a case of the laws of places: an array by its head, else nothing.
 use mathlib.Core.Path.{refl, sym, subst, ◌∙◌}
 use native.Mathlib.Omega.{arith}
-use Rattle.heads.specs.Laws.Head.{head-inside}
+use Rattle.heads.proofs.Laws.Head.{head-inside}
 use Rattle.values.specs.Parts.{items_of}
 use Rattle.values.specs.Heads.{no_part, head_items}
 use Rattle.values.specs.Laws.Heads.{by-cut, by-head, by-other, kind-other, items-part, items-inside}

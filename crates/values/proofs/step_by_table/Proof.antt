@@ -1,6 +1,6 @@
 -- Each kind is a case of the laws of steps.
 use mathlib.Core.Path.{sym, refl, ◌∙◌}
-use Rattle.heads.specs.Laws.Head.{head-inside}
+use Rattle.heads.proofs.Laws.Head.{head-inside}
 use Rattle.values.specs.Laws.Standing.{steps-cut-head, steps-no-value, steps_on, steps-past, steps-pairs, steps-items}
 use borrow.Author.Rules.{rules}
 use Rattle.values.proofs.step_by_table.Statement.{statement}

@@ -12,10 +12,10 @@ use Rattle.heads.specs.Head.{HeadOf, kind_at, head_at}
 use Rattle.heads.specs.declared.Kind.{Kind}
 use Rattle.heads.specs.declared.Head.{Head}
 use Rattle.heads.specs.Span.{Span}
-use Rattle.heads.specs.Laws.Span.{span_none, holds, fits}
-use Rattle.heads.specs.Laws.Head.{Told, head-told, kind-in, head-held, head-number}
+use Rattle.heads.proofs.Laws.Span.{span_none, holds, fits}
+use Rattle.heads.proofs.Laws.Head.{Told, head-told, kind-in, head-held, head-number}
 use Rattle.numbers.specs.BigEndian.{unsigned_at}
-use Rattle.heads.specs.Laws.Table.{more_of-bound, more_of-four, low-lead, string-lead}
+use Rattle.heads.proofs.Laws.Table.{more_of-bound, more_of-four, low-lead, string-lead}
 use Rattle.numbers.specs.Laws.BigEndian.{length-bytes_of}
 use Rattle.numbers.specs.Laws.Tests.{clash}
 use Rattle.messagepack.specs.Document.{Document, Documents, Entries, integer, float, string, binary, array, map, none, item, empty, entry, count, size, signed_value, UnsignedOf, SignedOf, TextOf, Writes, WritesAll, WritesEntries}

@@ -13,9 +13,9 @@ use Rattle.heads.specs.Head.{HeadOf, kind_at, head_at}
 use Rattle.heads.specs.declared.Kind.{Kind}
 use Rattle.heads.specs.declared.Head.{Head}
 use Rattle.heads.specs.Span.{Span}
-use Rattle.heads.specs.Laws.Span.{follows, fits}
-use Rattle.heads.specs.Laws.Head.{Told, head-told, head-inside, alone-head, float-kind, float_size, float-head, head-cut, head-number, kind-in}
-use Rattle.heads.specs.Laws.Table.{low-lead, string-lead}
+use Rattle.heads.proofs.Laws.Span.{follows, fits}
+use Rattle.heads.proofs.Laws.Head.{Told, head-told, head-inside, alone-head, float-kind, float_size, float-head, head-cut, head-number, kind-in}
+use Rattle.heads.proofs.Laws.Table.{low-lead, string-lead}
 use Rattle.messagepack.specs.Document.{Document, Documents, Entries, integer, float, string, binary, array, map, none, item, empty, entry, count, size, UnsignedOf, SignedOf, TextOf, Writes, WritesAll, WritesEntries}
 use Rattle.values.specs.Standing.{Standing, past_over, pairs_over, LowRun, Sized, ItemsOver, over, each, after, Stepped, on, stop}
 use Rattle.values.specs.declared.Over.{Over}

@@ -5,8 +5,8 @@ use lib.ListN.{length, take}
 use lib.Seq.{length-take-le}
 use borrow.Author.Rules.{rules}
 use Rattle.numbers.specs.Laws.BigEndian.{bytes-of}
-use Rattle.messagepack.specs.Laws.Container.{container-exactly}
-use Rattle.messagepack.specs.Laws.Outer.{keys-few, keys-counted, keys-uncounted, keys-within, keys-put}
+use Rattle.messagepack.proofs.Laws.Container.{container-exactly}
+use Rattle.messagepack.proofs.Laws.Outer.{keys-few, keys-counted, keys-uncounted, keys-within, keys-put}
 use Rattle.views.specs.Laws.Search.{place-refused}
 use Rattle.views.specs.declared.Place.{Place}
 use Rattle.views.proofs.find.Statement.{statement}

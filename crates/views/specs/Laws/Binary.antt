@@ -7,7 +7,7 @@ use Rattle.heads.specs.Head.{kind_at}
 use Rattle.messagepack.specs.Document.{Document, integer, float, string, binary, array, map}
 use Rattle.messagepack.specs.Rules.{Container}
 use Rattle.messagepack.specs.Walk.{container_number}
-use Rattle.messagepack.specs.Laws.Unique.{document_of-is}
+use Rattle.messagepack.proofs.Laws.Unique.{document_of-is}
 use Rattle.values.specs.Parts.{look}
 use Rattle.values.specs.Heads.{is_binary}
 use Rattle.values.specs.Places.{At, PlaceSays}

@@ -9,16 +9,16 @@ use Rattle.text.specs.Equal.{equal}
 use Rattle.heads.specs.Head.{HeadOf, head_at}
 use Rattle.heads.specs.declared.Kind.{Kind}
 use Rattle.heads.specs.declared.Head.{Head}
-use Rattle.heads.specs.Laws.Span.{follows, holds, fits}
-use Rattle.heads.specs.Laws.Head.{head-told}
+use Rattle.heads.proofs.Laws.Span.{follows, holds, fits}
+use Rattle.heads.proofs.Laws.Head.{head-told}
 use Rattle.messagepack.specs.Limits.{nesting_limit}
 use Rattle.messagepack.specs.Document.{Document, Entries, empty, entry, size, TextOf, Writes, WritesEntries}
 use Rattle.messagepack.specs.Rules.{depth, depth_entries, Keeps, KeepsEntries, Container}
 use Rattle.messagepack.specs.Walk.{key_at, value_at, container_number}
 use Rattle.messagepack.specs.Outer.{outer_levels, entry_end, keys_from}
 use Rattle.messagepack.specs.declared.Text.{Text}
-use Rattle.messagepack.specs.Laws.Complete.{text-there, key-there, value-of}
-use Rattle.messagepack.specs.Laws.Outer as o
+use Rattle.messagepack.proofs.Laws.Complete.{text-there, key-there, value-of}
+use Rattle.messagepack.proofs.Laws.Outer as o
 use Rattle.views.specs.Place.{after_head, after_value, value_place, entry_place, place_of}
 use Rattle.views.specs.Shown.{shown_place, Ahead, Keyed}
 use Rattle.views.specs.Laws.Shown.{value-shows}

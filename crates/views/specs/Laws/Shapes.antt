@@ -11,7 +11,7 @@ use Rattle.heads.specs.declared.Kind.{Kind}
 use Rattle.messagepack.specs.Document.{Document, Documents, integer, float, string, binary, array, map, none, item, count}
 use Rattle.messagepack.specs.Rules.{Container}
 use Rattle.messagepack.specs.Walk.{container_number}
-use Rattle.messagepack.specs.Laws.Unique.{document_of-is}
+use Rattle.messagepack.proofs.Laws.Unique.{document_of-is}
 use Rattle.values.specs.Parts.{items_of, look}
 use Rattle.values.specs.Places.{At, AtAll, PlaceSays}
 use Rattle.values.specs.Laws.Places.{place_none, place-some, OpenInteger, unsigned, signed, open_array, open-map, open-string, open-binary, open-float, open-integer}

@@ -8,11 +8,11 @@ use native.Mathlib.Omega.{arith}
 use Rattle.std.proofs.Math.ListN.{length, drop, length-append}
 use Rattle.heads.specs.Head.{HeadOf, kind_at, head_at}
 use Rattle.heads.specs.declared.Kind.{Kind}
-use Rattle.heads.specs.Laws.Head.{head-told}
+use Rattle.heads.proofs.Laws.Head.{head-told}
 use Rattle.messagepack.specs.Limits.{nesting_limit}
 use Rattle.messagepack.specs.Document.{Document, integer, float, string, binary, array, map, UnsignedOf, SignedOf, TextOf, Writes}
 use Rattle.messagepack.specs.Rules.{depth, Keeps}
-use Rattle.messagepack.specs.Laws.Complete.{value-of}
+use Rattle.messagepack.proofs.Laws.Complete.{value-of}
 use Rattle.values.specs.Standing.{Standing}
 use Rattle.values.specs.Laws.Standing.{stands_one}
 use Rattle.views.specs.Place.{is_text, body_place, value_place}

@@ -6,11 +6,11 @@ use Rattle.std.proofs.Common.{subst, ◌∙◌, arith}
 use mathlib.Core.List.{List, ◌++◌, append_assoc}
 use Prim.Native.Nat.{ℕ, ◌+◌}
 use Rattle.std.proofs.Math.ListN.{length, length-append}
-use Rattle.heads.specs.Laws.Head.{split, same_head}
+use Rattle.heads.proofs.Laws.Head.{split, same_head}
 use Rattle.heads.specs.declared.Kind.{Kind}
 use Rattle.messagepack.specs.Document.{Document, Entries, string, map, empty, entry, TextOf, Writes, WritesEntries}
 use Rattle.messagepack.specs.Rules.{NoKey, Distinct, Keeps, Container}
-use Rattle.messagepack.specs.Laws.Unique.{same-document}
+use Rattle.messagepack.proofs.Laws.Unique.{same-document}
 use Rattle.views.specs.View.{EntryIn, shown, Viewable, start_of, Placed, placed, refused, Viewed, viewed, nothing}
 use Rattle.views.specs.Laws.View.{join, entry-map, same_entries}
 use Rattle.views.specs.declared.Place.{Place}

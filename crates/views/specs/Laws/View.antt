@@ -13,13 +13,13 @@ use Rattle.text.specs.Equal.{equal}
 use Rattle.text.specs.Laws.Equal.{equal-true, equal-refl}
 use Rattle.heads.specs.Head.{HeadOf}
 use Rattle.heads.specs.declared.Kind.{Kind}
-use Rattle.heads.specs.Laws.Span.{follows}
+use Rattle.heads.proofs.Laws.Span.{follows}
 use Rattle.messagepack.specs.Document.{Document, Entries, integer, float, string, binary, array, map, empty, entry, size, TextOf, Writes, WritesEntries}
 use Rattle.messagepack.specs.Rules.{Container}
 use Rattle.messagepack.specs.Walk.{container_number}
 use Rattle.messagepack.specs.Read.{document_of}
-use Rattle.messagepack.specs.Laws.Unique.{no-two-documents, document_of-is}
-use Rattle.messagepack.specs.Laws.Container.{container-exactly}
+use Rattle.messagepack.proofs.Laws.Unique.{no-two-documents, document_of-is}
+use Rattle.messagepack.proofs.Laws.Container.{container-exactly}
 use Rattle.views.specs.View.{EntryIn, shown, Viewable, start_of, has_key, view_number, Placed, placed, refused, Viewed, viewed, nothing}
 use Rattle.views.specs.Place.{entry_place, place_of, place_number, part_at, part_of}
 use Rattle.views.specs.Shown.{shown_place, Ahead}

@@ -3,8 +3,8 @@ use Rattle.std.proofs.Common.{◌≡◌, ◌+◌, ◌-◌, ◌≤◌, Bool, ◌&
 use mathlib.Core.Bool.{and-true}
 use Rattle.steps.specs.declared.Range.TheVariants.{Ascii}
 use Rattle.steps.specs.Payload.{all_in}
-use Rattle.steps.specs.Laws.Lists.{map_at, map-end}
-use Rattle.steps.specs.Laws.Allowed.{all-at, all_none, and-more, ascii}
+use Rattle.steps.proofs.Laws.Lists.{map_at, map-end}
+use Rattle.steps.proofs.Laws.Allowed.{all-at, all_none, and-more, ascii}
 use Rattle.writers.proofs.all_ascii.Statement.{statement}
 use Rattle.writers.proofs.all_ascii.Tie as tie
 

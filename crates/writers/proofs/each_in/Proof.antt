@@ -2,8 +2,8 @@
 use Rattle.std.proofs.Common.{◌≡◌, ◌+◌, ◌-◌, ◌<◌, ◌≤◌, Bool, ◌&&◌, length, drop, pos, sym, refl, ap, ◌∙◌, arith, to_z-of_z, w32, rules}
 use mathlib.Core.Bool.{and-true}
 use Rattle.steps.specs.Payload.{in_range, all_in}
-use Rattle.steps.specs.Laws.Lists.{drop_at, drop-end}
-use Rattle.steps.specs.Laws.Allowed.{all-at, all_none, and-more}
+use Rattle.steps.proofs.Laws.Lists.{drop_at, drop-end}
+use Rattle.steps.proofs.Laws.Allowed.{all-at, all_none, and-more}
 use Rattle.writers.proofs.each_in.Statement.{statement}
 use Rattle.writers.proofs.each_in.Tie as tie
 

@@ -15,12 +15,12 @@ use Rattle.steps.specs.Numbers.{bytes_for}
 use Rattle.steps.specs.Delta.{deltas_if, deltas_from}
 use Rattle.steps.specs.Packing.{pack_one, pack_all, pack}
 use Rattle.steps.specs.Payload.{numbers_for}
-use Rattle.steps.specs.Laws.Packing.{limits}
-use Rattle.steps.specs.Laws.Delta.{length-deltas}
+use Rattle.steps.proofs.Laws.Packing.{limits}
+use Rattle.steps.proofs.Laws.Delta.{length-deltas}
 use Rattle.columns.specs.Encode.{payload_of}
 use Rattle.writers.specs.Laws.Placed.{Parts}
 use Rattle.writers.specs.Laws.Numbers.{bytes_for-cons, bytes_for-nil, bytes_for-append, bytes_of-narrow}
-use Rattle.steps.specs.Laws.NumbersBack.{length-bytes_for}
+use Rattle.steps.proofs.Laws.NumbersBack.{length-bytes_for}
 use Rattle.writers.specs.Bits.{bits_for, up_to}
 
 pub packed-payload : (z : Size) (d : Bool) (xs : List ℤ) → payload_of (Packed z) d xs ≡ bytes_for z (pack z (deltas_if d xs))

@@ -16,8 +16,8 @@ use Rattle.steps.specs.Payload.{numbers_for, in_range, range_of, all_in, allowed
 use Rattle.columns.specs.Encode.{payload_of}
 use Rattle.writers.specs.Laws.Placed.{Parts}
 use Rattle.writers.specs.Laws.Numbers.{bytes_for-cons, bytes_for-nil}
-use Rattle.steps.specs.Laws.PayloadBack.{in-limits}
-use Rattle.steps.specs.Laws.Delta.{deltas-plain}
+use Rattle.steps.proofs.Laws.PayloadBack.{in-limits}
+use Rattle.steps.proofs.Laws.Delta.{deltas-plain}
 
 pub plain-payload : (z : Size) (xs : List ℤ) → payload_of (Plain z) false xs ≡ bytes_for z xs
 unfolding payload_of numbers_for

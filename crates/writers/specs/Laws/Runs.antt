@@ -18,7 +18,7 @@ use Rattle.columns.specs.Encode.{payload_of}
 use Rattle.writers.specs.Bits.{cells_after, CellAfter, BegunIn}
 use Rattle.writers.specs.Laws.Placed.{Parts}
 use Rattle.writers.specs.Laws.Numbers.{bytes_for-cons, bytes_for-nil, bits_back, bits-same}
-use Rattle.steps.specs.Laws.Delta.{deltas-read, deltas-plain, length-deltas}
+use Rattle.steps.proofs.Laws.Delta.{deltas-read, deltas-plain, length-deltas}
 
 pub runs-payload : (r : Range) (d : Bool) (xs : List ℤ) → payload_of (Runs r) d xs ≡ bytes_for Four (runs_of (deltas_if d xs))
 unfolding payload_of numbers_for

@@ -3,7 +3,7 @@ use mathlib.Core.Path.{sym}
 use Prim.Native.Nat.{◌-◌}
 use native.Mathlib.Omega.{arith}
 use borrow.Author.Tests.{eq-eqb, ne_eqb, not-true, not-false}
-use Rattle.counts.specs.Laws.Group.{too_many}
+use Rattle.counts.proofs.Laws.Group.{too_many}
 use Rattle.counts.proofs.groups.bonds_agree.Statement.{statement}
 use Rattle.counts.proofs.groups.bonds_agree.Tie as tie
 

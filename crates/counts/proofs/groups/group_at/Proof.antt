@@ -8,7 +8,7 @@ use Rattle.values.specs.Parts.{under}
 use Rattle.counts.specs.GroupPlaces.{Lengths}
 use Rattle.values.specs.declared.lists.Length as lst
 use Rattle.values.specs.Laws.Integers.{length-count}
-use Rattle.counts.specs.Laws.Group.{pairs_is}
+use Rattle.counts.proofs.Laws.Group.{pairs_is}
 use borrow.Author.Rules.{rules}
 use Rattle.counts.proofs.groups.group_at.Statement.{statement}
 use Rattle.counts.proofs.groups.group_at.Tie as tie

@@ -3,7 +3,7 @@ use mathlib.Core.Path.{sym, ◌∙◌}
 use Prim.Native.Nat.{◌-◌}
 use Rattle.values.specs.Parts.{under}
 use borrow.Author.Tests.{not-true, not-false}
-use Rattle.counts.specs.Laws.Group.{agrees-is, group-charges, group-elements, group-bonds, group-inside, group-orders, group-fine}
+use Rattle.counts.proofs.Laws.Group.{agrees-is, group-charges, group-elements, group-bonds, group-inside, group-orders, group-fine}
 use borrow.Author.Rules.{rules}
 use Rattle.counts.proofs.groups.judge.Statement.{statement}
 use Rattle.counts.proofs.groups.judge.Tie as tie

@@ -4,7 +4,7 @@ use Prim.Native.Nat.{◌-◌}
 use Rattle.counts.specs.Group.{orders_right}
 use Rattle.values.specs.Laws.Places.{place_none, place-some}
 use Rattle.values.specs.Integers.{integers_in}
-use Rattle.counts.specs.Laws.Group.{none-ordered}
+use Rattle.counts.proofs.Laws.Group.{none-ordered}
 use borrow.Author.Rules.{rules}
 use Rattle.counts.proofs.groups.orders_right.Statement.{statement}
 use Rattle.counts.proofs.groups.orders_right.Tie as tie

@@ -5,7 +5,7 @@ use Rattle.heads.specs.declared.Kind.{Kind}
 use Rattle.values.specs.Parts.{entries_of}
 use Rattle.values.specs.Laws.Heads.{kind-other}
 use Rattle.values.specs.Laws.Places.{at_head, at-standing}
-use Rattle.counts.specs.Laws.Group.{map_at, found_none}
+use Rattle.counts.proofs.Laws.Group.{map_at, found_none}
 use borrow.Author.Rules.{rules}
 use Rattle.counts.proofs.groups.places_at.Statement.{statement}
 use Rattle.counts.proofs.groups.places_at.Tie as tie

@@ -5,7 +5,7 @@ use native.Mathlib.Omega.{arith}
 use Rattle.values.specs.Places.{AtEntries}
 use Rattle.values.specs.Laws.Places.{at-standing}
 use Rattle.values.specs.Laws.Seeking.{Left, turn}
-use Rattle.counts.specs.Laws.Group.{SeekAll, seek-start, seek-turn, seek-end, entries-end}
+use Rattle.counts.proofs.Laws.Group.{SeekAll, seek-start, seek-turn, seek-end, entries-end}
 use Rattle.values.specs.Walked.{WalkedEntries}
 use borrow.Author.Rules.{rules}
 use Rattle.counts.proofs.groups.places_from.Statement.{statement}

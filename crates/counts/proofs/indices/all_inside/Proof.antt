@@ -4,7 +4,7 @@ use Rattle.fields.specs.Tests.{all}
 use Rattle.values.specs.Parts.{items_of, items_in}
 use Rattle.values.specs.Laws.Places.{place-some}
 use Rattle.counts.specs.Indices.{chains_inside}
-use Rattle.counts.specs.Laws.Indices.{none-judged}
+use Rattle.counts.proofs.Laws.Indices.{none-judged}
 use borrow.Author.Rules.{rules}
 use Rattle.counts.proofs.indices.all_inside.Statement.{statement}
 use Rattle.counts.proofs.indices.all_inside.Tie as tie

@@ -3,7 +3,7 @@ use mathlib.Core.Path.{sym, ◌∙◌}
 use Rattle.values.specs.Laws.Places.{at-standing}
 use Rattle.counts.specs.Indices.{transforms_inside}
 use borrow.Author.Tests.{not-true, not-false}
-use Rattle.counts.specs.Laws.Indices.{Judging, judging-start, judging-next, judging-more, judging-out, judging-end}
+use Rattle.counts.proofs.Laws.Indices.{Judging, judging-start, judging-next, judging-more, judging-out, judging-end}
 use Rattle.values.specs.Walked.{WalkedAll}
 use borrow.Author.Rules.{rules}
 use Rattle.counts.proofs.indices.assemblies_from.Statement.{statement}

@@ -3,7 +3,7 @@ use mathlib.Core.Path.{sym, ◌∙◌}
 use Rattle.values.specs.Parts.{under}
 use Rattle.counts.specs.Indices.{chains_inside}
 use borrow.Author.Tests.{not-true, not-false}
-use Rattle.counts.specs.Laws.Indices.{Judging, judging-start, judging-next, judging-more, judging-out, judging-end}
+use Rattle.counts.proofs.Laws.Indices.{Judging, judging-start, judging-next, judging-more, judging-out, judging-end}
 use Rattle.values.specs.Walked.{WalkedAll}
 use borrow.Author.Rules.{rules}
 use Rattle.counts.proofs.indices.inside_from.Statement.{statement}

@@ -5,8 +5,8 @@ use Rattle.heads.specs.declared.Kind.{Kind}
 use Rattle.values.specs.Parts.{entries_of}
 use Rattle.values.specs.Laws.Heads.{kind-other}
 use Rattle.values.specs.Laws.Places.{at_head, at-standing}
-use Rattle.counts.specs.Laws.Group.{map_at}
-use Rattle.counts.specs.Laws.Indices.{list-none}
+use Rattle.counts.proofs.Laws.Group.{map_at}
+use Rattle.counts.proofs.Laws.Indices.{list-none}
 use borrow.Author.Rules.{rules}
 use Rattle.counts.proofs.indices.list_at.Statement.{statement}
 use Rattle.counts.proofs.indices.list_at.Tie as tie

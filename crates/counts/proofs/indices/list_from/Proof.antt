@@ -3,8 +3,8 @@ use native.Mathlib.Omega.{arith}
 use Rattle.text.specs.Ascii.{ascii}
 use Rattle.values.specs.Seeking.{Seeking}
 use Rattle.values.specs.Laws.Seeking.{Left, seeking-start, seeking-end}
-use Rattle.counts.specs.Laws.Group.{entries-end}
-use Rattle.counts.specs.Laws.Indices.{seek-on}
+use Rattle.counts.proofs.Laws.Group.{entries-end}
+use Rattle.counts.proofs.Laws.Indices.{seek-on}
 use Rattle.values.specs.Walked.{WalkedEntries}
 use borrow.Author.Rules.{rules}
 use Rattle.counts.proofs.indices.list_from.Statement.{statement}

@@ -2,7 +2,7 @@
 use Prim.Native.Nat.{◌+◌, ◌≤◌}
 use native.Mathlib.Omega.{arith}
 use lib.ListN.{length}
-use Rattle.counts.specs.Laws.Indices.{short-end, integers-end}
+use Rattle.counts.proofs.Laws.Indices.{short-end, integers-end}
 use borrow.Author.Rules.{rules}
 use Rattle.counts.proofs.indices.past_value.Statement.{statement}
 use Rattle.counts.proofs.indices.past_value.Tie as tie

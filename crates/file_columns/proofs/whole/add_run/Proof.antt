@@ -1,7 +1,7 @@
 -- With delta the sums are added, where deltas of 0 leave the result before them (`results-still`); else all results are the value
 -- (`results-plain`).
 use Rattle.std.proofs.Common.{false, replicate, to_z-of_z, w32, SFits, rules}
-use Rattle.steps.specs.Laws.Delta.{results-plain, run-last, results-still, last-still}
+use Rattle.steps.proofs.Laws.Delta.{results-plain, run-last, results-still, last-still}
 use Rattle.file_columns.specs.Laws.Passing.{of_zero}
 use Rattle.file_columns.proofs.whole.add_run.Statement.{statement}
 use Rattle.file_columns.proofs.whole.add_run.Tie as tie

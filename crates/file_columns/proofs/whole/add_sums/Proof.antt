@@ -1,7 +1,7 @@
 -- The sums that are left decide, and bring the tally to the same end (`sums_on`, `sums-off`).
 use Rattle.std.proofs.Common.{◌≡◌, ◌-◌, true, replicate, ℤ, sym, refl, ap, ◌∙◌, subst, arith, to_z-of_z, w32, to_z, of_z, rules}
 use Rattle.steps.specs.Delta.{plus_delta, results_from, last_from}
-use Rattle.steps.specs.Laws.Delta.{last-first}
+use Rattle.steps.proofs.Laws.Delta.{last-first}
 use Rattle.file_columns.specs.Passing.{Sound, Adds}
 use Rattle.file_columns.specs.Laws.Passing.{Onward, onward-start, sums_on, sums-off, sums-end}
 use Rattle.file_columns.proofs.whole.add_sums.Statement.{statement}

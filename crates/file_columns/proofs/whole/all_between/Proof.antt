@@ -4,8 +4,8 @@ use Rattle.numbers.specs.Ranges.{between}
 use Rattle.steps.specs.Payload.{held_in}
 use Rattle.columns.specs.Header.{header_size}
 use Rattle.columns.specs.Table.{elements}
-use Rattle.columns.specs.Laws.Table.{Passes, header-passes}
-use Rattle.columns.specs.Laws.Decode.{decode-refused, decode-good}
+use Rattle.columns.proofs.Laws.Table.{Passes, header-passes}
+use Rattle.columns.proofs.Laws.Decode.{decode-refused, decode-good}
 use Rattle.file_columns.specs.Cells.{cells_pass}
 use Rattle.file_columns.specs.Laws.Passing.{pass-judged}
 use Rattle.file_columns.proofs.whole.all_between.Statement.{statement}

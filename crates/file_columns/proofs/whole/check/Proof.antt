@@ -2,7 +2,7 @@
 -- (`checked-fine`).
 use Rattle.std.proofs.Common.{◌≡◌, ◌-◌, false, length, take, drop, sym, ◌∙◌, rules}
 use Rattle.columns.specs.Header.{header_size}
-use Rattle.columns.specs.Laws.Table.{Passes, header-passes}
+use Rattle.columns.proofs.Laws.Table.{Passes, header-passes}
 use Rattle.payloads.specs.Laws.Judged.{judged-refused, judged-fine}
 use Rattle.file_columns.specs.Field.{other_names}
 use Rattle.file_columns.specs.Laws.Field.{field-other, field-refused, field-good, checked_refused, checked-fine}

@@ -1,7 +1,7 @@
 -- The numbers before the place pass or not, and those from it on decide (`passing-on`).
 use Rattle.std.proofs.Common.{◌-◌, ◌≤◌, Bool, ◌&&◌, length, ap, ◌∙◌, arith, to_z-of_z, w32, to_z, of_z, rules}
 use Rattle.numbers.specs.Ranges.{between}
-use Rattle.steps.specs.Laws.Numbers.{size-pos}
+use Rattle.steps.proofs.Laws.Numbers.{size-pos}
 use Rattle.file_columns.specs.Laws.Passing.{Passing, passing-start, passing-on, passing-end}
 use Rattle.file_columns.proofs.whole.plain_between.Statement.{statement}
 use Rattle.file_columns.proofs.whole.plain_between.Tie as tie

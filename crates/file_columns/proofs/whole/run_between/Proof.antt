@@ -1,6 +1,6 @@
 -- With delta the sums decide; else all results are the value (`results-plain`).
 use Rattle.std.proofs.Common.{false, replicate, to_z-of_z, w32, rules}
-use Rattle.steps.specs.Laws.Delta.{results-plain, run-last}
+use Rattle.steps.proofs.Laws.Delta.{results-plain, run-last}
 use Rattle.file_columns.proofs.whole.run_between.Statement.{statement}
 use Rattle.file_columns.proofs.whole.run_between.Tie as tie
 

@@ -4,7 +4,7 @@ use Rattle.numbers.specs.BigEndian.{signed_at}
 use Rattle.steps.specs.declared.Form.TheVariants.{Plain}
 use Rattle.steps.specs.Width.{width_of}
 use Rattle.steps.specs.Numbers.{numbers_in}
-use Rattle.steps.specs.Laws.Numbers.{size-pos}
+use Rattle.steps.proofs.Laws.Numbers.{size-pos}
 use Rattle.steps.specs.Payload.{read_in}
 use Rattle.file_columns.specs.Passing.{held_sums, Sound, Adds}
 use Rattle.file_columns.specs.Laws.Passing.{sums_after, numbers-all, numbers_on, numbers-off, numbers-none}

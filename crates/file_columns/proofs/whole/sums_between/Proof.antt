@@ -3,7 +3,7 @@ use Rattle.std.proofs.Common.{◌≡◌, ◌-◌, true, ◌&&◌, replicate, ℤ
 use borrow.Author.Tests.{not-true, not-false}
 use Rattle.numbers.specs.Ranges.{all_pass, between, all_between}
 use Rattle.steps.specs.Delta.{plus_delta, results_from}
-use Rattle.steps.specs.Laws.Delta.{results-first, run-last}
+use Rattle.steps.proofs.Laws.Delta.{results-first, run-last}
 use Rattle.file_columns.proofs.whole.sums_between.Statement.{statement}
 use Rattle.file_columns.proofs.whole.sums_between.Tie as tie
 

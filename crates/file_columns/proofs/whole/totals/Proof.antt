@@ -7,8 +7,8 @@ use Rattle.steps.specs.Payload.{read_in}
 use Rattle.columns.specs.declared.Kind.TheVariants.{Int32}
 use Rattle.columns.specs.declared.Wanted.TheVariants.{Only}
 use Rattle.columns.specs.Decode.{decode}
-use Rattle.columns.specs.Laws.Table.{Passes, header-passes, no_names}
-use Rattle.columns.specs.Laws.Decode.{decode-refused, decode-good}
+use Rattle.columns.proofs.Laws.Table.{Passes, header-passes, no_names}
+use Rattle.columns.proofs.Laws.Decode.{decode-refused, decode-good}
 use Rattle.payloads.specs.Laws.Judged.{judged-read}
 use Rattle.file_columns.specs.Cells.{sums_of}
 use Rattle.file_columns.specs.Laws.Passing.{sums-judged, sums-short, hold-true}

@@ -1,7 +1,7 @@
 -- The places of the keys lie within the buffer.
 use mathlib.Core.Path.{sym}
 use lib.Seq.{length-take-le}
-use Rattle.messagepack.specs.Laws.Outer.{keys-within}
+use Rattle.messagepack.proofs.Laws.Outer.{keys-within}
 use borrow.Author.Rules.{rules}
 use Rattle.station.proofs.listing.write_fields.Statement.{statement}
 use Rattle.station.proofs.listing.write_fields.Tie as tie

@@ -2,9 +2,9 @@
 use Rattle.std.proofs.Common.{◌≡◌, ℕ, ◌+◌, ◌-◌, ◌<◌, ◌≤◌, length, get_or, drop, pos, sym, ap, ◌∙◌, div-le_self, arith, to_z-of_z, w32, to_z, of_z, rules}
 use Rattle.steps.specs.Delta.{deltas_if, deltas_from}
 use Rattle.steps.specs.Packing.{pack}
-use Rattle.steps.specs.Laws.Packing.{limits}
-use Rattle.steps.specs.Laws.Delta.{deltas-read, deltas-end}
-use Rattle.steps.specs.Laws.Numbers.{size-pos}
+use Rattle.steps.proofs.Laws.Packing.{limits}
+use Rattle.steps.proofs.Laws.Delta.{deltas-read, deltas-end}
+use Rattle.steps.proofs.Laws.Numbers.{size-pos}
 use Rattle.writers.specs.Laws.Packed.{product-in, length-bytes_for-over, length-bytes_for-in, length-pack-more, length-pack-none, length-pack-deltas}
 use Rattle.writers.proofs.packed.count_numbers.Statement.{statement}
 use Rattle.writers.proofs.packed.count_numbers.Tie as tie

@@ -1,6 +1,6 @@
 -- A value of either sign has a limit for each time that its size reaches it, and the rest.
 use Rattle.std.proofs.Common.{ℕ, ◌+◌, ◌-◌, ◌/◌, sym, ap, ◌∙◌, ap₂, div-le_self, arith, to_z-of_z, w32, of_z, rules}
-use Rattle.steps.specs.Laws.Packing.{limits}
+use Rattle.steps.proofs.Laws.Packing.{limits}
 use Rattle.writers.specs.Laws.Packed.{length-pack_one-up, length-pack_one-down}
 use Rattle.writers.proofs.packed.limits_of_long.Statement.{statement}
 use Rattle.writers.proofs.packed.limits_of_long.Tie as tie

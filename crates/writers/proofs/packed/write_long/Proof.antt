@@ -3,7 +3,7 @@ use Rattle.std.proofs.Common.{◌≡◌, ℕ, ◌+◌, ◌-◌, ◌/◌, ◌%◌
 use Rattle.steps.specs.Width.{upper, lower}
 use Rattle.steps.specs.Numbers.{bytes_for}
 use Rattle.steps.specs.Packing.{pack_one}
-use Rattle.steps.specs.Laws.Packing.{limits}
+use Rattle.steps.proofs.Laws.Packing.{limits}
 use Rattle.writers.specs.Bits.{bits_for}
 use Rattle.writers.specs.Laws.Packed.{bytes-pack_one-up, bytes-pack_one-down}
 use Rattle.writers.proofs.packed.write_long.Statement.{statement}

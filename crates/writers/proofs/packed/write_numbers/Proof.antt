@@ -4,7 +4,7 @@ use Rattle.steps.specs.Width.{upper, lower}
 use Rattle.steps.specs.Numbers.{bytes_for}
 use Rattle.steps.specs.Delta.{deltas_if, delta_if, deltas_from}
 use Rattle.steps.specs.Packing.{pack_one, pack}
-use Rattle.steps.specs.Laws.Delta.{deltas-read, deltas-end}
+use Rattle.steps.proofs.Laws.Delta.{deltas-read, deltas-end}
 use Rattle.writers.specs.Placed.{over}
 use Rattle.writers.specs.Laws.Placed.{ToCome, Parts, come-end, come-room, come-on}
 use Rattle.writers.specs.Bits.{to_write}

@@ -6,9 +6,9 @@ use Rattle.numbers.specs.Laws.BigEndian.{length-bytes_of}
 use Rattle.steps.specs.Width.{size_of}
 use Rattle.steps.specs.Numbers.{bytes_for}
 use Rattle.steps.specs.Packing.{pack}
-use Rattle.steps.specs.Laws.Packing.{limits}
+use Rattle.steps.proofs.Laws.Packing.{limits}
 use Rattle.steps.specs.Delta.{deltas_from}
-use Rattle.steps.specs.Laws.Delta.{deltas-read}
+use Rattle.steps.proofs.Laws.Delta.{deltas-read}
 use Rattle.writers.specs.Placed.{over}
 use Rattle.writers.specs.Laws.Placed.{ToCome, Parts, come-room, come-on}
 use Rattle.writers.specs.Laws.Packed.{bytes-pack-more, bytes-pack_one-short}

@@ -4,7 +4,7 @@ use lib.ListN.{length-map}
 use borrow.Author.Tests.{not-true, not-false}
 use Rattle.steps.specs.declared.Size.TheVariants.{Four}
 use Rattle.steps.specs.declared.Form.TheVariants.{Plain}
-use Rattle.steps.specs.Laws.NumbersBack.{length-bytes_for}
+use Rattle.steps.proofs.Laws.NumbersBack.{length-bytes_for}
 use Rattle.columns.specs.Encode.{payload_of}
 use Rattle.writers.specs.Placed.{over}
 use Rattle.writers.specs.Laws.Placed.{answer-over, answer-in}

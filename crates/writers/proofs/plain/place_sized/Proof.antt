@@ -5,7 +5,7 @@ use borrow.Author.Tests.{not-true, not-false}
 use Rattle.steps.specs.declared.Range.{Range}
 use Rattle.steps.specs.declared.Form.TheVariants.{Plain}
 use Rattle.steps.specs.Payload.{all_in, allowed, range_of}
-use Rattle.steps.specs.Laws.NumbersBack.{length-bytes_for}
+use Rattle.steps.proofs.Laws.NumbersBack.{length-bytes_for}
 use Rattle.columns.specs.Encode.{payload_of}
 use Rattle.writers.specs.Placed.{over}
 use Rattle.writers.specs.Laws.Placed.{answer-refused, answer-over, answer-in}

@@ -6,7 +6,7 @@ use Rattle.numbers.specs.Laws.BigEndian.{length-bytes_of}
 use Rattle.steps.specs.declared.Size.TheVariants.{Four}
 use Rattle.steps.specs.Numbers.{bytes_for}
 use Rattle.writers.specs.Placed.{over}
-use Rattle.steps.specs.Laws.Lists.{map_at, map-end}
+use Rattle.steps.proofs.Laws.Lists.{map_at, map-end}
 use Rattle.writers.specs.Laws.Placed.{ToCome, Parts, come-end, come-room, come-on}
 use Rattle.writers.specs.Laws.Plain.{bytes_for-more, bytes_for-none}
 use Rattle.writers.proofs.plain.write_floats.Statement.{statement}

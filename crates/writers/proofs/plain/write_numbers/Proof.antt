@@ -7,10 +7,10 @@ use Rattle.steps.specs.Width.{size_of}
 use Rattle.steps.specs.Numbers.{bytes_for}
 use Rattle.steps.specs.Payload.{range_of, all_in}
 use Rattle.writers.specs.Placed.{over}
-use Rattle.steps.specs.Laws.Lists.{drop_at, drop-end}
+use Rattle.steps.proofs.Laws.Lists.{drop_at, drop-end}
 use Rattle.writers.specs.Laws.Placed.{ToCome, Parts, come-end, come-room, come-on}
 use Rattle.writers.specs.Laws.Numbers.{bytes_of-narrow}
-use Rattle.steps.specs.Laws.Allowed.{all_split}
+use Rattle.steps.proofs.Laws.Allowed.{all_split}
 use Rattle.writers.specs.Laws.Plain.{mag-held, bytes_for-more, bytes_for-none}
 use Rattle.writers.proofs.plain.write_numbers.Statement.{statement}
 use Rattle.writers.proofs.plain.write_numbers.Tie as tie

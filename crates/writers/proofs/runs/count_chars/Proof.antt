@@ -1,6 +1,6 @@
 -- The loop's invariant: `n` runs are begun, the last with `v`, and the cells from `i` on are still to come.
 use Rattle.std.proofs.Common.{◌-◌, ◌<◌, ◌≤◌, map, length, drop, pos, sym, ap, arith, rules}
-use Rattle.steps.specs.Laws.Lists.{map_at, map-end}
+use Rattle.steps.proofs.Laws.Lists.{map_at, map-end}
 use Rattle.writers.specs.Laws.Runs.{runs_of-none, Counted, counted-first, counted-more, counted-last}
 use Rattle.writers.proofs.runs.count_chars.Statement.{statement}
 use Rattle.writers.proofs.runs.count_chars.Tie as tie

@@ -2,7 +2,7 @@
 use Rattle.std.proofs.Common.{◌≡◌, ◌+◌, ◌-◌, ◌*◌, ◌<◌, ◌≤◌, length, pos, sym, ap, arith, rules}
 use Rattle.steps.specs.Delta.{deltas_if}
 use Rattle.steps.specs.RunLength.{runs_of}
-use Rattle.steps.specs.Laws.Delta.{deltas-end}
+use Rattle.steps.proofs.Laws.Delta.{deltas-end}
 use Rattle.writers.specs.Bits.{cells_after}
 use Rattle.writers.specs.Laws.Runs.{runs_of-none, next-cell, runs-next, column-one, cells-last}
 use Rattle.writers.proofs.runs.count_numbers.Statement.{statement}

@@ -6,7 +6,7 @@ use Rattle.steps.specs.declared.Size.TheVariants.{Four}
 use Rattle.steps.specs.declared.Range.TheVariants.{Ascii}
 use Rattle.steps.specs.declared.Form.TheVariants.{Runs}
 use Rattle.steps.specs.RunLength.{runs_of}
-use Rattle.steps.specs.Laws.NumbersBack.{length-bytes_for}
+use Rattle.steps.proofs.Laws.NumbersBack.{length-bytes_for}
 use Rattle.steps.specs.Payload.{all_in}
 use Rattle.columns.specs.Encode.{payload_of}
 use Rattle.writers.specs.Placed.{over}

@@ -5,7 +5,7 @@ use Rattle.steps.specs.declared.Size.TheVariants.{Four}
 use Rattle.steps.specs.Numbers.{bytes_for}
 use Rattle.steps.specs.RunLength.{runs_from, runs_of}
 use Rattle.writers.specs.Placed.{over}
-use Rattle.steps.specs.Laws.Lists.{map_at, map-end}
+use Rattle.steps.proofs.Laws.Lists.{map_at, map-end}
 use Rattle.writers.specs.Laws.Placed.{over_none, ToCome, Parts, come-end, come-same, come-room, come-on}
 use Rattle.writers.specs.Laws.Numbers.{bytes_for-nil}
 use Rattle.writers.specs.Laws.Runs.{runs_of-none, runs_of-first, length_run, bytes-run-on, bytes-run-over, bytes-run-last}

@@ -5,7 +5,7 @@ use Rattle.steps.specs.declared.Size.TheVariants.{Four}
 use Rattle.steps.specs.Numbers.{bytes_for}
 use Rattle.steps.specs.Delta.{deltas_if, deltas_from}
 use Rattle.steps.specs.RunLength.{runs_from, runs_of}
-use Rattle.steps.specs.Laws.Delta.{deltas-end}
+use Rattle.steps.proofs.Laws.Delta.{deltas-end}
 use Rattle.writers.specs.Placed.{over}
 use Rattle.writers.specs.Laws.Placed.{over_none, ToCome, Parts, come-end, come-same, come-room, come-on}
 use Rattle.writers.specs.Laws.Numbers.{bytes_for-nil, bits-same}
