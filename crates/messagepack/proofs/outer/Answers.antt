@@ -7,7 +7,9 @@ use Rattle.messagepack.proofs.outer.Goals as goal
 pub returns-in_default : goal.returns-in_default
 returns-in_default c =
     let a = c.args in
-    keys-refused a.file.now a.places.now (map-cut a.file.now c.requires.1.0 c.requires.1.1 (sym (c.head_at.ensures.rule c.requires.0) ∙ c.in_default.is)) (lit< tt)
+    let r = keys-refused a.file.now a.places.now (map-cut a.file.now c.requires.1.0 c.requires.1.1 (sym (c.head_at.ensures.rule c.requires.0) ∙ c.in_default.is)) (lit< tt) in
+    record { answer = r.0; places = r.1 }
+
 
 pub hand_over-requires : goal.hand_over-requires
 hand_over-requires c =
@@ -16,8 +18,9 @@ hand_over-requires c =
 pub returns-in-Refused : goal.returns-in-Refused
 returns-in-Refused c =
     let a = c.args in
-    let r = map-refused a.file.now c.requires.1.0 c.requires.1.1 (sym c.value.ensures.walked.answer ∙ c.in-Refused.is) in
-    keys-refused a.file.now a.places.now r.0 r.1
+    let m = map-refused a.file.now c.requires.1.0 c.requires.1.1 (sym c.value.ensures.walked.answer ∙ c.in-Refused.is) in
+    let r = keys-refused a.file.now a.places.now m.0 m.1 in
+    record { answer = r.0; places = r.1 }
 
 pub returns-then-p-file : goal.returns-then-p-file
 returns-then-p-file c =
@@ -30,4 +33,5 @@ returns-then-p-file c =
 pub returns-else-p-file : goal.returns-else-p-file
 returns-else-p-file c =
     let a = c.args in
-    keys-refused a.file.now a.places.now (map-after a.file.now c.requires.1.0 c.requires.1.1 (sym c.value.ensures.walked.answer ∙ c.in-End.is) c.if-p-file.false) (lit< tt)
+    let r = keys-refused a.file.now a.places.now (map-after a.file.now c.requires.1.0 c.requires.1.1 (sym c.value.ensures.walked.answer ∙ c.in-End.is) c.if-p-file.false) (lit< tt) in
+    record { answer = r.0; places = r.1 }

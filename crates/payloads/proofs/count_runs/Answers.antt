@@ -16,8 +16,8 @@ use Rattle.payloads.proofs.count_runs.Tie as tie
 use Rattle.payloads.proofs.count_runs.Goals as goal
 
 -- the run that was read
-read : (c : lts.After-count tie.the-claims reads.Pre reads.Post goal.the-invariant-loop-count goal.the-decreases-loop-count) → Gives (Runs c.args.range) c.args.payload.now c.loop-count.at (Run c.in-Run.field-0 c.in-Run.count c.in-Run.next)
-read c = item-read (Runs c.args.range) c.args.payload.now c.loop-count.at c.run_item.ensures c.in-Run.is
+read : (c : lts.After-count tie.the-claims reads.Pre reads.Post goal.the-invariant-loop-count goal.the-decreases-loop-count) → Gives (Runs c.args.range) c.args.payload.now c.loop-count.at (Run c.count-1.given.0.0 c.count-1.given.0.1.0 c.count-1.given.0.1.1.0)
+read c = item-read (Runs c.args.range) c.args.payload.now c.loop-count.at c.run_item.ensures c.count-1.given.1
 
 -- whether the results are exact is not told
 same : (b ok : Bool) → outcome_refusal (cond b (Refused length_differs) (Fine false)) ≡ outcome_refusal (cond b (Refused length_differs) (Fine ok))
@@ -34,9 +34,8 @@ pub loop-count-preserved : goal.loop-count-preserved
 loop-count-preserved c =
     let a = c.args in
     let p = c.loop-count in
-    let k = c.count-1.given.0 in
     let g = read c.before.before.before.before in
-    (g.1, p.invariant.1 && exact k.0, rw (c.less-left.ensures, c.either-over.ensures) (kept_run a.range false a.length a.payload.now p.at p.left p.over p.invariant.1 p.invariant.2 k.0 k.1.0 k.1.1.0 g.2 g.3))
+    (g.1, p.invariant.1 && exact c.in-Run.field-0, rw (c.less-left.ensures, c.either-over.ensures) (kept_run a.range false a.length a.payload.now p.at p.left p.over p.invariant.1 p.invariant.2 c.in-Run.field-0 c.in-Run.count c.in-Run.next g.2 g.3))
 
 pub returns-in-Wrong : goal.returns-in-Wrong
 returns-in-Wrong c =

@@ -14,7 +14,7 @@ returns-then-less-exact_limits c e r =
     let l = ap (λ (n : ℕ). n - a.length) (sym c.count_of-count.ensures) ∙ sym c.less.ensures in
     let k = c.exact_limits.ensures in
     let h : count_in (packed_size a.two) a.payload.now - a.length ≤ exact_limits a.two = omega (arith, c.if-less-exact_limits.true) in
-    few-judged a.two _ a.payload.now a.length refl r.before h
+    few-judged a.two _ a.payload.now a.length refl r h
 
 pub returns : goal.returns
 returns c e r =
@@ -22,4 +22,4 @@ returns c e r =
     let w = count-within (packed_size a.two) (length a.payload.now) in
     let h : size_of (packed_size a.two) * c.count_of-count.result ≤ length a.payload.now = rw c.count_of-count.ensures w.0 in
     let g : length a.payload.now - size_of (packed_size a.two) * c.count_of-count.result < size_of (packed_size a.two) = rw c.count_of-count.ensures w.1 in
-    rows-judged a.two _ a.length a.payload.now c.count_of-count.result h g refl (c.has_row.ensures (not-true _ e)) r.before
+    rows-judged a.two _ a.length a.payload.now c.count_of-count.result h g refl (c.has_row.ensures (not-true _ e)) r

@@ -11,8 +11,8 @@ use Rattle.payloads.proofs.scan_runs.Tie as tie
 use Rattle.payloads.proofs.scan_runs.Goals as goal
 
 -- the run that was read
-read : (c : lts.After-value tie.the-claims reads.Pre reads.Post goal.the-invariant-loop-value goal.the-decreases-loop-value) → Gives (Runs c.args.range) c.args.payload.now c.loop-value.at (Run c.in-Run.value c.in-Run.count c.in-Run.next)
-read c = item-read (Runs c.args.range) c.args.payload.now c.loop-value.at c.run_item.ensures c.in-Run.is
+read : (c : lts.After-value tie.the-claims reads.Pre reads.Post goal.the-invariant-loop-value goal.the-decreases-loop-value) → Gives (Runs c.args.range) c.args.payload.now c.loop-value.at (Run c.value-1.given.0.0 c.value-1.given.0.1.0 c.value-1.given.0.1.1.0)
+read c = item-read (Runs c.args.range) c.args.payload.now c.loop-value.at c.run_item.ensures c.value-1.given.1
 
 pub loop-value-init : goal.loop-value-init
 loop-value-init c = let a = c.args in (omega arith, kept-start a.range a.delta a.length a.payload.now)
@@ -24,11 +24,10 @@ pub loop-value-preserved : goal.loop-value-preserved
 loop-value-preserved c =
     let a = c.args in
     let p = c.loop-value in
-    let k = c.value-1.given.0 in
     let g = read c.before.before.before.before.before.before in
-    let v = to_z-of_z {w = w32} {z = k.0} (record { sfits = c.known_told-1.given.0.1 }) in
+    let v = to_z-of_z {w = w32} {z = c.in-Run.value} (record { sfits = c.known_told-1.given.0.1 }) in
     let e = c.both-exact.ensures ∙ ap (λ (t : Bool). p.exact && t) (c.is_exact.ensures ∙ ap exact v) in
-    (g.1, rw (c.less-left.ensures, c.either-over.ensures, e) (kept_run a.range a.delta a.length a.payload.now p.at p.left p.over p.exact p.invariant.1 k.0 k.1.0 k.1.1.0 g.2 g.3))
+    (g.1, rw (c.less-left.ensures, c.either-over.ensures, e) (kept_run a.range a.delta a.length a.payload.now p.at p.left p.over p.exact p.invariant.1 c.in-Run.value c.in-Run.count c.in-Run.next g.2 g.3))
 
 pub returns-in-Wrong : goal.returns-in-Wrong
 returns-in-Wrong c =

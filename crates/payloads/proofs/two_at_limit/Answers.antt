@@ -7,7 +7,7 @@ use Rattle.payloads.proofs.two_at_limit.Tie as tie
 use Rattle.payloads.proofs.two_at_limit.Goals as goal
 
 -- the bits, moved
-moved : (c : lts.After-wrapping_add_u16 tie.the-claims reads.Pre reads.Post) → (c.u8_to_u16.result * 256 + c.u8_to_u16-2.result + 129) % 65536 ≡ c.wrapping_add_u16-moved.result
+moved : (c : lts.After-wrapping_add_u16 tie.the-claims reads.Pre reads.Post tie.handed_clauses) → (c.u8_to_u16.result * 256 + c.u8_to_u16-2.result + 129) % 65536 ≡ c.wrapping_add_u16-moved.result
 moved c = sym c.wrapping_add_u16-moved.ensures.value
 
 pub returns-then-moved-eq0 : goal.returns-then-moved-eq0
@@ -15,18 +15,18 @@ returns-then-moved-eq0 c =
     let a = c.args in
     let x = c.u8_to_u16-2 in
     let y = c.u8_to_u16 in
-    sym (limit-upper a.payload.now a.at c.requires x.result y.result (sym x.ensures.0) (sym y.ensures.0) x.ensures.1 y.ensures.1 (moved c.before.before ∙ c.if-moved-eq0.true))
+    sym (limit-upper a.payload.now a.at c.requires x.result y.result (sym x.ensures.is) (sym y.ensures.is) x.ensures.bound y.ensures.bound (moved c.before.before ∙ c.if-moved-eq0.true))
 
 pub returns-then-moved-eq257 : goal.returns-then-moved-eq257
 returns-then-moved-eq257 c =
     let a = c.args in
     let x = c.u8_to_u16-2 in
     let y = c.u8_to_u16 in
-    sym (limit-lower a.payload.now a.at c.requires x.result y.result (sym x.ensures.0) (sym y.ensures.0) x.ensures.1 y.ensures.1 (moved c.before.before.before ∙ c.if-moved-eq257.true))
+    sym (limit-lower a.payload.now a.at c.requires x.result y.result (sym x.ensures.is) (sym y.ensures.is) x.ensures.bound y.ensures.bound (moved c.before.before.before ∙ c.if-moved-eq257.true))
 
 pub returns-else-moved-eq257 : goal.returns-else-moved-eq257
 returns-else-moved-eq257 c =
     let a = c.args in
     let x = c.u8_to_u16-2 in
     let y = c.u8_to_u16 in
-    sym (limit-none a.payload.now a.at c.requires x.result y.result (sym x.ensures.0) (sym y.ensures.0) x.ensures.1 y.ensures.1 (λ e. c.if-moved-eq0.false (sym (moved c.before.before.before) ∙ e)) (λ e. c.if-moved-eq257.false (sym (moved c.before.before.before) ∙ e)))
+    sym (limit-none a.payload.now a.at c.requires x.result y.result (sym x.ensures.is) (sym y.ensures.is) x.ensures.bound y.ensures.bound (λ e. c.if-moved-eq0.false (sym (moved c.before.before.before) ∙ e)) (λ e. c.if-moved-eq257.false (sym (moved c.before.before.before) ∙ e)))
