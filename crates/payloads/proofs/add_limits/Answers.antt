@@ -1,5 +1,5 @@
 -- Each turn adds one number: 1 if it is a limit.
-use Rattle.std.proofs.Common.{◌≡◌, ◌+◌, ◌-◌, refl, ap, ◌∙◌, arith}
+use Rattle.std.proofs.Common.{◌≡◌, ◌+◌, refl, ap, ◌∙◌, arith}
 use Rattle.payloads.specs.Limits.{packed_size, limits_in, limit_at}
 use Rattle.payloads.specs.Laws.Limits.{limits-few, limits-more}
 use Rattle.payloads.proofs.add_limits.Lts as lts

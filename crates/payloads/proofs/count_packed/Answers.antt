@@ -1,6 +1,6 @@
 -- Where no row of limits is long every sum is inside 32 bits, so that each other number ends a result (`limits-other`, `limits-all`);
 -- else the other loop does the work.
-use Rattle.std.proofs.Common.{ℕ, ◌-◌, ◌*◌, ◌<◌, ◌≤◌, false, length, sym, ap, ◌∙◌, arith}
+use Rattle.std.proofs.Common.{ℕ, ◌-◌, ◌*◌, ◌<◌, ◌≤◌, length, sym, ap, ◌∙◌, arith}
 use Rattle.steps.specs.Width.{size_of}
 use Rattle.payloads.specs.Limits.{packed_size}
 use Rattle.payloads.specs.Laws.Limits.{count-within, limits-few, limits-unfinished, limits-other, limits-all}

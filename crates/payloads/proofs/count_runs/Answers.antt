@@ -1,23 +1,15 @@
 -- What is kept of the runs before the place (`kept_run`) says the refusal at the end (`kept-end`).
-use Rattle.std.proofs.Common.{◌≡◌, ◌-◌, Bool, true, false, cond, not, ◌&&◌, ◌||◌, eqb, length, refl, ap, ◌∙◌, arith}
+use Rattle.std.proofs.Common.{◌≡◌, Bool, true, false, cond, not, ◌&&◌, ◌||◌, eqb, refl, ap, ◌∙◌, arith}
 use Rattle.refusal.specs.Table.{length_differs}
 use Rattle.steps.specs.declared.Form.TheVariants.{Runs}
 use Rattle.steps.specs.Payload.{read_in}
 use Rattle.payloads.specs.Exact.{exact}
-use Rattle.payloads.specs.declared.Item.TheVariants.{Run}
 use Rattle.payloads.specs.declared.Outcome.TheVariants.{Fine, Refused}
 use Rattle.payloads.specs.Items.{outcome_refusal}
-use Rattle.payloads.specs.Laws.Items.{Gives, item-read}
+use Rattle.payloads.specs.Laws.Items.{item-read}
 use Rattle.payloads.specs.Laws.Scan.{kept-start, kept_run, kept-wrong, kept-end}
 use Rattle.payloads.specs.Laws.Refusal.{outcome-scan}
-use Rattle.payloads.proofs.count_runs.Lts as lts
-use Rattle.payloads.proofs.count_runs.Reads as reads
-use Rattle.payloads.proofs.count_runs.Tie as tie
 use Rattle.payloads.proofs.count_runs.Goals as goal
-
--- the run that was read
-read : (c : lts.After-count tie.the-claims reads.Pre reads.Post goal.the-invariant-loop-count goal.the-decreases-loop-count) → Gives (Runs c.args.range) c.args.payload.now c.loop-count.at (Run c.count-1.given.0.0 c.count-1.given.0.1.0 c.count-1.given.0.1.1.0)
-read c = item-read (Runs c.args.range) c.args.payload.now c.loop-count.at c.run_item.ensures c.count-1.given.1
 
 -- whether the results are exact is not told
 same : (b ok : Bool) → outcome_refusal (cond b (Refused length_differs) (Fine false)) ≡ outcome_refusal (cond b (Refused length_differs) (Fine ok))
@@ -28,13 +20,13 @@ pub loop-count-init : goal.loop-count-init
 loop-count-init c = let a = c.args in (omega arith, true, kept-start a.range false a.length a.payload.now)
 
 pub loop-count-smaller : goal.loop-count-smaller
-loop-count-smaller c = let g = read c.before.before.before.before in omega (arith, g.0, g.1)
+loop-count-smaller c = let g = item-read (Runs c.args.range) c.args.payload.now c.loop-count.at c.run_item.ensures c.in-Run.is in omega (arith, g.0, g.1)
 
 pub loop-count-preserved : goal.loop-count-preserved
 loop-count-preserved c =
     let a = c.args in
     let p = c.loop-count in
-    let g = read c.before.before.before.before in
+    let g = item-read (Runs c.args.range) c.args.payload.now c.loop-count.at c.run_item.ensures c.in-Run.is in
     (g.1, p.invariant.1 && exact c.in-Run.field-0, rw (c.less-left.ensures, c.either-over.ensures) (kept_run a.range false a.length a.payload.now p.at p.left p.over p.invariant.1 p.invariant.2 c.in-Run.field-0 c.in-Run.count c.in-Run.next g.2 g.3))
 
 pub returns-in-Wrong : goal.returns-in-Wrong

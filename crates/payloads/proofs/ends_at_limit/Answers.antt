@@ -1,5 +1,5 @@
 -- The last number is the one whose limit is asked for; of no numbers there is none.
-use Rattle.std.proofs.Common.{ℕ, ◌-◌, ℤ, sym, ◌∙◌, ap₂, to_z-of_z, w32}
+use Rattle.std.proofs.Common.{ℕ, ℤ, sym, ◌∙◌, ap₂, to_z-of_z, w32}
 use Rattle.numbers.specs.BigEndian.{signed_at}
 use Rattle.steps.specs.declared.Size.{Size}
 use Rattle.steps.specs.Width.{width_of, upper, lower}

@@ -1,5 +1,5 @@
 -- Where each block has a number that is no limit, no row of limits is long (`broken-more`, `broken-rows`).
-use Rattle.std.proofs.Common.{ℕ, ◌-◌, ap, ◌∙◌, arith}
+use Rattle.std.proofs.Common.{ℕ, ap, ◌∙◌, arith}
 use Rattle.payloads.specs.Limits.{packed_size, limits_in}
 use Rattle.payloads.specs.Laws.Limits.{broken-start, broken-more, broken-rows}
 use Rattle.payloads.proofs.has_row.Goals as goal

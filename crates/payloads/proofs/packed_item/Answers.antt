@@ -1,5 +1,5 @@
 -- The packed result from here, with the sum so far, is the one from the item's start.
-use Rattle.std.proofs.Common.{◌≡◌, ◌+◌, ◌-◌, ◌≤◌, Bool, true, cond, ltb, length, pos, sym, ap, ◌∙◌, arith, to_z-of_z, w32, to_z, le-ltb, lt-ltb}
+use Rattle.std.proofs.Common.{◌≡◌, ◌+◌, ◌≤◌, Bool, true, cond, ltb, length, pos, sym, ap, ◌∙◌, arith, to_z-of_z, w32, to_z, le-ltb, lt-ltb}
 use Rattle.steps.specs.declared.Form.TheVariants.{Packed}
 use Rattle.steps.specs.declared.Turn.{Turn}
 use Rattle.steps.specs.Width.{size_of}
@@ -24,8 +24,8 @@ turned c =
     let a = c.args in
     let p = c.loop-i in
     let q = to_z-of_z {w = w32} (record { sfits = c.number_at-number.type_inv }) ∙ c.number_at-number.ensures in
-    let e = c.unpack_one.ensures ∙ ap (turn_of a.size (to_z w32 p.sum)) q in
-    sym p.invariant.2 ∙ result-turn a.size a.payload.now (to_z w32 p.sum) (ltb a.at p.i) p.i (room c)
+    let e = c.unpack_one.ensures ∙ ap (turn_of a.size (to_z w32 p.sum-bits)) q in
+    sym p.invariant.2 ∙ result-turn a.size a.payload.now (to_z w32 p.sum-bits) (ltb a.at p.i) p.i (room c)
     ∙ ap (λ (t : Turn). next a.size t a.payload.now (p.i + size_of a.size)) (sym e)
 
 -- where too few bytes are left, a result that has begun is unfinished
@@ -33,7 +33,7 @@ ended : (c : lts.After-loop tie.the-claims reads.Pre reads.Post goal.the-invaria
 ended c =
     let a = c.args in
     let p = c.loop-i in
-    sym p.invariant.2 ∙ result-end a.size a.payload.now (to_z w32 p.sum) (ltb a.at p.i) p.i (omega (arith, c.bytes-k.ensures))
+    sym p.invariant.2 ∙ result-end a.size a.payload.now (to_z w32 p.sum-bits) (ltb a.at p.i) p.i (omega (arith, c.bytes-k.ensures))
 
 pub loop-i-init : goal.loop-i-init
 loop-i-init c =
@@ -42,27 +42,27 @@ loop-i-init c =
 
 pub returns-in-Done : goal.returns-in-Done
 returns-in-Done c =
-    let k = c.before.before.before.before in
+    let k = c.before.before in
     let a = k.args in
     let e = k.bytes-k.ensures in
     let o = size-pos a.size in
-    let z = to_z-of_z {w = w32} {z = c.in-Done.s} (record { sfits = c.known_told-in-Done-1.given.0.1 }) in
+    let z = to_z-of_z {w = w32} {z = c.in-Done.s} (record { sfits = omega arith }) in
     let t = turned k ∙ ap (λ (t : Turn). next a.size t a.payload.now (k.loop-i.i + size_of a.size)) c.in-Done.is in
     rw (e, z) (sym t)
 
 pub returns-in-Wrong : goal.returns-in-Wrong
 returns-in-Wrong c =
-    let k = c.before.before.before in
+    let k = c.before.before in
     let a = k.args in
     sym (turned k ∙ ap (λ (t : Turn). next a.size t a.payload.now (k.loop-i.i + size_of a.size)) c.in-Wrong.is)
 
 pub loop-i-preserved : goal.loop-i-preserved
 loop-i-preserved c =
-    let k = c.before.before.before.before in
+    let k = c.before.before in
     let a = k.args in
     let e = k.bytes-k.ensures in
     let o = size-pos a.size in
-    let z = to_z-of_z {w = w32} {z = c.in-More.s} (record { sfits = c.known_told-1.given.0.1 }) in
+    let z = to_z-of_z {w = w32} {z = c.in-More.s} (record { sfits = omega arith }) in
     let l : ltb a.at (k.loop-i.i + size_of a.size) ≡ true = lt-ltb a.at (k.loop-i.i + size_of a.size) (omega arith) in
     let t = turned k ∙ ap (λ (t : Turn). next a.size t a.payload.now (k.loop-i.i + size_of a.size)) c.in-More.is in
     (omega arith, omega arith, rw (e, z, l) (sym t))

@@ -1,6 +1,5 @@
 -- The results that are done, and the sum of one that has begun, stand for the numbers before the place (`unpacked-more`, `unpacked-done`).
 use Rattle.std.proofs.Common.{◌-◌, ◌≤◌, length}
-use Rattle.payloads.specs.Exact.{exact}
 use Rattle.payloads.specs.Laws.Packed.{Unpacked}
 use Rattle.payloads.proofs.scan_packed.Given as goal
 

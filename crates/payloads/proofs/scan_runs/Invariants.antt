@@ -1,6 +1,5 @@
 -- What is kept of the runs before the place (`kept_run`) says the answer at the end (`kept-end`).
 use Rattle.std.proofs.Common.{◌-◌, ◌≤◌, length}
-use Rattle.payloads.specs.Exact.{exact}
 use Rattle.payloads.specs.Laws.Scan.{Kept}
 use Rattle.payloads.proofs.scan_runs.Given as goal
 
