@@ -24,7 +24,7 @@ decreases-typed_at l = 4 * l.depth
 abbrev pub invariant-entries_typed-loop-left : goal.invariant-entries_typed-loop-left
 invariant-entries_typed-loop-left l =
     (r : ℕ) → EntriesSay l.leads l.file (rows_from (type_of l.depth) l.n l.first) l.seen l.left l.p r
-        → EntriesSay l.leads l.file (rows_from (type_of l.depth) l.n l.first) 0 l.count l.at r
+    → EntriesSay l.leads l.file (rows_from (type_of l.depth) l.n l.first) 0 l.count l.at r
 
 abbrev pub decreases-entries_typed-loop-left : goal.decreases-entries_typed-loop-left
 decreases-entries_typed-loop-left l = l.left

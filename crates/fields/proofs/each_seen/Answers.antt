@@ -1,6 +1,6 @@
 -- The required rows before i are in the set, so what is left from i on decides.
 use mathlib.Core.Path.{sym, ap, ◌∙◌}
-use Prim.Native.Nat.{ℕ, ◌-◌}
+use Prim.Native.Nat.{ℕ}
 use native.Mathlib.Omega.{arith}
 use Rattle.fields.specs.Numbers.{lacking}
 use Rattle.fields.specs.Laws.Numbers.{covered_next, covered-not, covered_none}

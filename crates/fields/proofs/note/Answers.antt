@@ -1,6 +1,5 @@
 -- What is noted in the end, from here on with what is noted so far, is what is noted of all entries.
 use mathlib.Core.Path.{ap, ◌∙◌}
-use mathlib.Core.Bool.{true}
 use Prim.Native.Nat.{◌+◌}
 use lib.Dec.{lit<}
 use lib.ListN.{length, length-set}

@@ -82,11 +82,14 @@ pub element-returns-in-Refused : goal.element-returns-in-Refused
 element-returns-in-Refused t c = unchanged c.requires (leaf-refuses _ _ _ (sym c.leaf_at.ensures ∙ c.in-Refused.is))
 
 pub map-returns-then-n-gt-ENTRY_LIMIT : goal.map-returns-then-n-gt-ENTRY_LIMIT
-map-returns-then-n-gt-ENTRY_LIMIT t c = record { walked = record {
+map-returns-then-n-gt-ENTRY_LIMIT t c = record {
+  walked = record {
     answer = sym (w.entries-many _ _ _ _ c.if-n-gt-ENTRY_LIMIT.true);
     starts-kept = kept-all _ c.requires.starts-long;
     prints-kept = kept-all _ c.requires.prints-long;
-  }; noted = entries-unnoted }
+  };
+  noted = entries-unnoted;
+}
 
 pub map-loop-row-init : goal.map-loop-row-init
 map-loop-row-init t c = going-first c.requires c.if-n-gt-ENTRY_LIMIT.false
@@ -157,8 +160,11 @@ value-returns-in-At t c =
     record { walked = walked-in (omega arith) (w.array_at _ _ _ pos kind (sym (c.head_at.ensures.rule c.requires.table) ∙ c.in-At.is)) (walked_more c.array.ensures); noted = no-map Kind.Array refl kind }
 
 pub value-returns-in-Cut-head_at : goal.value-returns-in-Cut-head_at
-value-returns-in-Cut-head_at t c = record { walked = unchanged c.requires
-      (sym (w.map-cut _ _ _ (pos_of_ne-zero c.if-depth-eq0-2.false) (sym (c.kind_at.ensures.rule c.requires.table) ∙ c.in-Map.is) (sym (c.head_at-in-Map.ensures.rule c.requires.table) ∙ c.in-Cut-head_at.is))); noted = value-unnoted }
+value-returns-in-Cut-head_at t c = record {
+  walked = unchanged c.requires
+      (sym (w.map-cut _ _ _ (pos_of_ne-zero c.if-depth-eq0-2.false) (sym (c.kind_at.ensures.rule c.requires.table) ∙ c.in-Map.is) (sym (c.head_at-in-Map.ensures.rule c.requires.table) ∙ c.in-Cut-head_at.is)));
+  noted = value-unnoted;
+}
 
 pub value-returns-in-At-head_at : goal.value-returns-in-At-head_at
 value-returns-in-At-head_at t c =

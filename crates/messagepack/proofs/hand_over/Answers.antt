@@ -1,5 +1,5 @@
 -- The rows that are copied stand before what is left of the buffer.
-use Rattle.std.proofs.Common.{◌≡◌, ℕ, ◌+◌, ◌-◌, ◌*◌, ◌≤◌, List, length, get_or, drop, set, sym, ap, ◌∙◌, arith, length-drop, length-set, get_or-drop}
+use Rattle.std.proofs.Common.{◌≡◌, ℕ, ◌+◌, ◌*◌, ◌≤◌, List, length, get_or, drop, set, sym, ap, ◌∙◌, arith, length-drop, length-set, get_or-drop}
 use Rattle.messagepack.specs.Limits.{entry_limit}
 use Rattle.messagepack.specs.Outer.{outer_levels}
 use Rattle.messagepack.specs.Keys.{table_length}

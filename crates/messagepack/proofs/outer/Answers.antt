@@ -10,7 +10,6 @@ returns-in_default c =
     let r = keys-refused a.file.now a.places.now (map-cut a.file.now c.requires.1.0 c.requires.1.1 (sym (c.head_at.ensures.rule c.requires.0) ∙ c.in_default.is)) (lit< tt) in
     record { answer = r.0; places = r.1 }
 
-
 pub hand_over-requires : goal.hand_over-requires
 hand_over-requires c =
     (c.value.ensures.walked.starts-kept.long, (c.value.ensures.noted.says _ _ _ c.requires.1.1 (sym (c.head_at.ensures.rule c.requires.0) ∙ c.in-At.is) c.in-End.is).few)

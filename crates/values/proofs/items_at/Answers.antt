@@ -18,11 +18,15 @@ returns-in_default c = record { inside = omega arith; table = by-cut _ _ _ no_pa
 pub returns-in-Array : goal.returns-in-Array
 returns-in-Array c =
     let v = c.values_from in
-    record { inside = rw v.ensures (items-inside _ _ _); table = v.ensures ∙ by-head _ _ _ no_part (head_items _) c.head_at.ensures.table c.in-At.is c.kind_at.ensures.table c.in-Array.is; says = λ t x e a.
-            let h = sym (c.head_at.ensures.rule t) ∙ c.in-At.is in
-            let i = read-items x a h (sym (c.kind_at.ensures.rule t) ∙ c.in-Array.is) in
-            let l = all-inside (items_of x) (head-inside _ _ h).1 i.all in
-            subst (ItemsAt _ x) (sym (v.ensures ∙ items-part _ _ _ (omega (arith, i.counts)))) i }
+    record {
+      inside = rw v.ensures (items-inside _ _ _);
+      table = v.ensures ∙ by-head _ _ _ no_part (head_items _) c.head_at.ensures.table c.in-At.is c.kind_at.ensures.table c.in-Array.is;
+      says = λ t x e a.
+          let h = sym (c.head_at.ensures.rule t) ∙ c.in-At.is in
+          let i = read-items x a h (sym (c.kind_at.ensures.rule t) ∙ c.in-Array.is) in
+          let l = all-inside (items_of x) (head-inside _ _ h).1 i.all in
+          subst (ItemsAt _ x) (sym (v.ensures ∙ items-part _ _ _ (omega (arith, i.counts)))) i;
+    }
 
 pub returns-in_default-kind_at : goal.returns-in_default-kind_at
 returns-in_default-kind_at c =

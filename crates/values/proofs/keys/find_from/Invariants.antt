@@ -1,5 +1,4 @@
 -- The name is that of the entry at hand, or it is sought among those that are left.
-use Prim.Native.Nat.{◌-◌}
 use Rattle.values.specs.Seeking.{Seeking}
 use Rattle.values.specs.Laws.Seeking.{Left}
 use Rattle.values.specs.Walked.{WalkedEntries}

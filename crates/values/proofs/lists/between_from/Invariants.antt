@@ -1,5 +1,4 @@
 -- What is left of the values decides, since those before lie between the two numbers.
-use Prim.Native.Nat.{◌-◌}
 use Rattle.numbers.specs.Ranges.{between}
 use Rattle.values.specs.Laws.Integers.{Judging}
 use Rattle.values.specs.Walked.{WalkedAll}

@@ -1,6 +1,5 @@
 -- Indices lie between 0 and the last of them.
 use mathlib.Core.Path.{sym, ap, ◌∙◌}
-use Prim.Native.Nat.{◌-◌}
 use mir.Syntax.{w32}
 use mir.Facts.{to_z-of_z}
 use Rattle.numbers.specs.Ranges.{all_between, all_below}

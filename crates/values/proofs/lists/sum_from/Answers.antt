@@ -1,6 +1,5 @@
 -- What is left of the values gives the rest of the sum; a file has no more values than bytes, so that the sum has room.
 use mathlib.Core.Path.{◌∙◌}
-use Prim.Native.Nat.{◌-◌}
 use native.Mathlib.Omega.{arith}
 use mir.Syntax.{w32}
 use mir.Val.{to_z, of_z}
