@@ -2,7 +2,6 @@
 -- bonds for those outside the group types. No reader, no place and no lemma stands here. Assumes nothing.
 use Rattle.std.specs.Prelude.{Bool, true, false, cond, ◌&&◌, List, [], ◌∷◌, ℕ, ◌*◌, ◌/◌, ◌%◌, eqb, ℤ, pos, length}
 use Rattle.std.proofs.Math.Option.{Option, some, none as nothing}
-use Prim.Native.String as Text
 use Rattle.refusal.specs.Table.{accepted, counts_disagree, index_outside, value_outside}
 use Rattle.refusal.specs.First.{or_else}
 use Rattle.numbers.specs.Ranges.{all_between, all_below}

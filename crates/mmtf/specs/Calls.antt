@@ -2,8 +2,6 @@
 use Rattle.std.specs.Prelude.{cond, List, ℕ, length, eqb, ℤ, pos, Float}
 use Rattle.std.specs.Int.{w32}
 use Rattle.std.proofs.Common.{of_z, to_z}
-use Rattle.refusal.specs.declared.Answer.{Answer}
-use Rattle.refusal.specs.declared.Answer.TheVariants as answer
 use Rattle.refusal.specs.Table.{accepted}
 use Rattle.refusal.specs.Answer.{answer_number, answer_count}
 use Rattle.views.specs.declared.Place.{Place}

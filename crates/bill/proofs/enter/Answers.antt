@@ -1,5 +1,5 @@
 -- The receipts before a place are entered; the next one is, or entering stops there. Assumes nothing.
-use Rattle.std.proofs.Common.{◌≡◌, ℕ, ◌+◌, ◌-◌, ◌≤◌, true, false, ltb, length, get_or, drop, sym, ap, ◌∙◌, subst, arith, length-drop, le-ltb, lt-ltb}
+use Rattle.std.proofs.Common.{◌≡◌, ℕ, ◌+◌, ◌≤◌, true, false, ltb, length, get_or, drop, sym, ap, ◌∙◌, subst, arith, length-drop, le-ltb, lt-ltb}
 use Rattle.receipt.specs.declared.Found.TheVariants.{At}
 use Rattle.receipt.specs.Reading.{found_at}
 use Rattle.receipt.specs.Laws.Found.{found_none}

@@ -1,5 +1,5 @@
 -- What is counted and what is left give the size. Assumes nothing.
-use Rattle.std.proofs.Common.{◌≡◌, ℕ, ◌+◌, ◌-◌, length, get_or, ap, ◌∙◌, arith, length-append}
+use Rattle.std.proofs.Common.{◌≡◌, ℕ, ◌+◌, length, get_or, ap, ◌∙◌, arith, length-append}
 use Rattle.bill.specs.Steps.{ledger_entry}
 use Rattle.bill.specs.Laws.Entries.{text_left, text-first, text-next, text-none, entry-few}
 use Rattle.bill.proofs.entries_size.Goals as goal

@@ -1,5 +1,5 @@
 -- The entries before a station are put, and the rest is left. Assumes nothing.
-use Rattle.std.proofs.Common.{◌≡◌, ◌-◌, get_or, sym, ap₂, arith}
+use Rattle.std.proofs.Common.{◌≡◌, get_or, sym, ap₂, arith}
 use Rattle.text.specs.Laws.Put.{put_as}
 use Rattle.bill.specs.Steps.{ledger_entry}
 use Rattle.bill.specs.Laws.Entries.{putting-none, putting-one, putting-all}

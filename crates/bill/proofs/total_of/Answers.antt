@@ -1,5 +1,5 @@
 -- What is added and what is left give the total. Assumes nothing.
-use Rattle.std.proofs.Common.{◌≡◌, ℕ, ◌+◌, ◌-◌, ◌%◌, ◌<◌, sym, ap, ◌∙◌, subst, mod-lt, mod-eq_of_lt, arith}
+use Rattle.std.proofs.Common.{◌≡◌, ℕ, ◌+◌, ◌%◌, ◌<◌, sym, ap, ◌∙◌, subst, mod-lt, mod-eq_of_lt, arith}
 use Rattle.bill.specs.Ledger.{ledger_total}
 use Rattle.bill.specs.Laws.Entries.{stations_left, total_first, total-next, total-none}
 use Rattle.bill.proofs.total_of.Goals as goal

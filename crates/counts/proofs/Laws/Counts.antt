@@ -1,6 +1,6 @@
 -- The number of the counts is 0 exactly when every rule of "Counts that must agree" holds, and at most 23.
 -- Assumes nothing.
-use Rattle.std.specs.Prelude.{◌≡◌, refl, List, [], ◌∷◌, ◌↔◌, ℕ, ◌≤◌, ◌<◌}
+use Rattle.std.specs.Prelude.{◌≡◌, refl, List, [], ◌∷◌, ◌↔◌, ℕ, ◌≤◌}
 use Rattle.std.proofs.Common.{lit<, lit≤}
 use Rattle.refusal.specs.Table.{accepted, counts_disagree, index_outside, value_outside, too_many_group_types}
 use Rattle.refusal.specs.First.{unless, first}

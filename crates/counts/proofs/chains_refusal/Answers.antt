@@ -1,6 +1,5 @@
 -- Each test is one of rules 2 and 3.
 use mathlib.Core.Path.{refl, sym, ◌∙◌}
-use Prim.Native.Nat.{◌-◌}
 use Rattle.text.specs.Equal.{equal}
 use Rattle.fields.specs.Table.{named}
 use Rattle.fields.specs.Fields.{field, find_row, is_required}

@@ -1,6 +1,5 @@
 -- The types before are fine and stand in the tables; the one at hand is judged.
 use mathlib.Core.Path.{◌∙◌}
-use Prim.Native.Nat.{◌-◌}
 use native.Mathlib.Omega.{arith}
 use lib.ListN.{length-set}
 use Rattle.counts.proofs.Laws.Tables.{judged-next, judged-refused, judged-more, judged-end, tables-said}

@@ -1,5 +1,5 @@
 -- The cells of the column are those that are judged.
-use Rattle.std.proofs.Common.{◌≡◌, ◌-◌, List, ℤ, sym, ap, ◌∙◌, ap₂, to_z-of_z, w32, to_z, of_z}
+use Rattle.std.proofs.Common.{◌≡◌, List, ℤ, sym, ap, ◌∙◌, ap₂, to_z-of_z, w32, to_z, of_z}
 use Rattle.numbers.specs.Ranges.{between, all_between}
 use Rattle.file_columns.specs.Cells.{cells_pass}
 use Rattle.values.specs.Laws.Places.{place_none}

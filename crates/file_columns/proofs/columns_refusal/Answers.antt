@@ -1,5 +1,5 @@
 -- The columns before are fine; the one at hand is judged.
-use Rattle.std.proofs.Common.{◌-◌, sym, ◌∙◌}
+use Rattle.std.proofs.Common.{sym, ◌∙◌}
 use Rattle.refusal.proofs.Laws.First.{or_else-next, or_else-first}
 use Rattle.file_columns.specs.Laws.Steps.{value_at, number-next, number-end}
 use Rattle.file_columns.proofs.columns_refusal.Goals as goal

@@ -1,5 +1,5 @@
 -- The table of fields.
-use Rattle.std.proofs.Common.{◌-◌, refl}
+use Rattle.std.proofs.Common.{refl}
 use Rattle.text.specs.Equal.{equal}
 use Rattle.fields.specs.Table.{named}
 use Rattle.fields.specs.Fields.{find_row}

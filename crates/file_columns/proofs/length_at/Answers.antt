@@ -1,5 +1,5 @@
 -- The length is the one that the header states.
-use Rattle.std.proofs.Common.{ℕ, ◌-◌, true, ap, ◌∙◌}
+use Rattle.std.proofs.Common.{ℕ, true, ap, ◌∙◌}
 use Rattle.file_columns.specs.Laws.Steps.{read_length}
 use Rattle.file_columns.proofs.length_at.Goals as goal
 

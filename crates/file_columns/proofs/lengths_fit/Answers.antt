@@ -1,5 +1,5 @@
 -- The columns before are long enough; the one at hand is judged.
-use Rattle.std.proofs.Common.{◌-◌, sym, ◌∙◌}
+use Rattle.std.proofs.Common.{sym, ◌∙◌}
 use Rattle.file_columns.specs.Laws.Steps.{value_at, right-at, length-next, length-end}
 use Rattle.file_columns.proofs.lengths_fit.Goals as goal
 

@@ -1,5 +1,5 @@
 -- What the check of the column answers is its refusal.
-use Rattle.std.proofs.Common.{◌-◌, sym, ◌∙◌}
+use Rattle.std.proofs.Common.{sym, ◌∙◌}
 use Rattle.file_columns.specs.Laws.Steps.{read-refused, read-good}
 use Rattle.file_columns.proofs.refusal_at.Goals as goal
 

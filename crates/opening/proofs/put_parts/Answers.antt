@@ -1,6 +1,6 @@
 -- The first i elements of each buffer are those of the first i fields, and from i on nothing has changed.
 use mathlib.Core.Path.{ap, ◌∙◌}
-use Prim.Native.Nat.{◌-◌, ◌<◌}
+use Prim.Native.Nat.{◌<◌}
 use native.Mathlib.Omega.{arith}
 use lib.ListN.{length-set}
 use Rattle.values.specs.declared.Part.{Part}

@@ -1,7 +1,7 @@
 -- The first i elements of each buffer are those of the first i fields, and from i on nothing has changed.
 use mathlib.Core.Path.{◌≡◌}
 use mathlib.Core.List.{◌++◌}
-use Prim.Native.Nat.{◌+◌, ◌-◌, ◌≤◌}
+use Prim.Native.Nat.{◌-◌, ◌≤◌}
 use lib.ListN.{length, take, drop}
 use Rattle.fields.specs.Table.{field_count}
 use Rattle.opening.specs.Opening.{starts_of, lengths_of}

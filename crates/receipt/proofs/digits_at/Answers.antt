@@ -1,6 +1,6 @@
 -- What is left to read, after the digits that are read, gives the line. Assumes nothing.
 use mathlib.Core.Path.{sym, ap, ◌∙◌}
-use Prim.Native.Nat.{ℕ, ◌+◌, ◌*◌, ◌-◌}
+use Prim.Native.Nat.{ℕ, ◌+◌, ◌*◌}
 use lib.ListN.{drop}
 use Rattle.receipt.specs.Steps.{digits_at}
 use Rattle.receipt.specs.Laws.Lines.{digits-none, digits-feed, digits-other, digits-next}

@@ -1,6 +1,5 @@
 -- The fields, then the columns, then the counts.
 use mathlib.Core.Path.{sym, ◌∙◌}
-use Prim.Native.Nat.{◌-◌}
 use Rattle.refusal.proofs.Laws.First.{passed-or_else}
 use Rattle.fields.specs.Laws.Fields.{fields-exactly}
 use Rattle.file_columns.specs.Laws.Columns.{columns-exactly}

@@ -1,6 +1,5 @@
 -- The verdict that is said of a file is 0 exactly for an accepted one.
 use mathlib.Core.Path.{sym, ap, ◌∙◌}
-use Prim.Native.Nat.{◌-◌}
 use native.Mathlib.Omega.{arith}
 use Rattle.numbers.specs.Laws.BigEndian.{bytes-of}
 use Rattle.structure.proofs.Laws.Accepted.{accepted-exactly}

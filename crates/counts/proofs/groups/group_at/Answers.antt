@@ -1,8 +1,7 @@
 -- The lists are found, their lengths taken, and rule 5 judged; what a file holds has no more than 32 bits.
 use mathlib.Core.Path.{sym, ap, ◌∙◌}
-use Prim.Native.Nat.{◌-◌, ◌/◌}
+use Prim.Native.Nat.{◌/◌}
 use native.Mathlib.Omega.{arith}
-use Rattle.messagepack.specs.Document.{count}
 use native.Mathlib.Nat.{mod-eq_of_lt}
 use Rattle.values.specs.Parts.{under}
 use Rattle.counts.specs.GroupPlaces.{Lengths}

@@ -1,6 +1,5 @@
 -- Each test is one of rule 5, in its order.
 use mathlib.Core.Path.{sym, ◌∙◌}
-use Prim.Native.Nat.{◌-◌}
 use Rattle.values.specs.Parts.{under}
 use Rattle.counts.proofs.Laws.Group.{agrees-is, group-charges, group-elements, group-bonds, group-inside, group-orders, group-fine}
 use Rattle.counts.proofs.groups.judge.Goals as goal

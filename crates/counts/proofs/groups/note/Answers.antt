@@ -1,7 +1,6 @@
 -- Each place is noted where the key is its name.
 use mathlib.Core.Path.{ap, ◌∙◌}
 use mathlib.Core.Bool.{Bool, cond}
-use Prim.Native.Nat.{◌-◌}
 use Rattle.counts.proofs.groups.note.Goals as goal
 
 pub returns : goal.returns

@@ -1,6 +1,5 @@
 -- Orders lie between 1 and 4.
 use mathlib.Core.Path.{sym, ap, ◌∙◌}
-use Prim.Native.Nat.{◌-◌}
 use Rattle.counts.specs.Group.{orders_right}
 use Rattle.values.specs.Laws.Places.{place_none, place-some}
 use Rattle.values.specs.Integers.{integers_in}

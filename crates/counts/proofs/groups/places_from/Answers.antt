@@ -1,6 +1,6 @@
 -- The keys are sought all at once, entry by entry.
 use mathlib.Core.Path.{sym, subst}
-use Prim.Native.Nat.{ℕ, ◌-◌}
+use Prim.Native.Nat.{ℕ}
 use native.Mathlib.Omega.{arith}
 use Rattle.values.specs.Places.{AtEntries}
 use Rattle.values.specs.Laws.Places.{at-standing}

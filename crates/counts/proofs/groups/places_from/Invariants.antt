@@ -1,5 +1,4 @@
 -- The keys are sought all at once, entry by entry.
-use Prim.Native.Nat.{◌-◌}
 use Rattle.values.specs.Laws.Seeking.{Left}
 use Rattle.counts.proofs.Laws.Group.{SeekAll}
 use Rattle.values.specs.Walked.{WalkedEntries}

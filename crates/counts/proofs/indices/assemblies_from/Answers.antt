@@ -1,7 +1,6 @@
 -- What is left of the assemblies decides, since those before list indices of chains only.
 use mathlib.Core.Path.{sym, ◌∙◌}
 use Rattle.values.specs.Laws.Places.{at-standing}
-use Rattle.counts.specs.Indices.{transforms_inside}
 use Rattle.counts.proofs.Laws.Indices.{judging-next, judging-more, judging-out, judging-end}
 use Rattle.counts.proofs.indices.assemblies_from.Goals as goal
 

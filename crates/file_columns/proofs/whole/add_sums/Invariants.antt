@@ -1,5 +1,5 @@
 -- The sums that are left decide, and bring the tally to the same end (`sums_on`, `sums-off`).
-use Rattle.std.proofs.Common.{◌≡◌, ◌-◌, true, replicate}
+use Rattle.std.proofs.Common.{◌≡◌, true, replicate}
 use Rattle.steps.specs.Delta.{results_from, last_from}
 use Rattle.file_columns.specs.Passing.{Sound}
 use Rattle.file_columns.specs.Laws.Passing.{Onward}

@@ -1,5 +1,5 @@
 -- The answer from here is the answer of all (`rest-on`, `rest-off`, `rest-many`).
-use Rattle.std.proofs.Common.{◌≡◌, ◌-◌, Bool, false, eqb, drop, replicate, sym, ap, ◌∙◌, subst, arith, to_z-of_z, w32, to_z, of_z}
+use Rattle.std.proofs.Common.{◌≡◌, Bool, false, eqb, drop, replicate, sym, ap, ◌∙◌, subst, arith, to_z-of_z, w32, to_z, of_z}
 use Rattle.numbers.specs.Ranges.{between}
 use Rattle.steps.specs.Delta.{results_from, last_from}
 use Rattle.steps.specs.Payload.{read_in}

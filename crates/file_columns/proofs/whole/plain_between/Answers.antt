@@ -1,5 +1,5 @@
 -- The numbers before the place pass or not, and those from it on decide (`passing-on`).
-use Rattle.std.proofs.Common.{◌-◌, Bool, ◌&&◌, ap, ◌∙◌, arith, to_z-of_z, w32, to_z, of_z}
+use Rattle.std.proofs.Common.{Bool, ◌&&◌, ap, ◌∙◌, arith, to_z-of_z, w32, to_z, of_z}
 use Rattle.numbers.specs.Ranges.{between}
 use Rattle.file_columns.specs.Laws.Passing.{passing-start, passing-on, passing-end}
 use Rattle.file_columns.proofs.whole.plain_between.Goals as goal

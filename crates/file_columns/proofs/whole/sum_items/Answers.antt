@@ -1,5 +1,5 @@
 -- The answer of the tally with the results from here on is the answer of all (`run_on`, `run-off`).
-use Rattle.std.proofs.Common.{◌-◌, drop, replicate, sym, ap, ◌∙◌, subst, arith, to_z-of_z, w32}
+use Rattle.std.proofs.Common.{drop, replicate, sym, ap, ◌∙◌, subst, arith, to_z-of_z, w32}
 use Rattle.steps.specs.Delta.{results_from, last_from}
 use Rattle.steps.specs.Payload.{read_in}
 use Rattle.payloads.specs.declared.Item.TheVariants.{Run}

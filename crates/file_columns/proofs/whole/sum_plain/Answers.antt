@@ -1,5 +1,5 @@
 -- The answer of the tally with the numbers from here on is the answer of all (`numbers_on`, `numbers-off`).
-use Rattle.std.proofs.Common.{◌-◌, replicate, sym, ◌∙◌, subst, arith, to_z-of_z, w32}
+use Rattle.std.proofs.Common.{replicate, sym, ◌∙◌, subst, arith, to_z-of_z, w32}
 use Rattle.numbers.specs.BigEndian.{signed_at}
 use Rattle.steps.specs.Width.{width_of}
 use Rattle.file_columns.specs.Passing.{Adds}
