@@ -3,4 +3,3 @@
 pub mod Receipts
 pub mod Reading
 pub mod Bills
-pub mod Laws

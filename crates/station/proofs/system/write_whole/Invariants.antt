@@ -1,0 +1,9 @@
+-- The bytes that are written lie within those that are to be.
+use Rattle.std.proofs.Common.{length, ◌-◌, ◌≤◌}
+use Rattle.station.proofs.system.write_whole.Given as goal
+
+abbrev pub invariant-loop-done : goal.invariant-loop-done
+invariant-loop-done g l = l.done ≤ length l.bytes
+
+abbrev pub decreases-loop-done : goal.decreases-loop-done
+decreases-loop-done g l = length l.bytes - l.done
