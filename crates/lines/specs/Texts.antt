@@ -1,6 +1,6 @@
 -- The values of columns as text: numbers over a divisor, floats by their bits, names. No lemma stands here: the laws are in Laws/Texts.antt.
 -- Assumes nothing.
-use Rattle.std.specs.Prelude.{cond, List, [], ◌∷◌, ◌++◌, ℕ, zero, suc, ◌+◌, ◌-◌, ◌*◌, ◌/◌, ◌%◌, ◌^◌, eqb, ltb, ℤ, pos, negsuc}
+use Rattle.std.specs.Prelude.{cond, List, [], ◌∷◌, ◌++◌, ℕ, zero, suc, ◌-◌, ◌*◌, ◌/◌, ◌%◌, ◌^◌, eqb, ltb, ℤ, pos, negsuc}
 use Rattle.text.specs.Decimal.{glyph, decimal}
 use Rattle.text.specs.Ascii.{ascii}
 use Rattle.lines.specs.declared.Places.{Places}

@@ -1,6 +1,6 @@
 -- What a document must keep to stand in a file, and the files that hold one (paper 01, "What the station reads and writes" and "Lead bytes").
 -- No reader, no place and no lemma stands here. Assumes nothing.
-use Rattle.std.specs.Prelude.{◌≡◌, ℕ, suc, ◌≤◌, max, List, length, ℤ, pos, negsuc, ◌≢◌}
+use Rattle.std.specs.Prelude.{ℕ, suc, ◌≤◌, max, List, length, ℤ, pos, negsuc, ◌≢◌}
 use Rattle.numbers.specs.Ranges.{integer_limit}
 use Rattle.utf8.specs.Utf8.{Utf8}
 use Rattle.messagepack.specs.Limits.{file_limit, nesting_limit, entry_limit}

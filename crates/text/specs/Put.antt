@@ -1,7 +1,6 @@
 -- Text put into a buffer. What the contracts of this crate and of those above it cite. No lemma stands here: the
 -- laws are in Laws/Put.antt. Assumes nothing.
 use Rattle.std.specs.Prelude.{◌≡◌, List, ℕ, ◌+◌, ◌-◌, min, length}
-use Prim.Native.String as Text
 use Rattle.std.proofs.lemmas.List.Edits.{sets}
 
 -- The bytes `text` were put into the buffer `old` from `at` on: each is stored in its place, those past the end are left out, and everything

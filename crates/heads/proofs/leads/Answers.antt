@@ -1,5 +1,4 @@
 -- Each turn packs one row from the two tables. The invariant: the rows that are passed are packed.
-use Prim.Native.Nat.{◌-◌}
 use native.Mathlib.Omega.{arith}
 use Rattle.heads.proofs.Laws.Table.{kinds-bound, sizes-bound, leads-packed}
 use Rattle.heads.proofs.leads.Goals as goal

@@ -1,7 +1,7 @@
 -- The container's number is 0 exactly for a container: the walk ends at the end of the file exactly for a writing of a document that keeps
 -- the rules. It is at most 11.
 -- Assumes nothing.
-use Rattle.std.specs.Prelude.{◌≡◌, ℕ, ◌+◌, ◌<◌, ◌≤◌, Bool, true, false, cond, ◌↔◌, List, [], ◌++◌, length, ◌==◌, nat_le}
+use Rattle.std.specs.Prelude.{◌≡◌, ℕ, ◌≤◌, Bool, true, false, cond, ◌↔◌, List, [], ◌++◌, length, ◌==◌, nat_le}
 use Rattle.std.proofs.Math.Path.{refl, ap, subst}
 use Rattle.std.proofs.Common.{sym, ◌∙◌, append-nil, zero-add, arith, lit<, lit≤}
 use Rattle.std.proofs.Math.Seq.{drop-length}

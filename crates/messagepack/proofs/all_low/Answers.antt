@@ -1,5 +1,5 @@
 -- The bytes before a place are below 80; at the end the last four may overlap them.
-use Rattle.std.proofs.Common.{◌-◌, false, length, arith}
+use Rattle.std.proofs.Common.{◌-◌, length, arith}
 use Rattle.messagepack.proofs.Laws.Quick.{low-more, low-ascii}
 use Rattle.messagepack.proofs.all_low.Goals as goal
 

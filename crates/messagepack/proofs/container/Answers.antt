@@ -22,8 +22,10 @@ number_is s places r bytes l h e =
 
 pub returns-in-Count : goal.returns-in-Count
 returns-in-Count c =
-    number_is c.args.file.now c.no_places-places.result _ (bytes-of _ (λ i. omega (arith, c.shared_slice_known-1.given i))) c.no_places-places.ensures c.keys.ensures.answer (sym (ap answer_number c.in-Count.is))
+    let r = number_is c.args.file.now c.no_places-places.result _ (bytes-of _ (λ i. omega (arith, c.shared_slice_known-1.given i))) c.no_places-places.ensures c.keys.ensures.answer (sym (ap answer_number c.in-Count.is)) in
+    record { number = r.0; exactly = r.1 }
 
 pub returns-in-Refused : goal.returns-in-Refused
 returns-in-Refused c =
-    number_is c.args.file.now c.no_places-places.result _ (bytes-of _ (λ i. omega (arith, c.shared_slice_known-1.given i))) c.no_places-places.ensures c.keys.ensures.answer (sym (ap answer_number c.in-Refused.is))
+    let r = number_is c.args.file.now c.no_places-places.result _ (bytes-of _ (λ i. omega (arith, c.shared_slice_known-1.given i))) c.no_places-places.ensures c.keys.ensures.answer (sym (ap answer_number c.in-Refused.is)) in
+    record { number = r.0; exactly = r.1 }

@@ -1,5 +1,5 @@
 -- The rows that are copied stand before what is left of the buffer.
-use Rattle.std.proofs.Common.{◌≡◌, ◌+◌, ◌-◌, ◌*◌, ◌≤◌, ◌++◌, length, take, drop}
+use Rattle.std.proofs.Common.{◌≡◌, ◌-◌, ◌*◌, ◌≤◌, ◌++◌, length, take, drop}
 use Rattle.messagepack.specs.Limits.{entry_limit}
 use Rattle.messagepack.specs.Outer.{outer_levels}
 use Rattle.messagepack.proofs.hand_over.Given as goal

@@ -1,6 +1,6 @@
 -- Where no row has the print, the key is in none. Else the keys in the rows below decide: a row with another print holds another key, and one
 -- with this print is compared.
-use Rattle.std.proofs.Common.{◌≡◌, ◌-◌, ◌≤◌}
+use Rattle.std.proofs.Common.{◌≡◌, ◌≤◌}
 use Rattle.messagepack.specs.Walk.{among}
 use Rattle.messagepack.specs.Keys.{key_here, keys_in}
 use Rattle.messagepack.proofs.seen.Given as goal

@@ -1,5 +1,5 @@
 -- Laws of writing a payload's results into a buffer, once over the elements' type: a run of them, and run after run. Assumes nothing.
-use Rattle.std.specs.Prelude.{◌≡◌, ℕ, zero, suc, ◌+◌, ◌-◌, ◌<◌, ◌≤◌, Bool, true, List, [], ◌∷◌, ◌++◌, map, length, take, drop, set, replicate, ℤ, pos, slice_index_or, slice_set}
+use Rattle.std.specs.Prelude.{◌≡◌, ℕ, zero, suc, ◌+◌, ◌<◌, ◌≤◌, Bool, true, List, [], ◌∷◌, ◌++◌, map, length, take, drop, set, replicate, ℤ, pos, slice_index_or, slice_set}
 use Rattle.std.proofs.Math.Path.{refl}
 use Rattle.std.proofs.Common.{sym, ap, ap₂, subst, ◌∙◌, append-nil, append_assoc, arith, add-one, length-append, length-drop, take-append-drop, drop-cons, drop-drop, length-take-le, take-suc, take_all, take_at, drop_at}
 use Rattle.std.proofs.Math.Option

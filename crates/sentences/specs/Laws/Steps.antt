@@ -1,5 +1,5 @@
 -- The table of forms has the form of each sentence in its row. Assumes nothing.
-use Rattle.std.specs.Prelude.{◌≡◌, refl, Bool, true, false, cond, ℕ, eqb}
+use Rattle.std.specs.Prelude.{◌≡◌, refl, Bool, true, false, cond, eqb}
 use Rattle.refusal.specs.Table.{accepted, file_over_limit, job_not_rising}
 use Rattle.meanings.specs.Meanings.{text_in}
 use Rattle.sentences.specs.Sentences.{accepted_form, refused_form, over_limit_form, not_rising_form, malformed_form, form_of}

@@ -1,5 +1,5 @@
 -- The loop's invariant: the highest byte so far and what is left of both halves decide.
-use Rattle.std.proofs.Common.{◌≡◌, ℕ, ◌+◌, ◌-◌, ◌/◌, Bool, ◌&&◌, leb, length, get_or, sym, ap, ◌∙◌, arith}
+use Rattle.std.proofs.Common.{◌≡◌, ℕ, ◌+◌, ◌/◌, Bool, ◌&&◌, leb, length, get_or, sym, ap, ◌∙◌, arith}
 use Rattle.steps.proofs.Laws.Allowed.{left-start, left-next, left-none, left_one}
 use Rattle.steps.proofs.are_ascii.Goals as goal
 

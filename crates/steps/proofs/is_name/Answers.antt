@@ -1,5 +1,5 @@
 -- Four bytes are tested by their word, and other names byte by byte.
-use Rattle.std.proofs.Common.{◌≡◌, ℕ, ◌+◌, ◌-◌, ◌<◌, get_or, take, drop, sym, ap, ◌∙◌, arith}
+use Rattle.std.proofs.Common.{◌≡◌, ℕ, ◌+◌, ◌<◌, get_or, take, drop, sym, ap, ◌∙◌, arith}
 use Rattle.steps.specs.Steps.{one_name, zeros_last}
 use Rattle.steps.proofs.Laws.Padding.{four-at, ascii-at, four-name}
 use Rattle.steps.proofs.is_name.Goals as goal

@@ -1,6 +1,5 @@
 -- What is left to compare decides.
 use mathlib.Core.Path.{sym, ◌∙◌}
-use Prim.Native.Nat.{◌-◌}
 use native.Mathlib.Omega.{arith}
 use Rattle.text.specs.Laws.Equal.{equal-lengths, equal_next, equal-not, equal-end}
 use Rattle.text.proofs.same_bytes.Goals as goal

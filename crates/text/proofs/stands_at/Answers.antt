@@ -1,6 +1,5 @@
 -- Past the end only the empty word stands, a longer word than what is left does not, and else the bytes are compared. Assumes nothing.
 use mathlib.Core.Path.{sym}
-use Prim.Native.Nat.{◌-◌}
 use native.Mathlib.Omega.{arith}
 use lib.ListN.{length-drop}
 use Rattle.text.specs.Laws.Equal.{begins-past, begins-long}

@@ -1,5 +1,5 @@
 -- `utf8::bits` meets its contract: a number is at most its bitwise or with another, so no byte passed exceeds `all`. Assumes nothing.
-use Prim.Native.Nat.{ℕ, ◌+◌, ◌-◌, ◌≤◌}
+use Prim.Native.Nat.{ℕ, ◌+◌, ◌≤◌}
 use native.Mathlib.Omega.{arith}
 use borrow.Author.Count.{below_more}
 use lib.ListN.{get_or}

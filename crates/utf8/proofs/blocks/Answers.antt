@@ -1,7 +1,6 @@
 -- `utf8::blocks` meets its contract: a block whose bits are below 80 is a run of characters of one byte each, so the bytes from its end are
 -- UTF-8 exactly when those from its start are. Assumes nothing.
 use mathlib.Core.Path.{◌∙◌}
-use Prim.Native.Nat.{◌-◌}
 use native.Mathlib.Omega.{arith}
 use Rattle.utf8.specs.Laws.Check.{ascii_run}
 use Rattle.utf8.proofs.blocks.Goals as goal

@@ -10,16 +10,22 @@ pub returns-then-lead-gt244 : goal.returns-then-lead-gt244
 returns-then-lead-gt244 c = record { bytes_value = lead-fault c.requires (is_lead-high _ c.if-lead-gt244.true); forward = tt }
 
 pub returns-in_default : goal.returns-in_default
-returns-in_default c = record { bytes_value = c.second.ensures.by_index 2 (following-four _ c.requires.least)
-      ∙ ap (onward 2 c.args.bytes.now) c.in_default.is; forward = tt }
+returns-in_default c = record {
+  bytes_value = c.second.ensures.by_index 2 (following-four _ c.requires.least)
+      ∙ ap (onward 2 c.args.bytes.now) c.in_default.is;
+  forward = tt;
+}
 
 pub returns-in_default-follow : goal.returns-in_default-follow
 returns-in_default-follow c =
     let s = c.args.bytes.now in
-    record { bytes_value = c.second.ensures.by_index 2 (following-four _ c.requires.least)
+    record {
+      bytes_value = c.second.ensures.by_index 2 (following-four _ c.requires.least)
           ∙ ap (onward 2 s) c.in-Next.is
           ∙ c.follow.ensures.by_index 1
-          ∙ ap (onward 1 s) c.in_default-follow.is; forward = tt }
+          ∙ ap (onward 1 s) c.in_default-follow.is;
+      forward = tt;
+    }
 
 pub returns : goal.returns
 returns c =
@@ -30,5 +36,8 @@ returns c =
     let w = c.follow.ensures in
     let f = forward-next _ _ q.second.ensures.forward u in
     let g = forward-next _ _ w.forward v in
-    record { bytes_value = q.second.ensures.by_index 2 (following-four _ q.requires.least)
-          ∙ ap (onward 2 s) u ∙ w.by_index 1 ∙ ap (onward 1 s) v ∙ c.follow-2.ensures.by_index 0; forward = forward-from _ c.follow-2.result (omega arith) c.follow-2.ensures.forward }
+    record {
+      bytes_value = q.second.ensures.by_index 2 (following-four _ q.requires.least)
+          ∙ ap (onward 2 s) u ∙ w.by_index 1 ∙ ap (onward 1 s) v ∙ c.follow-2.ensures.by_index 0;
+      forward = forward-from _ c.follow-2.result (omega arith) c.follow-2.ensures.forward;
+    }

@@ -1,6 +1,5 @@
 -- `utf8::is_ascii` meets its contract: what is left to look at decides. Assumes nothing.
 use mathlib.Core.Path.{sym, ◌∙◌}
-use Prim.Native.Nat.{◌-◌}
 use native.Mathlib.Omega.{arith}
 use Rattle.utf8.specs.Laws.Check.{is_ascii-next, is_ascii-not, is_ascii-end}
 use Rattle.utf8.proofs.is_ascii.Goals as goal

@@ -1,7 +1,6 @@
 -- `utf8::is_utf8` meets its contract. The loop's invariant: the bytes are UTF-8 exactly when those from `at` on are; the measure is what is left.
 -- Assumes nothing.
 use mathlib.Core.Path.{sym, ap, ◌∙◌}
-use Prim.Native.Nat.{◌-◌}
 use lib.ListN.{drop_of_length-le}
 use Rattle.utf8.specs.Laws.Utf8.{decides}
 use Rattle.utf8.specs.Check.{due, is_utf8}

@@ -8,6 +8,9 @@ use Rattle.utf8.proofs.second.Goals as goal
 pub returns : goal.returns
 returns c =
     let p = c.requires in
-    record { by_index = (λ k e.
+    record {
+      by_index = (λ k e.
           lead-more p (is_lead-more _ p.least (omega arith))
-          ∙ simp (e, ← c.lowest-lo.ensures, ← c.highest-hi.ensures) (c.follow.ensures.by_index k)); forward = forward-from _ c.follow.result (omega arith) c.follow.ensures.forward }
+          ∙ simp (e, ← c.lowest-lo.ensures, ← c.highest-hi.ensures) (c.follow.ensures.by_index k));
+      forward = forward-from _ c.follow.result (omega arith) c.follow.ensures.forward;
+    }

@@ -433,4 +433,4 @@ all-inside none le a = omega arith
 all-inside {s} {p} {e} (item d ds) le a =
     let o = open-item a in
     let i = at-inside o.first in
-    omega (arith, i.0, all-inside ds i.1 o.rest)
+    omega (arith, i.0, all-inside {p = o.q} ds i.1 o.rest)

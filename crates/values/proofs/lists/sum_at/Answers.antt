@@ -1,0 +1,9 @@
+-- The values of the array are those that are added.
+use Rattle.values.specs.Parts.{items_of}
+use Rattle.values.proofs.lists.sum_at.Goals as goal
+
+pub returns : goal.returns
+returns c =
+    λ l t x e a.
+    let i = c.items_at-part.ensures.says t x e a in
+    c.sum_from.ensures l t (items_of x) i.end i.all i.counts

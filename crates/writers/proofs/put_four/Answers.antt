@@ -1,0 +1,13 @@
+-- The bytes stored one after the other are the written buffer (`written_at-stores`).
+use Rattle.std.proofs.Common.{◌+◌, ◌≤◌, length, add-zero}
+use Rattle.numbers.specs.Laws.BigEndian.{written_at-stores}
+use Rattle.writers.specs.Laws.Placed.{over-written}
+use Rattle.writers.proofs.put_four.Goals as goal
+
+pub returns : goal.returns
+returns c =
+    let a = c in
+    let w = c.swapped-other.ensures in
+    let h : a.args.at + 4 ≤ length a.args.buffer.now = a.requires in
+    rw (c.low_byte.ensures, c.low_byte-2.ensures, c.low_byte-3.ensures, c.low_byte-4.ensures, w.first, w.second, w.third, w.fourth, ← over-written a.args.buffer.now a.args.at 4 a.args.bits h)
+    (rw (written_at-stores 4 a.args.buffer.now a.args.at a.args.bits h, add-zero))
