@@ -1,5 +1,8 @@
 // The system as the program meets it: the words that it was started with, what it reads from and writes to, and the numbers of errors.
-ghost use Rattle.std.specs.Prelude.{◌≤◌, length};
+ghost use Rattle.std.specs.Prelude.{◌≡◌, ◌≤◌, length, take, OnOk};
+ghost use Rattle.std.specs.Io.KnownBytes.{Appends, Consumes};
+ghost use Rattle.std.specs.IoError.{raw_os_error};
+ghost use Rattle.station.specs.System.{number_in};
 
 use std::env::{Env, FillError};
 use std::fs::File;
@@ -72,12 +75,13 @@ pub(crate) fn open(rt: HostRuntime, path: &[u8]) -> io::Result<File> {
 }
 
 // Reads until the buffer is full, the input ends or a read fails, and gives how many bytes it put at the buffer's start.
-pub(crate) fn read_full(source: &mut Source, buffer: &mut [u8]) -> usize
-    ensures { result ≤ length buffer.new }
+pub(crate) fn read_full<R: Read>(reader: &mut R, buffer: &mut [u8]) -> usize
+    ensures inside { result ≤ length buffer.new }
+    ensures bytes { Consumes (R.remaining reader.old) (R.remaining reader.new) (take result buffer.new) }
 {
     let mut done: usize = 0;
     while done < buffer.len() {
-        let Ok(n) = source.read(&mut buffer[done..]) else {
+        let Ok(n) = reader.read(&mut buffer[done..]) else {
             return done;
         };
         if n == 0 {
@@ -97,20 +101,24 @@ pub(crate) fn write_all(rt: HostRuntime, stream: Stream, bytes: &[u8]) -> io::Re
 }
 
 // Writes bytes to a writer: all of them, or up to the first write that fails.
-fn write_whole<W: Write>(writer: &mut W, bytes: &[u8]) -> io::Result<()> {
-    let mut done: usize = 0;
-    while done < bytes.len() {
-        let n = writer.write(&bytes[done..])?;
+fn write_whole<W: Write>(writer: &mut W, bytes: &[u8]) -> io::Result<()>
+    ensures { OnOk result (Appends (W.contents writer.old) (W.contents writer.new) bytes.now) }
+{
+    let mut rest = bytes;
+    while !rest.is_empty() {
+        let n = writer.write(rest)?;
         if n == 0 {
             return Err(Error::from(ErrorKind::WriteZero));
         }
-        done += n;
+        rest = &rest[n..];
     }
     Ok(())
 }
 
-// The system's number of an error.
-pub(crate) fn number_of(error: Error) -> u32 {
+// The system's number of an error, as 32 bits; of one that has none, that of a failed read or write.
+pub(crate) fn number_of(error: Error) -> u32
+    ensures { result ≡ number_in (raw_os_error error) }
+{
     match error.raw_os_error() {
         Some(number) => numbers::to_u32(number),
         None => numbers::to_u32(INPUT_OUTPUT),
