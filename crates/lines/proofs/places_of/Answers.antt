@@ -1,5 +1,6 @@
 -- Each arm is a power of ten; what is left is none of them.
 use mathlib.Core.Path.{sym, ap, ◌∙◌}
+use native.Mathlib.Omega.{arith}
 use Rattle.lines.specs.Texts.{places_below, places_of}
 use Rattle.lines.specs.Laws.Texts.{places-past}
 use Rattle.lines.proofs.places_of.Goals as goal
@@ -48,15 +49,14 @@ pub returns-in_default : goal.returns-in_default
 unfolding places_below places_of
 returns-in_default c =
     let d = c.args.divisor in
-    let no = c.in_default.in_default-own.rest in
     sym
-    (places-past 9 d no.1
-    ∙ places-past 8 d no.0.1
-    ∙ places-past 7 d no.0.0.1
-    ∙ places-past 6 d no.0.0.0.1
-    ∙ places-past 5 d no.0.0.0.0.1
-    ∙ places-past 4 d no.0.0.0.0.0.1
-    ∙ places-past 3 d no.0.0.0.0.0.0.1
-    ∙ places-past 2 d no.0.0.0.0.0.0.0.1
-    ∙ places-past 1 d no.0.0.0.0.0.0.0.0.1
-    ∙ places-past 0 d no.0.0.0.0.0.0.0.0.0.1)
+    (places-past 9 d (λ e. omega arith)
+    ∙ places-past 8 d (λ e. omega arith)
+    ∙ places-past 7 d (λ e. omega arith)
+    ∙ places-past 6 d (λ e. omega arith)
+    ∙ places-past 5 d (λ e. omega arith)
+    ∙ places-past 4 d (λ e. omega arith)
+    ∙ places-past 3 d (λ e. omega arith)
+    ∙ places-past 2 d (λ e. omega arith)
+    ∙ places-past 1 d (λ e. omega arith)
+    ∙ places-past 0 d (λ e. omega arith))

@@ -209,7 +209,7 @@ found-absent {s} {r} {o} f q = go (subst (λ (y : Found). FoundSays s y o) q f)
 pub place-there : {s : List ℕ} {p : ℕ} {o : Option Document} {x : Document} → PlaceSays s p o → o ≡ some x → record { end : ℕ; at : At s p x end }
 place-there {s} {p} {o} {x} f q = go (subst (PlaceSays s p) q f)
   where
-    go : PlaceSays s p (some x) → record { end : ℕ; at : At s p x end }
+    go : {j : ℕ} → PlaceSays s j (some x) → record { end : ℕ; at : At s j x end }
     go (stands {e = e} l a) = record { end = e; at = a }
 
 -- what a bioAssemblyList of its type holds

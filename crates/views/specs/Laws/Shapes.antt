@@ -1,9 +1,8 @@
 -- The shape of a value: its kind at its place says so, and the values of an array are looked at one by one. Assumes nothing.
-use Rattle.std.specs.Prelude.{◌≡◌, refl, Bool, cond, ◌&&◌, List}
+use Rattle.std.specs.Prelude.{◌≡◌, refl, Bool, ◌&&◌, List}
 use Rattle.std.proofs.Math.Path.{sym, ap, subst}
-use Rattle.std.proofs.Common.{ap₂, ◌∙◌, arith, eq-eqb, ne_eqb}
+use Rattle.std.proofs.Common.{◌∙◌, arith, eq-eqb, ne_eqb}
 use Rattle.std.proofs.Math.Bool.{true, false}
-use Rattle.std.proofs.Math.Option.{some}
 use Prim.Native.Nat.{ℕ, suc, ◌-◌, ◌<◌, ◌≤◌}
 use Rattle.refusal.specs.Table.{accepted}
 use Rattle.heads.specs.Head.{kind_at}

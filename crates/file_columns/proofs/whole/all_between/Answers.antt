@@ -1,0 +1,41 @@
+-- A header that is refused refuses the column, and by one that passes the payload decides (`pass-judged`).
+use Rattle.std.proofs.Common.{◌-◌, length, take, drop, sym, ap, ◌∙◌, to_z-of_z, w32}
+use Rattle.numbers.specs.Ranges.{between}
+use Rattle.steps.specs.Payload.{held_in}
+use Rattle.columns.specs.Header.{header_size}
+use Rattle.columns.specs.Table.{elements}
+use Rattle.columns.proofs.Laws.Table.{Passes, header-passes}
+use Rattle.columns.proofs.Laws.Decode.{decode-refused, decode-good}
+use Rattle.file_columns.specs.Cells.{cells_pass}
+use Rattle.file_columns.specs.Laws.Passing.{pass-judged}
+use Rattle.file_columns.proofs.whole.all_between.Lts as lts
+use Rattle.file_columns.proofs.whole.all_between.Reads as reads
+use Rattle.file_columns.proofs.whole.all_between.Tie as tie
+use Rattle.file_columns.proofs.whole.all_between.Goals as goal
+
+-- the header that passed
+passed : (c : lts.After-n tie.the-claims reads.Pre reads.Post)
+    → Passes c.args.wanted c.args.column.now c.n-1.given.0.0 c.n-1.given.0.1.0 c.n-1.given.0.1.1.0 c.n-1.given.0.1.1.1.0 c.n-1.given.0.1.1.1.1.0
+passed c =
+    let a = c.args in
+    header-passes a.wanted a.column.now c.n-1.given.0.0 c.n-1.given.0.1.0 c.n-1.given.0.1.1.0 c.n-1.given.0.1.1.1.0 c.n-1.given.0.1.1.1.1.0 (sym c.read_header.ensures ∙ c.n-1.given.1)
+
+pub slice_bounds-results_between-count : goal.slice_bounds-results_between-count
+slice_bounds-results_between-count c = (passed c.before.before).0
+
+pub slice_bounds-results_between-start : goal.slice_bounds-results_between-start
+slice_bounds-results_between-start c = (passed c.before.before).0
+
+pub returns-in-Refused : goal.returns-in-Refused
+returns-in-Refused c =
+    let a = c.args in
+    sym (ap (cells_pass (between a.low a.high)) (decode-refused a.wanted a.column.now c.in-Refused.field-0 (sym c.read_header.ensures ∙ c.in-Refused.is)))
+
+pub returns-in-Good : goal.returns-in-Good
+returns-in-Good c =
+    let a = c in
+    let payload = take (length a.args.column.now - header_size) (drop header_size a.args.column.now) in
+    let test = between a.args.low a.args.high in
+    let h = rw (to_z-of_z {w = w32} a.ranges.low, to_z-of_z {w = w32} a.ranges.high) at c.results_between.ensures in
+    let e = decode-good a.args.wanted a.args.column.now c.in-Good.n c.in-Good.m c.in-Good.field-2 c.in-Good.form c.in-Good.delta (sym c.read_header.ensures ∙ c.in-Good.is) in
+    h ∙ sym (ap (cells_pass test) e ∙ pass-judged test (elements c.in-Good.form c.in-Good.n c.in-Good.m) c.in-Good.m c.in-Good.field-2 c.in-Good.delta (held_in c.in-Good.form c.in-Good.m payload))

@@ -1,0 +1,66 @@
+-- The answer of the tally with the results from here on is the answer of all (`run_on`, `run-off`).
+use Rattle.std.proofs.Common.{◌-◌, drop, replicate, sym, ap, ◌∙◌, subst, arith, to_z-of_z, w32}
+use Rattle.steps.specs.Delta.{results_from, last_from}
+use Rattle.steps.specs.Payload.{read_in}
+use Rattle.payloads.specs.declared.Item.TheVariants.{Run}
+use Rattle.payloads.specs.Laws.Items.{Gives, item-read}
+use Rattle.file_columns.specs.Passing.{Adds}
+use Rattle.file_columns.specs.Laws.Passing.{rest_sums, sums-all, run_on, run-off, run_end}
+use Rattle.file_columns.proofs.whole.sum_items.Lts as lts
+use Rattle.file_columns.proofs.whole.sum_items.Reads as reads
+use Rattle.file_columns.proofs.whole.sum_items.Tie as tie
+use Rattle.file_columns.proofs.whole.sum_items.Goals as goal
+
+-- the run that was read
+read : (c : lts.After-value tie.the-claims reads.Pre reads.Post goal.the-invariant-loop-value goal.the-decreases-loop-value) → Gives c.args.form c.args.payload.now c.loop-value.at (Run c.value-1.given.0.0 c.value-1.given.0.1.0 c.value-1.given.0.1.1.0)
+read c = item-read c.args.form c.args.payload.now c.loop-value.at c.item_at.ensures c.value-1.given.1
+
+-- what is added of it
+added : (c : lts.After-add_run tie.the-claims reads.Pre reads.Post goal.the-invariant-loop-value goal.the-decreases-loop-value)
+    → Adds c.args.types c.args.atoms.now c.args.bonds.now c.loop-value.tally
+    (results_from c.args.delta c.loop-value.tally.last (replicate c.value-1.given.0.1.0 c.value-1.given.0.0))
+    (last_from c.args.delta c.loop-value.tally.last (replicate c.value-1.given.0.1.0 c.value-1.given.0.0))
+    c.add_run.result
+added c = rw (to_z-of_z {w = w32} {z = c.value-1.given.0.0} (record { sfits = c.known_told-1.given.0.1 })) at c.add_run.ensures
+
+pub loop-value-init : goal.loop-value-init
+loop-value-init c =
+    let a = c in
+    let l = a.requires.1 in
+    rw c.to_come-tally.ensures (omega arith, (omega arith, omega arith), sums-all a.args.types a.args.atoms.now a.args.bonds.now a.args.n a.args.delta (read_in a.args.form a.args.payload.now))
+
+pub add_run-requires : goal.add_run-requires
+add_run-requires c = ((read c.before.before).2, c.requires.0, c.loop-value.invariant.1)
+
+pub returns-in_default : goal.returns-in_default
+returns-in_default c =
+    let a = c.args in
+    let p = c.loop-value in
+    let h = subst (Adds a.types a.atoms.now a.bonds.now p.tally _ _) c.in_default.is (added c.before.before.before.before) in
+    c.no_sums.ensures
+    ∙ sym (p.invariant.2 ∙ run-off a.types a.atoms.now a.bonds.now a.delta p.tally c.in-Run.value c.in-Run.count (read_in a.form (drop p.at a.payload.now)) (read_in a.form (drop c.in-Run.next a.payload.now)) (read c.before.before.before.before.before.before).3 h)
+
+pub loop-value-smaller : goal.loop-value-smaller
+loop-value-smaller c = let g = read c.before.before.before.before.before.before in omega (arith, g.0, g.1)
+
+pub loop-value-preserved : goal.loop-value-preserved
+loop-value-preserved c =
+    let a = c.args in
+    let p = c.loop-value in
+    let g = read c.before.before.before.before.before.before in
+    let h = subst (Adds a.types a.atoms.now a.bonds.now p.tally _ _) c.in-On.is (added c.before.before.before.before) in
+    (g.1, h.4, p.invariant.2 ∙ run_on a.types a.atoms.now a.bonds.now a.delta p.tally c.in-Run.value c.in-Run.count (read_in a.form (drop p.at a.payload.now)) (read_in a.form (drop c.in-Run.next a.payload.now)) g.3 c.in-On.t h)
+
+pub returns-in-Wrong : goal.returns-in-Wrong
+returns-in-Wrong c =
+    let a = c.args in
+    let p = c.loop-value in
+    let e = item-read a.form a.payload.now p.at c.item_at.ensures c.in-Wrong.is in
+    c.no_sums-in-Wrong.ensures ∙ sym (p.invariant.2 ∙ ap (rest_sums a.types a.atoms.now a.bonds.now a.delta p.tally) e)
+
+pub returns-in-End : goal.returns-in-End
+returns-in-End c =
+    let a = c.args in
+    let p = c.loop-value in
+    let e = item-read a.form a.payload.now p.at c.item_at.ensures c.in-End.is in
+    c.sums_in.ensures ∙ sym (p.invariant.2 ∙ run_end a.types a.atoms.now a.bonds.now a.delta p.tally (read_in a.form (drop p.at a.payload.now)) e)

@@ -1,0 +1,92 @@
+-- The runs before the place stand at the buffer's start, and beyond the results nothing has changed (`begun-run`); the value of a run
+-- is exact since all results are (`next-exact`).
+use mathlib.Core.Path.{◌≡◌, refl, ap, ◌∙◌}
+use mathlib.Core.Bool.{false}
+use mathlib.Core.Option.{map}
+use mathlib.Core.List.{List, ◌++◌}
+use Prim.Native.Nat.{◌+◌, ◌-◌, ◌≤◌}
+use native.Mathlib.Nat.{add-zero}
+use native.Mathlib.Omega.{arith}
+use lib.ListN.{length, drop, replicate}
+use lib.IntN.{ℤ, pos}
+use mir.Syntax.{w32}
+use mir.Val.{to_z, of_z}
+use mir.Facts.{to_z-of_z}
+use Rattle.numbers.specs.BigEndian.{signed_at}
+use Rattle.steps.specs.declared.Range.{Range}
+use Rattle.steps.specs.declared.Form.TheVariants.{Runs}
+use Rattle.steps.specs.Delta.{last_from}
+use Rattle.steps.specs.Payload.{read_in}
+use Rattle.payloads.specs.Results.{HasResults}
+use Rattle.payloads.specs.Laws.Items.{runs-end}
+use Rattle.payloads.specs.Laws.Writing.{next-exact}
+use Rattle.payloads.specs.Laws.Runs.{run-here, begun-rest, begun-room, begun-run, begun-end, part-number}
+use Rattle.floats.specs.Steps.{bits_by}
+use Rattle.floats.specs.Laws.Quotient.{run-exact}
+use Rattle.floats.proofs.write_runs.Lts as lts
+use Rattle.floats.proofs.write_runs.Reads as reads
+use Rattle.floats.proofs.write_runs.Tie as tie
+use Rattle.floats.proofs.write_runs.Goals as goal
+
+-- the run at the place
+next : (c : lts.After-read_i32 tie.the-claims reads.Pre reads.Post goal.the-invariant-loop-at goal.the-decreases-loop-at) (r : Range) → HasResults (Runs r) c.args.payload.now c.args.n
+    → (1 ≤ of_z w32 (signed_at w32 c.args.payload.now (c.loop-at.at + 4)))
+    × (read_in (Runs r) (drop c.loop-at.at c.args.payload.now)
+    ≡ map (λ (l : List ℤ). replicate (of_z w32 (signed_at w32 c.args.payload.now (c.loop-at.at + 4))) (signed_at w32 c.args.payload.now c.loop-at.at) ++ l) (read_in (Runs r) (drop (c.loop-at.at + 8) c.args.payload.now)))
+next c r held =
+    let a = c in
+    let p = c.loop-at in
+    let t = begun-rest (bits_by a.args.divisor) (Runs r) a.args.payload.now a.args.buffer.now a.args.n held a.requires.1 p.at p.o p.buffer (p.invariant.1 r held a.requires.1) in
+    run-here r a.args.payload.now p.at t.0 (omega arith) t.1
+
+-- its value
+value : (c : lts.After-read_i32 tie.the-claims reads.Pre reads.Post goal.the-invariant-loop-at goal.the-decreases-loop-at) → to_z w32 (of_z w32 c.read_i32.result) ≡ signed_at w32 c.args.payload.now c.loop-at.at
+value c = to_z-of_z {w = w32} (record { sfits = c.read_i32.type_inv }) ∙ c.read_i32.ensures ∙ part-number c.args.payload.now c.loop-at.at 0 (omega arith) ∙ ap (signed_at w32 c.args.payload.now) (add-zero c.loop-at.at)
+
+-- its count
+count : (c : lts.After-to_u32 tie.the-claims reads.Pre reads.Post goal.the-invariant-loop-at goal.the-decreases-loop-at) → c.to_u32-count.result ≡ of_z w32 (signed_at w32 c.args.payload.now (c.loop-at.at + 4))
+count c = c.to_u32-count.ensures ∙ ap (of_z w32) (to_z-of_z {w = w32} (record { sfits = c.read_i32-in-loop-at.type_inv }) ∙ c.read_i32-in-loop-at.ensures ∙ part-number c.args.payload.now c.loop-at.at 4 (omega arith))
+
+here : (c : lts.After-to_u32 tie.the-claims reads.Pre reads.Post goal.the-invariant-loop-at goal.the-decreases-loop-at) (r : Range) → HasResults (Runs r) c.args.payload.now c.args.n
+    → read_in (Runs r) (drop c.loop-at.at c.args.payload.now)
+    ≡ map (λ (l : List ℤ). replicate c.to_u32-count.result (signed_at w32 c.args.payload.now c.loop-at.at) ++ l) (read_in (Runs r) (drop (c.loop-at.at + 8) c.args.payload.now))
+here c r held = rw (count c) (next c.before.before.before r held).1
+
+-- there is room for it
+has_room : (c : lts.After-to_u32 tie.the-claims reads.Pre reads.Post goal.the-invariant-loop-at goal.the-decreases-loop-at) → (c.loop-at.o + c.to_u32-count.result ≤ c.args.n) × (length c.loop-at.buffer ≡ length c.args.buffer.now)
+has_room c =
+    let a = c in
+    let p = c.loop-at in
+    let w = p.invariant.1 a.args.range a.requires.0 a.requires.1 in
+    (begun-room (bits_by a.args.divisor) (Runs a.args.range) a.args.payload.now a.args.buffer.now a.args.n a.requires.0 a.requires.1 p.at p.o p.buffer w (signed_at w32 a.args.payload.now p.at) c.to_u32-count.result (p.at + 8) (here c a.args.range a.requires.0), w.3)
+
+pub quotient_bits-bits-requires : goal.quotient_bits-bits-requires
+quotient_bits-bits-requires c =
+    let a = c in
+    let p = c.loop-at in
+    let w = p.invariant.1 a.args.range a.requires.0 a.requires.1 in
+    let q = next c.before a.args.range a.requires.0 in
+    let s = a.args.payload.now in
+    let e = next-exact (Runs a.args.range) false a.args.payload.now w.0 (last_from false (pos 0) w.0) (signed_at w32 a.args.payload.now p.at) (of_z w32 (signed_at w32 a.args.payload.now (p.at + 4))) (read_in (Runs a.args.range) (drop p.at a.args.payload.now)) (read_in (Runs a.args.range) (drop (p.at + 8) a.args.payload.now)) a.requires.0.0 a.requires.2 a.requires.0.1 w.1 refl q.1 in
+    (rw (value c.before) (run-exact false (last_from false (pos 0) w.0) (signed_at w32 a.args.payload.now p.at) (of_z w32 (signed_at w32 a.args.payload.now (p.at + 4))) 0 e q.0), a.requires.3)
+
+pub overflow_sub-n : goal.overflow_sub-n
+overflow_sub-n c = let r = has_room c.before.before in omega (arith, r.0)
+
+pub write_run-requires : goal.write_run-requires
+write_run-requires c = let r = has_room c.before.before in let k = c.requires.1 in (omega (arith, r.0, r.1), omega (arith, r.0, r.1))
+
+pub loop-at-preserved : goal.loop-at-preserved
+loop-at-preserved c =
+    let a = c in
+    let p = c.loop-at in
+    let v = c.quotient_bits-bits.ensures ∙ ap (bits_by a.args.divisor) (value c.before.before.before.before.before.before.before.before) in (
+      omega arith,
+      (λ r held room. begun-run (bits_by a.args.divisor) (Runs r) a.args.payload.now a.args.buffer.now a.args.n held room p.at p.o p.buffer (p.invariant.1 r held room) (signed_at w32 a.args.payload.now p.at) c.to_u32-count.result (p.at + 8) (here c.before.before.before.before.before r held) c.write_run.new.buffer (rw v at c.write_run.ensures)),
+    )
+
+pub returns : goal.returns
+returns c =
+    let a = c in
+    let p = c.loop-at in
+    begun-end (bits_by a.args.divisor) (Runs a.args.range) a.args.payload.now a.args.buffer.now a.args.n a.requires.0 a.requires.1 p.at p.o p.buffer (p.invariant.1 a.args.range a.requires.0 a.requires.1) (runs-end a.args.range a.args.payload.now p.at (omega arith))
