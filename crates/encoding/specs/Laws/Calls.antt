@@ -1,5 +1,5 @@
 -- Laws of what the calls say and leave: a refused plan, and a placed payload with its header. Assumes nothing.
-use Rattle.std.specs.Prelude.{◌≡◌, Bool, cond, List, ◌++◌, ℕ, ◌+◌, ◌-◌, ◌≤◌, take, ℤ}
+use Rattle.std.specs.Prelude.{◌≡◌, Bool, cond, List, ◌++◌, ℕ, ◌+◌, ◌≤◌, take, ℤ}
 use Rattle.std.proofs.Math.Path.{refl}
 use Rattle.std.proofs.Common.{sym, ap, ap₂, ◌∙◌, append_assoc, length-append}
 use Rattle.std.proofs.Math.Bool.{true, false}

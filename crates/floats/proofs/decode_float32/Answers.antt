@@ -1,17 +1,14 @@
 -- By the header, then by the kind: the table's rows say which forms a kind has (`fixed-row`, `float-row`).
 use mathlib.Core.Path.{◌≡◌, refl, sym, ap, ap₂, subst, ◌∙◌}
+use Rattle.std.proofs.Common.{◌≢◌}
 use mathlib.Core.Bool.{Bool, true}
-use mathlib.Core.List.{[], ◌∷◌}
 use Prim.Native.Nat.{ℕ, ◌-◌}
 use native.Mathlib.Omega.{arith}
 use lib.ListN.{length, take, drop}
-use types.Run.{OneOf, miss}
-use denote.Enum.Declared.{tag_of}
 use Rattle.numbers.specs.BigEndian.{unsigned_at}
 use Rattle.steps.specs.declared.Form.{Form}
 use Rattle.columns.specs.declared.Kind.{Kind}
 use Rattle.columns.specs.declared.Kind.TheVariants as kind
-use Rattle.columns.specs.contracts.Kind.{the_type}
 use Rattle.columns.specs.declared.Codec.TheVariants.{Known}
 use Rattle.columns.specs.Table.{suits}
 use Rattle.columns.specs.declared.Header.TheVariants.{Good}
@@ -23,19 +20,18 @@ use Rattle.columns.specs.declared.Wanted.TheVariants.{Real}
 use Rattle.columns.proofs.Laws.Table.{Passes, header-passes}
 use Rattle.columns.proofs.Laws.Decode.{decode-refused, decode-good}
 use Rattle.floats.specs.Laws.Table.{fixed-row, float-row}
-use borrow.Enum.Refused.{opened}
 use Rattle.floats.proofs.decode_float32.Goals as goal
 use Rattle.floats.proofs.decode_float32.Goals.{In-Good}
 
 -- the header that passed
-passed : (c : In-Good) → Passes Real c.args.column.now c.in-Good.n c.in-Good.m c.in-Good.kind c.in-Good.form c.in-Good.delta
+passed : (c : goal.In-Good) → Passes Real c.args.column.now c.in-Good.n c.in-Good.m c.in-Good.kind c.in-Good.form c.in-Good.delta
 passed c =
     header-passes Real c.args.column.now c.in-Good.n c.in-Good.m c.in-Good.kind c.in-Good.form c.in-Good.delta (sym c.read_header.ensures ∙ c.in-Good.is)
 
 -- what is left of the real kinds is codec 1's
-other : (k : Kind) → suits Real k ≡ true → OneOf (0 ∷ 2 ∷ 3 ∷ 4 ∷ 5 ∷ 6 ∷ []) (tag_of the_type k) → k ≡ kind.Float32
+other : (k : Kind) → suits Real k ≡ true → k ≢ kind.FixedPoint → k ≡ kind.Float32
 other kind.Float32 s o = refl
-other kind.FixedPoint s o = absurd (miss (0 ∷ 2 ∷ 3 ∷ 4 ∷ 5 ∷ 6 ∷ []) 1 tt o)
+other kind.FixedPoint s o = absurd (o refl)
 other kind.Int8 s o = let z : ◌≡◌ {A = ℕ} 0 1 = cc in absurd (omega arith)
 other kind.Int16 s o = let z : ◌≡◌ {A = ℕ} 0 1 = cc in absurd (omega arith)
 other kind.Int32 s o = let z : ◌≡◌ {A = ℕ} 0 1 = cc in absurd (omega arith)
@@ -79,7 +75,7 @@ pub returns-in_default : goal.returns-in_default
 returns-in_default c =
     let a = c.args in
     let p = passed (goal.at.returns-in_default c).In-Good in
-    let t = other c.in-Good.kind p.2 (opened c.in_default.in_default-own.keys2) in
+    let t = other c.in-Good.kind p.2 c.in_default.not-FixedPoint in
     let w = float-row (unsigned_at 4 a.column.now 0) c.in-Good.form c.in-Good.delta p.3.0 (p.3.1 ∙ ap (λ (x : Kind). Known x c.in-Good.form c.in-Good.delta p.3.0) t) in
     let e = decode-good Real a.column.now c.in-Good.n c.in-Good.m c.in-Good.kind c.in-Good.form c.in-Good.delta (sym c.read_header.ensures ∙ c.in-Good.is) in
     let whole = subst (λ (x : Decoding). Answers float_bits (exactly x) a.buffer.now c.kept_in.result c.kept_in.new.buffer)

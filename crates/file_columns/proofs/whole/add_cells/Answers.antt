@@ -6,43 +6,41 @@ use Rattle.numbers.specs.Ranges.{below, all_below}
 use Rattle.numbers.specs.Laws.Ranges.{all_pass-same, below-negative, below-index, index-bits}
 use Rattle.file_columns.specs.Cells.{total}
 use Rattle.file_columns.specs.Laws.Cells.{total-same}
-use Rattle.file_columns.proofs.whole.add_cells.Lts as lts
-use Rattle.file_columns.proofs.whole.add_cells.Reads as reads
-use Rattle.file_columns.proofs.whole.add_cells.Tie as tie
 use Rattle.file_columns.proofs.whole.add_cells.Goals as goal
+use Rattle.file_columns.proofs.whole.add_cells.Goals.{After-to_u32-i, Start}
 
 -- the cell decides
-decides : (c : lts.Start tie.the-claims reads.Pre reads.Post) → all_below c.args.types (replicate c.args.count c.args.cell) ≡ below c.args.types c.args.cell
+decides : (c : Start) → all_below c.args.types (replicate c.args.count c.args.cell) ≡ below c.args.types c.args.cell
 decides c = all_pass-same (below c.args.types) c.args.count c.args.cell c.requires.0
 
 -- it is not negative
-positive : (c : lts.Else1 tie.the-claims reads.Pre reads.Post) → lt_z c.args.cell (pos 0) ≡ false
+positive : (c : After-to_u32-i) → lt_z c.args.cell (pos 0) ≡ false
 positive c = ap (λ (z : ℤ). lt_z z (pos 0)) (sym (to_z-of_z {w = w32} c.ranges.cell)) ∙ c.if-cell-lt0.false
 
 -- its index
-index : (c : lts.After-to_u32 tie.the-claims reads.Pre reads.Post) → c.to_u32-i.result ≡ nat_abs c.args.cell
-index c = c.to_u32-i.ensures ∙ ap (of_z w32) (to_z-of_z {w = w32} c.ranges.cell) ∙ index-bits c.args.cell (positive c.before)
+index : (c : After-to_u32-i) → c.to_u32-i.result ≡ nat_abs c.args.cell
+index c = c.to_u32-i.ensures ∙ ap (of_z w32) (to_z-of_z {w = w32} c.ranges.cell) ∙ index-bits c.args.cell (positive c)
 
 pub returns-then-cell-lt0 : goal.returns-then-cell-lt0
 returns-then-cell-lt0 c h =
-    let a = c.before.before.before.before in
-    decides a ∙ below-negative a.args.types a.args.cell (ap (λ (z : ℤ). lt_z z (pos 0)) (sym (to_z-of_z {w = w32} a.ranges.cell)) ∙ c.if-cell-lt0.true)
+    let a = c in
+    decides (goal.at.returns-then-cell-lt0 c).Start ∙ below-negative a.args.types a.args.cell (ap (λ (z : ℤ). lt_z z (pos 0)) (sym (to_z-of_z {w = w32} a.ranges.cell)) ∙ c.if-cell-lt0.true)
 
 pub returns-then-types-i : goal.returns-then-types-i
 returns-then-types-i c h =
-    let a = c.before.before.before.before.before.before in
-    let i = index c.before.before in
-    decides a ∙ below-index a.args.types a.args.cell (positive c.before.before.before) ∙ le-ltb (nat_abs a.args.cell) a.args.types (omega arith)
+    let a = c in
+    let i = index (goal.at.returns-then-types-i c).After-to_u32-i in
+    decides (goal.at.returns-then-types-i c).Start ∙ below-index a.args.types a.args.cell (positive (goal.at.returns-then-types-i c).After-to_u32-i) ∙ le-ltb (nat_abs a.args.cell) a.args.types (omega arith)
 
 pub returns : goal.returns
 returns c =
-    let b = c.before.before.before.before.before.before.before.before.before in
-    let a = b.before.before.before.before in
-    let i = index b in
+    let b = c in
+    let a = c in
+    let i = index (goal.at.returns c).After-to_u32-i in
     let l = length-replicate a.args.count a.args.cell in
     let entries : (table : List ℕ) → get_or table b.to_u32-i.result 0 * a.args.count ≡ total table (replicate a.args.count a.args.cell) =
     λ table. ap (λ (j : ℕ). get_or table j 0 * a.args.count) i ∙ sym (total-same table a.args.count a.args.cell) in (
-      decides a ∙ below-index a.args.types a.args.cell (positive b.before) ∙ lt-ltb (nat_abs a.args.cell) a.args.types (omega arith),
+      decides (goal.at.returns c).Start ∙ below-index a.args.types a.args.cell (positive (goal.at.returns c).After-to_u32-i) ∙ lt-ltb (nat_abs a.args.cell) a.args.types (omega arith),
       omega arith,
       c.add_entry.ensures.0 ∙ ap (λ (x : ℕ). a.args.tally.atoms + x) (entries a.args.atoms.now),
       c.add_entry-2.ensures.0 ∙ ap (λ (x : ℕ). a.args.tally.bonds + x) (entries a.args.bonds.now),

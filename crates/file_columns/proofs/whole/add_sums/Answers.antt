@@ -4,37 +4,35 @@ use Rattle.steps.specs.Delta.{plus_delta, results_from, last_from}
 use Rattle.steps.proofs.Laws.Delta.{last-first}
 use Rattle.file_columns.specs.Passing.{Adds}
 use Rattle.file_columns.specs.Laws.Passing.{sums_on, sums-off, sums-end}
-use Rattle.file_columns.proofs.whole.add_sums.Lts as lts
-use Rattle.file_columns.proofs.whole.add_sums.Reads as reads
-use Rattle.file_columns.proofs.whole.add_sums.Tie as tie
 use Rattle.file_columns.proofs.whole.add_sums.Goals as goal
+use Rattle.file_columns.proofs.whole.add_sums.Goals.{After-add_delta-x}
 
 -- the next sum
-next : (c : lts.After-add_delta tie.the-claims reads.Pre reads.Post goal.the-invariant-loop-left goal.the-decreases-loop-left)
+next : (c : After-add_delta-x)
     → to_z w32 (of_z w32 c.add_delta-x.result) ≡ plus_delta c.loop-left.t.last (to_z w32 (of_z w32 c.args.value))
 next c =
     to_z-of_z {w = w32} (record { sfits = c.add_delta-x.type_inv }) ∙ c.add_delta-x.ensures
-    ∙ ap (λ (x : ℤ). plus_delta x (to_z w32 (of_z w32 c.args.value))) (to_z-of_z {w = w32} {z = c.loop-left.t.last} (record { sfits = c.struct_told-1.given.1.1.1.0.1 }))
+    ∙ ap (λ (x : ℤ). plus_delta x (to_z w32 (of_z w32 c.args.value))) (to_z-of_z {w = w32} {z = c.loop-left.t.last} (record { sfits = omega arith }))
 
 pub returns-in_default : goal.returns-in_default
 returns-in_default c =
     let a = c in
     let p = c.loop-left in
-    let b = c.before.before.before.before in
+    let b = c in
     let v = to_z-of_z {w = w32} a.ranges.value in
     let h = subst (Adds a.args.types a.args.atoms.now a.args.bonds.now p.t (replicate 1 (to_z w32 (of_z w32 b.add_delta-x.result))) (to_z w32 (of_z w32 b.add_delta-x.result))) c.in_default.is c.add_cells.ensures in
-    rw v at (sums-off a.args.types a.args.atoms.now a.args.bonds.now a.args.tally (results_from true a.args.tally.last (replicate a.args.count (to_z w32 (of_z w32 a.args.value)))) p.t (to_z w32 (of_z w32 a.args.value)) p.left p.invariant.1 (omega arith) (to_z w32 (of_z w32 b.add_delta-x.result)) (next b) h)
+    rw v at (sums-off a.args.types a.args.atoms.now a.args.bonds.now a.args.tally (results_from true a.args.tally.last (replicate a.args.count (to_z w32 (of_z w32 a.args.value)))) p.t (to_z w32 (of_z w32 a.args.value)) p.left p.invariant.1 (omega arith) (to_z w32 (of_z w32 b.add_delta-x.result)) (next (goal.at.returns-in_default c).After-add_delta-x) h)
 
 pub loop-left-preserved : goal.loop-left-preserved
 loop-left-preserved c =
     let a = c in
     let p = c.loop-left in
-    let b = c.before.before.before.before.before in
+    let b = c in
     let u = c.in-On.u in
     let h = subst (Adds a.args.types a.args.atoms.now a.args.bonds.now p.t (replicate 1 (to_z w32 (of_z w32 b.add_delta-x.result))) (to_z w32 (of_z w32 b.add_delta-x.result))) c.in-On.is c.add_cells.ensures in (
       h.4,
-      sums_on a.args.types a.args.atoms.now a.args.bonds.now a.args.tally (results_from true a.args.tally.last (replicate a.args.count (to_z w32 (of_z w32 a.args.value)))) p.t (to_z w32 (of_z w32 a.args.value)) p.left p.invariant.1 (omega arith) (to_z w32 (of_z w32 b.add_delta-x.result)) (next b) u h,
-      p.invariant.2 ∙ last-first true p.t.last (to_z w32 (of_z w32 a.args.value)) p.left (omega arith) ∙ ap (λ (x : ℤ). last_from true x (replicate (p.left - 1) (to_z w32 (of_z w32 a.args.value)))) (sym (h.5 ∙ next b)),
+      sums_on a.args.types a.args.atoms.now a.args.bonds.now a.args.tally (results_from true a.args.tally.last (replicate a.args.count (to_z w32 (of_z w32 a.args.value)))) p.t (to_z w32 (of_z w32 a.args.value)) p.left p.invariant.1 (omega arith) (to_z w32 (of_z w32 b.add_delta-x.result)) (next (goal.at.loop-left-preserved c).After-add_delta-x) u h,
+      p.invariant.2 ∙ last-first true p.t.last (to_z w32 (of_z w32 a.args.value)) p.left (omega arith) ∙ ap (λ (x : ℤ). last_from true x (replicate (p.left - 1) (to_z w32 (of_z w32 a.args.value)))) (sym (h.5 ∙ next (goal.at.loop-left-preserved c).After-add_delta-x)),
     )
 
 pub returns : goal.returns

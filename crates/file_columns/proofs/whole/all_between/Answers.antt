@@ -8,23 +8,21 @@ use Rattle.columns.proofs.Laws.Table.{Passes, header-passes}
 use Rattle.columns.proofs.Laws.Decode.{decode-refused, decode-good}
 use Rattle.file_columns.specs.Cells.{cells_pass}
 use Rattle.file_columns.specs.Laws.Passing.{pass-judged}
-use Rattle.file_columns.proofs.whole.all_between.Lts as lts
-use Rattle.file_columns.proofs.whole.all_between.Reads as reads
-use Rattle.file_columns.proofs.whole.all_between.Tie as tie
 use Rattle.file_columns.proofs.whole.all_between.Goals as goal
+use Rattle.file_columns.proofs.whole.all_between.Goals.{In-Good}
 
 -- the header that passed
-passed : (c : lts.After-n tie.the-claims reads.Pre reads.Post)
-    → Passes c.args.wanted c.args.column.now c.n-1.given.0.0 c.n-1.given.0.1.0 c.n-1.given.0.1.1.0 c.n-1.given.0.1.1.1.0 c.n-1.given.0.1.1.1.1.0
+passed : (c : In-Good)
+    → Passes c.args.wanted c.args.column.now c.in-Good.n c.in-Good.m c.in-Good.field-2 c.in-Good.form c.in-Good.delta
 passed c =
     let a = c.args in
-    header-passes a.wanted a.column.now c.n-1.given.0.0 c.n-1.given.0.1.0 c.n-1.given.0.1.1.0 c.n-1.given.0.1.1.1.0 c.n-1.given.0.1.1.1.1.0 (sym c.read_header.ensures ∙ c.n-1.given.1)
+    header-passes a.wanted a.column.now c.in-Good.n c.in-Good.m c.in-Good.field-2 c.in-Good.form c.in-Good.delta (sym c.read_header.ensures ∙ c.in-Good.is)
 
 pub slice_bounds-results_between-count : goal.slice_bounds-results_between-count
-slice_bounds-results_between-count c = (passed c.before.before).0
+slice_bounds-results_between-count c = (passed c).0
 
 pub slice_bounds-results_between-start : goal.slice_bounds-results_between-start
-slice_bounds-results_between-start c = (passed c.before.before).0
+slice_bounds-results_between-start c = (passed c).0
 
 pub returns-in-Refused : goal.returns-in-Refused
 returns-in-Refused c =

@@ -6,22 +6,20 @@ use Rattle.payloads.specs.declared.Item.TheVariants.{Run}
 use Rattle.payloads.specs.Laws.Items.{Gives, item-read}
 use Rattle.file_columns.specs.Passing.{Adds}
 use Rattle.file_columns.specs.Laws.Passing.{rest_sums, sums-all, run_on, run-off, run_end}
-use Rattle.file_columns.proofs.whole.sum_items.Lts as lts
-use Rattle.file_columns.proofs.whole.sum_items.Reads as reads
-use Rattle.file_columns.proofs.whole.sum_items.Tie as tie
 use Rattle.file_columns.proofs.whole.sum_items.Goals as goal
+use Rattle.file_columns.proofs.whole.sum_items.Goals.{After-add_run, In-Run}
 
 -- the run that was read
-read : (c : lts.After-value tie.the-claims reads.Pre reads.Post goal.the-invariant-loop-value goal.the-decreases-loop-value) → Gives c.args.form c.args.payload.now c.loop-value.at (Run c.value-1.given.0.0 c.value-1.given.0.1.0 c.value-1.given.0.1.1.0)
-read c = item-read c.args.form c.args.payload.now c.loop-value.at c.item_at.ensures c.value-1.given.1
+read : (c : In-Run) → Gives c.args.form c.args.payload.now c.loop-value.at (Run c.in-Run.value c.in-Run.count c.in-Run.next)
+read c = item-read c.args.form c.args.payload.now c.loop-value.at c.item_at.ensures c.in-Run.is
 
 -- what is added of it
-added : (c : lts.After-add_run tie.the-claims reads.Pre reads.Post goal.the-invariant-loop-value goal.the-decreases-loop-value)
+added : (c : After-add_run)
     → Adds c.args.types c.args.atoms.now c.args.bonds.now c.loop-value.tally
-    (results_from c.args.delta c.loop-value.tally.last (replicate c.value-1.given.0.1.0 c.value-1.given.0.0))
-    (last_from c.args.delta c.loop-value.tally.last (replicate c.value-1.given.0.1.0 c.value-1.given.0.0))
+    (results_from c.args.delta c.loop-value.tally.last (replicate c.in-Run.count c.in-Run.value))
+    (last_from c.args.delta c.loop-value.tally.last (replicate c.in-Run.count c.in-Run.value))
     c.add_run.result
-added c = rw (to_z-of_z {w = w32} {z = c.value-1.given.0.0} (record { sfits = c.known_told-1.given.0.1 })) at c.add_run.ensures
+added c = rw (to_z-of_z {w = w32} {z = c.in-Run.value} (record { sfits = omega arith })) at c.add_run.ensures
 
 pub loop-value-init : goal.loop-value-init
 loop-value-init c =
@@ -30,25 +28,25 @@ loop-value-init c =
     rw c.to_come-tally.ensures (omega arith, (omega arith, omega arith), sums-all a.args.types a.args.atoms.now a.args.bonds.now a.args.n a.args.delta (read_in a.args.form a.args.payload.now))
 
 pub add_run-requires : goal.add_run-requires
-add_run-requires c = ((read c.before.before).2, c.requires.0, c.loop-value.invariant.1)
+add_run-requires c = ((read c).2, c.requires.0, c.loop-value.invariant.1)
 
 pub returns-in_default : goal.returns-in_default
 returns-in_default c =
     let a = c.args in
     let p = c.loop-value in
-    let h = subst (Adds a.types a.atoms.now a.bonds.now p.tally _ _) c.in_default.is (added c.before.before.before.before) in
+    let h = subst (Adds a.types a.atoms.now a.bonds.now p.tally _ _) c.in_default.is (added (goal.at.returns-in_default c).After-add_run) in
     c.no_sums.ensures
-    ∙ sym (p.invariant.2 ∙ run-off a.types a.atoms.now a.bonds.now a.delta p.tally c.in-Run.value c.in-Run.count (read_in a.form (drop p.at a.payload.now)) (read_in a.form (drop c.in-Run.next a.payload.now)) (read c.before.before.before.before.before.before).3 h)
+    ∙ sym (p.invariant.2 ∙ run-off a.types a.atoms.now a.bonds.now a.delta p.tally c.in-Run.value c.in-Run.count (read_in a.form (drop p.at a.payload.now)) (read_in a.form (drop c.in-Run.next a.payload.now)) (read (goal.at.returns-in_default c).In-Run).3 h)
 
 pub loop-value-smaller : goal.loop-value-smaller
-loop-value-smaller c = let g = read c.before.before.before.before.before.before in omega (arith, g.0, g.1)
+loop-value-smaller c = let g = read (goal.at.loop-value-smaller c).In-Run in omega (arith, g.0, g.1)
 
 pub loop-value-preserved : goal.loop-value-preserved
 loop-value-preserved c =
     let a = c.args in
     let p = c.loop-value in
-    let g = read c.before.before.before.before.before.before in
-    let h = subst (Adds a.types a.atoms.now a.bonds.now p.tally _ _) c.in-On.is (added c.before.before.before.before) in
+    let g = read (goal.at.loop-value-preserved c).In-Run in
+    let h = subst (Adds a.types a.atoms.now a.bonds.now p.tally _ _) c.in-On.is (added (goal.at.loop-value-preserved c).After-add_run) in
     (g.1, h.4, p.invariant.2 ∙ run_on a.types a.atoms.now a.bonds.now a.delta p.tally c.in-Run.value c.in-Run.count (read_in a.form (drop p.at a.payload.now)) (read_in a.form (drop c.in-Run.next a.payload.now)) g.3 c.in-On.t h)
 
 pub returns-in-Wrong : goal.returns-in-Wrong

@@ -4,13 +4,11 @@ use Rattle.numbers.specs.BigEndian.{signed_at}
 use Rattle.steps.specs.Width.{width_of}
 use Rattle.file_columns.specs.Passing.{Adds}
 use Rattle.file_columns.specs.Laws.Passing.{numbers-all, numbers_on, numbers-off, numbers-none}
-use Rattle.file_columns.proofs.whole.sum_plain.Lts as lts
-use Rattle.file_columns.proofs.whole.sum_plain.Reads as reads
-use Rattle.file_columns.proofs.whole.sum_plain.Tie as tie
 use Rattle.file_columns.proofs.whole.sum_plain.Goals as goal
+use Rattle.file_columns.proofs.whole.sum_plain.Goals.{After-add_cells}
 
 -- what is added of the number that was read
-added : (c : lts.After-add_cells tie.the-claims reads.Pre reads.Post goal.the-invariant-loop-at goal.the-decreases-loop-at)
+added : (c : After-add_cells)
     → Adds c.args.types c.args.atoms.now c.args.bonds.now c.loop-at.tally (replicate 1 (signed_at (width_of c.args.size) c.args.payload.now c.loop-at.at)) (signed_at (width_of c.args.size) c.args.payload.now c.loop-at.at) c.add_cells.result
 added c = rw (to_z-of_z {w = w32} (record { sfits = c.number_at-number.type_inv }), c.number_at-number.ensures) at c.add_cells.ensures
 
@@ -24,14 +22,14 @@ pub returns-in_default : goal.returns-in_default
 returns-in_default c =
     let a = c.args in
     let p = c.loop-at in
-    let h = subst (Adds a.types a.atoms.now a.bonds.now p.tally _ _) c.in_default.is (added c.before.before.before.before) in
+    let h = subst (Adds a.types a.atoms.now a.bonds.now p.tally _ _) c.in_default.is (added (goal.at.returns-in_default c).After-add_cells) in
     c.no_sums.ensures ∙ sym (p.invariant.2 ∙ numbers-off a.types a.atoms.now a.bonds.now a.size a.payload.now p.at p.tally (omega (arith, c.bytes-k.ensures)) h)
 
 pub loop-at-preserved : goal.loop-at-preserved
 loop-at-preserved c =
     let a = c.args in
     let p = c.loop-at in
-    let h = subst (Adds a.types a.atoms.now a.bonds.now p.tally _ _) c.in-On.is (added c.before.before.before.before) in
+    let h = subst (Adds a.types a.atoms.now a.bonds.now p.tally _ _) c.in-On.is (added (goal.at.loop-at-preserved c).After-add_cells) in
     let e = c.bytes-k.ensures in
     (omega arith, h.4, rw e (p.invariant.2 ∙ numbers_on a.types a.atoms.now a.bonds.now a.size a.payload.now p.at p.tally (omega arith) c.in-On.t h))
 

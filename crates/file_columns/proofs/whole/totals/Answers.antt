@@ -10,28 +10,26 @@ use Rattle.columns.proofs.Laws.Decode.{decode-refused, decode-good}
 use Rattle.payloads.specs.Laws.Judged.{judged-read}
 use Rattle.file_columns.specs.Cells.{sums_of}
 use Rattle.file_columns.specs.Laws.Passing.{sums-judged, hold-true}
-use Rattle.file_columns.proofs.whole.totals.Lts as lts
-use Rattle.file_columns.proofs.whole.totals.Reads as reads
-use Rattle.file_columns.proofs.whole.totals.Tie as tie
 use Rattle.file_columns.proofs.whole.totals.Goals as goal
+use Rattle.file_columns.proofs.whole.totals.Goals.{In-Good}
 
 -- the header that passed
-passed : (c : lts.After-n tie.the-claims reads.Pre reads.Post)
-    → Passes (Only Int32) c.args.column.now c.n-1.given.0.0 c.n-1.given.0.1.0 c.n-1.given.0.1.1.0 c.n-1.given.0.1.1.1.0 c.n-1.given.0.1.1.1.1.0
+passed : (c : In-Good)
+    → Passes (Only Int32) c.args.column.now c.in-Good.n c.in-Good.field-1 c.in-Good.field-2 c.in-Good.form c.in-Good.delta
 passed c =
     let a = c.args in
-    header-passes (Only Int32) a.column.now c.n-1.given.0.0 c.n-1.given.0.1.0 c.n-1.given.0.1.1.0 c.n-1.given.0.1.1.1.0 c.n-1.given.0.1.1.1.1.0 (sym c.read_header.ensures ∙ c.n-1.given.1)
+    header-passes (Only Int32) a.column.now c.in-Good.n c.in-Good.field-1 c.in-Good.field-2 c.in-Good.form c.in-Good.delta (sym c.read_header.ensures ∙ c.in-Good.is)
 
 pub slice_bounds-sums_of-count : goal.slice_bounds-sums_of-count
-slice_bounds-sums_of-count c = (passed c.before.before).0
+slice_bounds-sums_of-count c = (passed c).0
 
 pub slice_bounds-sums_of-start : goal.slice_bounds-sums_of-start
-slice_bounds-sums_of-start c = (passed c.before.before).0
+slice_bounds-sums_of-start c = (passed c).0
 
 pub sums_of-requires : goal.sums_of-requires
 sums_of-requires c =
     let a = c.args in
-    (hold-true a.types a.atoms.now a.bonds.now (sym c.hold.ensures ∙ c.if-not-hold.false), (passed c.before.before.before).1)
+    (hold-true a.types a.atoms.now a.bonds.now (sym c.hold.ensures ∙ c.if-not-hold.false), (passed (goal.at.sums_of-requires c).In-Good).1)
 
 pub returns-in-Refused : goal.returns-in-Refused
 returns-in-Refused c =
@@ -41,7 +39,7 @@ returns-in-Refused c =
 pub returns-in-Good : goal.returns-in-Good
 returns-in-Good c =
     let a = c.args in
-    let p = passed c.before.before.before.before in
+    let p = passed (goal.at.returns-in-Good c).In-Good in
     let payload = take (length a.column.now - header_size) (drop header_size a.column.now) in
     let other = no_names (Only Int32) a.column.now c.in-Good.n c.in-Good.field-1 c.in-Good.field-2 c.in-Good.form c.in-Good.delta p refl in
     let e = decode-good (Only Int32) a.column.now c.in-Good.n c.in-Good.field-1 c.in-Good.field-2 c.in-Good.form c.in-Good.delta (sym c.read_header.ensures ∙ c.in-Good.is) ∙ judged-read c.in-Good.n c.in-Good.field-1 c.in-Good.field-2 c.in-Good.form c.in-Good.delta payload other in
