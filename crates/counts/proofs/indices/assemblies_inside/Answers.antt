@@ -1,0 +1,18 @@
+-- The assemblies of the array are those that are judged.
+use mathlib.Core.Path.{sym, ap, ◌∙◌}
+use Rattle.fields.specs.Tests.{all}
+use Rattle.values.specs.Parts.{items_of, items_in}
+use Rattle.values.specs.Laws.Places.{place-some}
+use Rattle.counts.specs.Indices.{transforms_inside}
+use Rattle.counts.proofs.Laws.Indices.{none-judged}
+use Rattle.counts.proofs.indices.assemblies_inside.Goals as goal
+
+pub returns-then-at-eq0 : goal.returns-then-at-eq0
+returns-then-at-eq0 c = λ t o q. none-judged (transforms_inside c.args.chains) q c.if-at-eq0.true
+
+pub returns : goal.returns
+returns c =
+    λ t o q.
+    let d = place-some q c.if-at-eq0.false in
+    let i = c.items_at-part.ensures.says t d.x d.end d.at in
+    c.assemblies_from.ensures t (items_of d.x) i.end i.all i.counts ∙ sym (ap (λ z. all (transforms_inside c.args.chains) (items_in z)) d.is)
