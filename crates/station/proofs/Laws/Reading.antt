@@ -7,7 +7,6 @@ use Rattle.refusal.specs.declared.Answer.TheVariants as answer
 use Rattle.columns.specs.Buffer.{decoded_answer}
 use Rattle.decoding.specs.Calls.{fixed_answer}
 use Rattle.decoding.specs.declared.Fixed.{Fixed}
-use Rattle.decoding.specs.declared.Fixed.TheVariants as fixed
 use Rattle.station.specs.Reading.{Within, Ended, contents_of, AnswerWithin, FixedWithin, whole_of}
 use Rattle.station.specs.declared.files.Contents.{Contents}
 use Rattle.station.specs.declared.files.End.{End}
