@@ -1,11 +1,13 @@
 // What the program says of itself.
-use crate::output;
+use crate::system::Stream;
+use crate::{output, say};
 use commands::words::Command;
 
 // Writes how the program is used.
-pub(crate) fn write_usage(descriptor: i32) -> bool {
+pub(crate) fn write_usage(rt: HostRuntime, stream: Stream) -> bool {
     output::write_to(
-        descriptor,
+        rt,
+        stream,
         b"station check FILE...              says of each file whether it is accepted, or why it is refused\n\
         station receipt STATION JOB FILE   writes the receipt of the file\n\
         station bill FILE...               writes the bill of the receipts in the files, by station\n\
@@ -28,48 +30,39 @@ pub(crate) fn write_usage(descriptor: i32) -> bool {
 }
 
 // Writes the version of the program.
-pub(crate) fn write_version() -> bool {
-    output::write(b"station 0.10.0\n")
+pub(crate) fn write_version(rt: HostRuntime) -> bool {
+    output::write(rt, b"station 0.10.0\n")
 }
 
 // Says which words a command takes.
-pub(crate) fn say_usage_of(command: Command) {
+pub(crate) fn say_usage_of(rt: HostRuntime, command: Command) {
     match command {
-        Command::Check => io::write_all(libc::STDERR_FILENO, b"Usage: station check FILE...\n"),
-        Command::Receipt => io::write_all(
-            libc::STDERR_FILENO,
-            b"Usage: station receipt STATION JOB FILE\n",
-        ),
-        Command::Bill => io::write_all(libc::STDERR_FILENO, b"Usage: station bill FILE...\n"),
-        Command::Fields => io::write_all(libc::STDERR_FILENO, b"Usage: station fields FILE\n"),
-        Command::View => say_view_usage(),
-        Command::RawView => say_view_usage(),
-        Command::Column => say_column_usage(),
-        Command::RawColumn => say_column_usage(),
-        Command::Help => io::write_all(libc::STDERR_FILENO, b"Usage: station help\n"),
-        Command::Version => io::write_all(libc::STDERR_FILENO, b"Usage: station --version\n"),
-        _ => true,
-    };
+        Command::Check => say::say_bytes(rt, b"Usage: station check FILE...\n"),
+        Command::Receipt => say::say_bytes(rt, b"Usage: station receipt STATION JOB FILE\n"),
+        Command::Bill => say::say_bytes(rt, b"Usage: station bill FILE...\n"),
+        Command::Fields => say::say_bytes(rt, b"Usage: station fields FILE\n"),
+        Command::View => say_view_usage(rt),
+        Command::RawView => say_view_usage(rt),
+        Command::Column => say_column_usage(rt),
+        Command::RawColumn => say_column_usage(rt),
+        Command::Help => say::say_bytes(rt, b"Usage: station help\n"),
+        Command::Version => say::say_bytes(rt, b"Usage: station --version\n"),
+        _ => {}
+    }
 }
 
-fn say_view_usage() -> bool {
-    io::write_all(
-        libc::STDERR_FILENO,
-        b"Usage: station view [--raw] FILE NAME\n",
-    )
+fn say_view_usage(rt: HostRuntime) {
+    say::say_bytes(rt, b"Usage: station view [--raw] FILE NAME\n");
 }
 
-fn say_column_usage() -> bool {
-    io::write_all(
-        libc::STDERR_FILENO,
-        b"Usage: station column [--raw] FILE NAME\n",
-    )
+fn say_column_usage(rt: HostRuntime) {
+    say::say_bytes(rt, b"Usage: station column [--raw] FILE NAME\n");
 }
 
 // Says that the program is started by the command.
-pub(crate) fn say_bare() {
-    io::write_all(
-        libc::STDERR_FILENO,
+pub(crate) fn say_bare(rt: HostRuntime) {
+    say::say_bytes(
+        rt,
         b"This program is started by the command station: its first word is the descriptor to which it writes its status.\n",
     );
 }

@@ -5,13 +5,16 @@ ghost use Rattle.bill.specs.Answer.{bill_limit};
 ghost use Rattle.station.specs.Bills.{Holds, PieceHolds, ReachedHolds, FilesHold, files_of};
 
 use crate::files::Opened;
-use crate::{files, output, say};
+use crate::system::Source;
+use crate::{files, output, say, system};
 use commands::bills::Run;
 use commands::status::Status;
 use commands::words::Command;
 use commands::{bills, status, words};
 use refusal::Answer;
 use sentences::Sentence;
+use std::env::Env;
+use std::io::Read;
 
 // What reading files gives: how far the run of their receipts is read, or nothing, and why was said.
 #[derive(Clone, Copy)]
@@ -29,45 +32,53 @@ pub enum Reached {
 }
 
 // Writes the bill of the receipts in the files that are named, or says why there is none.
-pub(crate) fn bill(count: usize) -> Status {
+pub(crate) fn bill(rt: HostRuntime, count: usize) -> Status {
     let mut buffer = io::large_buffer();
     let mut jobs = no_jobs();
     let mut accepted = no_jobs();
     let mut refused = no_jobs();
-    match read_files(count, &mut buffer, &mut jobs, &mut accepted, &mut refused) {
+    match read_files(
+        rt,
+        count,
+        &mut buffer,
+        &mut jobs,
+        &mut accepted,
+        &mut refused,
+    ) {
         Files::None => Status::Nothing,
-        Files::Run(run) => finish(run, &accepted, &refused),
+        Files::Run(run) => finish(rt, run, &accepted, &refused),
     }
 }
 
 // Writes the bill of a run that is read, or says which of its receipts is at fault.
-fn finish(run: Run, accepted: &[u32], refused: &[u32]) -> Status {
+fn finish(rt: HostRuntime, run: Run, accepted: &[u32], refused: &[u32]) -> Status {
     let number = bills::refusal_of(run);
     if number == refusal::ACCEPTED {
-        return status::of_written(write_bill(accepted, refused));
+        return status::of_written(write_bill(rt, accepted, refused));
     }
-    say_refused(run.file, number, run.number);
+    say_refused(rt, run.file, number, run.number);
     status::of_verdict(number)
 }
 
 // Writes the bill of a ledger.
-fn write_bill(accepted: &[u32], refused: &[u32]) -> bool {
+fn write_bill(rt: HostRuntime, accepted: &[u32], refused: &[u32]) -> bool {
     let mut page = no_bill();
     match bill::write(accepted, refused, &mut page) {
         Answer::Refused(_) => false,
-        Answer::Count(n) => output::write_first(&page, n),
+        Answer::Count(n) => output::write_first(rt, &page, n),
     }
 }
 
 // Says why receipts are refused; a receipt at fault begins in the file that a word names.
-fn say_refused(file: usize, number: u8, receipt: u32) {
+fn say_refused(rt: HostRuntime, file: usize, number: u8, receipt: u32) {
     let mut path = io::buffer();
-    let n = os::arg(file, &mut path);
-    say::say(&path[..n], b"", Sentence::Bill(number, receipt));
+    let n = system::word(rt, file, &mut path);
+    say::say(rt, &path[..n], b"", Sentence::Bill(number, receipt));
 }
 
 // Reads the files that are named, and enters their receipts into a ledger.
 fn read_files(
+    rt: HostRuntime,
     count: usize,
     buffer: &mut [u8],
     jobs: &mut [u32],
@@ -77,7 +88,7 @@ fn read_files(
     let mut run = bills::no_bytes();
     let mut file = words::file_place(Command::Bill);
     while file < count {
-        let Files::Run(next) = read_file(run, file, buffer, jobs, accepted, refused) else {
+        let Files::Run(next) = read_file(rt, run, file, buffer, jobs, accepted, refused) else {
             return Files::None;
         };
         run = next;
@@ -88,6 +99,7 @@ fn read_files(
 
 // Reads the file that a word names, unless the run is over the limit already.
 fn read_file(
+    rt: HostRuntime,
     run: Run,
     file: usize,
     buffer: &mut [u8],
@@ -102,29 +114,28 @@ fn read_file(
         return Files::Run(run);
     }
     let mut path = io::buffer();
-    let n = os::arg(file, &mut path);
-    if os::errno() != 0 {
-        say::say_long_word();
+    let Ok(n) = rt.arg(file, &mut path) else {
+        say::say_long_word(rt);
         return Files::None;
-    }
-    let Opened::At(descriptor) = files::open(&path[..n]) else {
+    };
+    let Opened::At(mut source) = files::open(rt, &path[..n]) else {
         return Files::None;
     };
     let begun = bills::opened(run, file);
-    let reached = read_pieces(begun, descriptor, file, buffer, jobs, accepted, refused);
-    files::close(&path[..n], descriptor);
-    told(&path[..n], reached)
+    let reached = read_pieces(begun, &mut source, file, buffer, jobs, accepted, refused);
+    files::close(source);
+    told(rt, &path[..n], reached)
 }
 
 // Says why a file was not read to its end, if it was not.
-fn told(path: &[u8], reached: Reached) -> Files
+fn told(rt: HostRuntime, path: &[u8], reached: Reached) -> Files
     ensures { result ≡ files_of reached }
 {
     match reached {
         Reached::More(run) => Files::Run(run),
         Reached::Ended(run) => Files::Run(run),
         Reached::Failed(reason) => {
-            files::say_unreadable(path, reason);
+            files::say_unreadable(rt, path, reason);
             Files::None
         }
     }
@@ -133,7 +144,7 @@ fn told(path: &[u8], reached: Reached) -> Files
 // Reads pieces of a file, until it ends or the run is over the limit.
 fn read_pieces(
     begun: Run,
-    descriptor: i32,
+    source: &mut Source,
     file: usize,
     buffer: &mut [u8],
     jobs: &mut [u32],
@@ -145,7 +156,7 @@ fn read_pieces(
 {
     let mut run = begun;
     while 0 < run.left {
-        let reached = read_piece(run, descriptor, file, buffer, jobs, accepted, refused);
+        let reached = read_piece(run, source, file, buffer, jobs, accepted, refused);
         let Reached::More(next) = reached else {
             return reached;
         };
@@ -157,7 +168,7 @@ fn read_pieces(
 // Reads a piece of a file behind the bytes that are held, and enters the receipts of both.
 fn read_piece(
     run: Run,
-    descriptor: i32,
+    source: &mut Source,
     file: usize,
     buffer: &mut [u8],
     jobs: &mut [u32],
@@ -168,11 +179,10 @@ fn read_piece(
     ensures { PieceHolds run (length buffer.new) result }
 {
     let from = run.held;
-    let got = libc::read(descriptor, &mut buffer[from..]);
-    if got < 0 {
-        return Reached::Failed(numbers::to_u32(os::errno()));
-    }
-    let n = io::count(got, &buffer[from..]);
+    let n = match source.read(&mut buffer[from..]) {
+        Ok(n) => n,
+        Err(error) => return Reached::Failed(system::number_of(error)),
+    };
     if n == 0 {
         return Reached::Ended(enter(run, file, true, buffer, jobs, accepted, refused));
     }

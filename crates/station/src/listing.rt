@@ -8,22 +8,22 @@ use crate::output;
 use refusal::Answer;
 
 // Writes the fields of a file that is accepted, in the file's order.
-pub(crate) fn write_fields(file: &[u8]) -> bool {
+pub(crate) fn write_fields(rt: HostRuntime, file: &[u8]) -> bool {
     let mut places = no_places();
     match messagepack::keys(file, &mut places) {
         Answer::Refused(_) => false,
-        Answer::Count(n) => write_lines(file, &places[..n]),
+        Answer::Count(n) => write_lines(rt, file, &places[..n]),
     }
 }
 
 // Writes the fields whose keys stand at places.
-fn write_lines(file: &[u8], places: &[u32]) -> bool {
+fn write_lines(rt: HostRuntime, file: &[u8], places: &[u32]) -> bool {
     let mut buffer = output::room();
     let mut at: usize = 0;
     let mut i: usize = 0;
     while i < places.len() {
         if output::is_full(at) {
-            if !output::write_first(&buffer, at) {
+            if !output::write_first(rt, &buffer, at) {
                 return false;
             }
             at = 0;
@@ -31,7 +31,7 @@ fn write_lines(file: &[u8], places: &[u32]) -> bool {
         at = put_field(&mut buffer, at, file, numbers::u32_to_usize(places[i]));
         i += 1;
     }
-    output::write_first(&buffer, at)
+    output::write_first(rt, &buffer, at)
 }
 
 // Puts the line of the field whose key stands at a place.

@@ -1,7 +1,8 @@
 // Data on standard output, in large pieces. Each function answers whether all was written, and says why where it was not.
 ghost use Rattle.std.specs.Prelude.{◌≡◌, length};
 
-use crate::say;
+use crate::system::Stream;
+use crate::{say, system};
 use lines::Notation;
 
 // Room for lines, and how much of it the longest line takes: a file's bytes as four each, and the words after them.
@@ -22,35 +23,37 @@ pub(crate) fn is_full(at: usize) -> bool {
 }
 
 // Writes the first n bytes of a buffer to standard output, or all of it if it has fewer.
-pub(crate) fn write_first(buffer: &[u8], n: usize) -> bool {
+pub(crate) fn write_first(rt: HostRuntime, buffer: &[u8], n: usize) -> bool {
     if n < buffer.len() {
-        return write(&buffer[..n]);
+        return write(rt, &buffer[..n]);
     }
-    write(buffer)
+    write(rt, buffer)
 }
 
 // Writes bytes to standard output.
-pub(crate) fn write(bytes: &[u8]) -> bool {
-    write_to(libc::STDOUT_FILENO, bytes)
+pub(crate) fn write(rt: HostRuntime, bytes: &[u8]) -> bool {
+    write_to(rt, Stream::Output, bytes)
 }
 
-// Writes bytes to a descriptor.
-pub(crate) fn write_to(descriptor: i32, bytes: &[u8]) -> bool {
-    let written = io::write_all(descriptor, bytes);
-    if !written {
-        say::say_unwritten();
+// Writes bytes to a stream.
+pub(crate) fn write_to(rt: HostRuntime, stream: Stream, bytes: &[u8]) -> bool {
+    match system::write_all(rt, stream, bytes) {
+        Ok(()) => true,
+        Err(error) => {
+            say::say_unwritten(rt, error);
+            false
+        }
     }
-    written
 }
 
 // Writes numbers over a divisor, a line each.
-pub(crate) fn write_numbers(values: &[i32], divisor: u32) -> bool {
+pub(crate) fn write_numbers(rt: HostRuntime, values: &[i32], divisor: u32) -> bool {
     let mut buffer = io::large_buffer();
     let mut from: usize = 0;
     while from < values.len() {
         let part = lines::number_lines(&values[from..], divisor, &mut buffer);
         let n = part.bytes;
-        if !write(&buffer[..n]) {
+        if !write(rt, &buffer[..n]) {
             return false;
         }
         from += part.values;
@@ -59,13 +62,13 @@ pub(crate) fn write_numbers(values: &[i32], divisor: u32) -> bool {
 }
 
 // Writes floats in a notation, a line each.
-pub(crate) fn write_floats(values: &[u32], notation: Notation) -> bool {
+pub(crate) fn write_floats(rt: HostRuntime, values: &[u32], notation: Notation) -> bool {
     let mut buffer = io::large_buffer();
     let mut from: usize = 0;
     while from < values.len() {
         let part = lines::float_lines(&values[from..], notation, &mut buffer);
         let n = part.bytes;
-        if !write(&buffer[..n]) {
+        if !write(rt, &buffer[..n]) {
             return false;
         }
         from += part.values;
@@ -74,7 +77,7 @@ pub(crate) fn write_floats(values: &[u32], notation: Notation) -> bool {
 }
 
 // Writes names of a size, a line each.
-pub(crate) fn write_names(names: &[u8], size: usize) -> bool {
+pub(crate) fn write_names(rt: HostRuntime, names: &[u8], size: usize) -> bool {
     let mut buffer = io::large_buffer();
     let mut from: usize = 0;
     while from < names.len() {
@@ -84,7 +87,7 @@ pub(crate) fn write_names(names: &[u8], size: usize) -> bool {
         if step == 0 {
             return true;
         }
-        if !write(&buffer[..n]) {
+        if !write(rt, &buffer[..n]) {
             return false;
         }
         from += step;

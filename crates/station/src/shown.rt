@@ -21,24 +21,25 @@ pub enum Shown {
 }
 
 // Writes the values of a column, floats in a notation.
-pub(crate) fn write_column(column: &[u8], notation: Notation) -> Shown {
+pub(crate) fn write_column(rt: HostRuntime, column: &[u8], notation: Notation) -> Shown {
     match columns::read_header(column, Wanted::Any) {
         Header::Refused(r) => Shown::Refused(r),
         Header::Good(_, size, kind, _, _) => match kind {
-            Kind::Float32 => show_floats(column, notation),
-            Kind::Strings => show_bytes(column, kind, size as usize),
-            Kind::Chars => show_bytes(column, kind, 1),
-            _ => show_numbers(column, kind),
+            Kind::Float32 => show_floats(rt, column, notation),
+            Kind::Strings => show_bytes(rt, column, kind, size as usize),
+            Kind::Chars => show_bytes(rt, column, kind, 1),
+            _ => show_numbers(rt, column, kind),
         },
     }
 }
 
 // Writes the values of a column of integers or fixed point.
-fn show_numbers(column: &[u8], kind: Kind) -> Shown {
+fn show_numbers(rt: HostRuntime, column: &[u8], kind: Kind) -> Shown {
     let mut buffer = no_numbers();
     match decode_numbers(column, kind, &mut buffer) {
         Fixed::Refused(r) => Shown::Refused(r),
         Fixed::Column(n, divisor) => Shown::Written(output::write_numbers(
+            rt,
             &buffer[..n],
             numbers::to_u32(divisor),
         )),
@@ -68,20 +69,20 @@ fn whole(answer: Answer) -> Fixed
 }
 
 // Writes the floats of a column in a notation.
-fn show_floats(column: &[u8], notation: Notation) -> Shown {
+fn show_floats(rt: HostRuntime, column: &[u8], notation: Notation) -> Shown {
     let mut buffer = no_floats();
     match floats::decode_float32(column, &mut buffer) {
         Answer::Refused(r) => Shown::Refused(r),
-        Answer::Count(n) => Shown::Written(output::write_floats(&buffer[..n], notation)),
+        Answer::Count(n) => Shown::Written(output::write_floats(rt, &buffer[..n], notation)),
     }
 }
 
 // Writes the characters or the strings of a column.
-fn show_bytes(column: &[u8], kind: Kind, size: usize) -> Shown {
+fn show_bytes(rt: HostRuntime, column: &[u8], kind: Kind, size: usize) -> Shown {
     let mut buffer = io::large_buffer();
     match decode_bytes(column, kind, &mut buffer) {
         Answer::Refused(r) => Shown::Refused(r),
-        Answer::Count(n) => Shown::Written(output::write_names(&buffer[..n], size)),
+        Answer::Count(n) => Shown::Written(output::write_names(rt, &buffer[..n], size)),
     }
 }
 
