@@ -21,7 +21,7 @@ def read(path):
 def listed():
     """The crates of crates.txt in their order, each with those that it uses."""
     lines = [line.split("#")[0] for line in read(HOME / "crates.txt").splitlines()]
-    return {line.split(":")[0].strip(): line.split(":")[1].split() for line in lines if ":" in line}
+    return {line.split()[0].split(":")[0]: line.split(":")[1].split() for line in lines if ":" in line}
 
 
 def files_of(crate):
