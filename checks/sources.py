@@ -1,5 +1,4 @@
-"""What the repository has: crates, functions, definitions, laws and wrong programs, and how long a crate's check took. The scripts of this
-folder look names up here."""
+"""What the repository has: crates, functions, definitions, laws and wrong programs. The scripts of this folder look names up here."""
 
 import re
 from pathlib import Path
@@ -7,6 +6,8 @@ from pathlib import Path
 HOME = Path(__file__).resolve().parent.parent
 FUNCTION = re.compile(r'^(?P<public>pub )?(?:pub\(crate\) )?(?:extern "C" )?fn (?P<name>\w+)(?P<said>.*?)(?:^\{| \{$)', re.M | re.S)
 BODY = re.compile(r'^(?:pub )?(?:pub\(crate\) )?(?:extern "C" )?fn (?P<name>\w+).*?(?:^\{| \{$)(?P<body>.*?)^\}', re.M | re.S)
+# The folders of a crate that its source is in.
+PARTS = ("src", "specs", "proofs")
 PASSED_OVER = re.compile(r"^\s*(?:$|--|//|use |pub use |ghost use |mod |pub mod |module )")
 
 # The crates whose functions are calls, those whose sources name calls, and the calls whose form the rules name, which C cannot take.
@@ -21,7 +22,7 @@ def read(path):
 def listed():
     """The crates of crates.txt in their order, each with those that it uses."""
     lines = [line.split("#")[0] for line in read(HOME / "crates.txt").splitlines()]
-    return {line.split(":")[0].strip(): line.split(":")[1].split() for line in lines if ":" in line}
+    return {line.split()[0].split(":")[0]: line.split(":")[1].split() for line in lines if ":" in line}
 
 
 def files_of(crate):
@@ -76,8 +77,9 @@ def declared_in(crate):
 
 def names_of_functions(text):
     """The functions, and other things, that a text names as crate::name or crate::module::name; a module that it takes by `use` has its crate."""
-    for crate, module in re.findall(r"^use (\w+)::([a-z_]\w*);", text, re.M):
-        text = re.sub(rf"(?<!::)\b{module}::", f"{crate}::{module}::", text)
+    for crate, taken in re.findall(r"^use (\w+)::(\w+|\{[^}]*\});", text, re.M):
+        for module in re.findall(r"\b[a-z_]\w*\b", taken):
+            text = re.sub(rf"(?<!::)\b{module}::", f"{crate}::{module}::", text)
     return set(re.findall(r"\b\w+(?:::\w+)+", text))
 
 
@@ -94,13 +96,6 @@ def lines_of(text):
     return sum(1 for line in text.splitlines() if not PASSED_OVER.match(line))
 
 
-def seconds_of(crate):
-    """How long the crate's last check in this folder took (target/log), or None."""
-    said = HOME / "target" / "log" / f"{crate}.out"
-    found = re.search(rf"^rt: {crate} proved \((\d+) s\)", read(said), re.M) if said.is_file() else None
-    return int(found.group(1)) if found else None
-
-
 class Repository:
     """What the repository has, to look names up."""
 
@@ -109,7 +104,7 @@ class Repository:
         self.functions = {crate: functions_of(crate) for crate in self.crates}
         self.declared = {crate: declared_in(crate) for crate in self.crates}
         self.clauses = set(re.findall(r"ensures (\w+) \{", " ".join(c for f in self.functions.values() for _, c in f.values())))
-        paths = [path for end in ("rt", "antt") for path in (HOME / "crates").rglob(f"*.{end}")]
+        paths = [path for crate in self.crates for part in PARTS for path in (HOME / "crates" / crate / part).rglob("*.*t")]
         self.words = "".join(read(path) for path in paths + [HOME / "crates.txt", HOME / ".ci" / "run", HOME / "include" / "mmtf.h"])
 
     def public(self):
@@ -137,8 +132,8 @@ class Repository:
         return found and found[0]
 
     def has_law(self, crate, file, name):
-        path = HOME / "crates" / crate / "specs" / "Laws" / f"{file}.antt"
-        return path.exists() and has_line(path, rf"(?:pub )?{re.escape(name)} :")
+        paths = [HOME / "crates" / crate / part / "Laws" / f"{file}.antt" for part in ("specs", "proofs")]
+        return any(path.exists() and has_line(path, rf"(?:pub )?{re.escape(name)} :") for path in paths)
 
     def has_edit(self, crate, name):
         """A wrong program stands below a line '# NAME in FUNCTION: ..' or '# NAME in laws FILE: ..' of one of the crate's edits."""

@@ -4,7 +4,7 @@
  * It shows mmtf_bill. A file has any number of receipts, one after another, and the files are taken one after another too, as
  * one run of receipts. Within each station the jobs must rise. A refused run has status 1, and no bill.
  *
- * Compile it at the top of the repository, after rt staticlib mmtf, by the first line, and with the installed library by the second:
+ * Compile it at the top of the repository, after bin/build library, by the first line, and with the installed library by the second:
  *
  *     gcc -std=c11 -Wall -Wextra -Iinclude -o target/bill examples/bill.c target/staticlib/libmmtf.a
  *     gcc -std=c11 -Wall -Wextra -o bill bill.c $(pkg-config --cflags --libs mmtf)

@@ -5,7 +5,7 @@
  * its values need, and the decoder of its kind writes them into a buffer. Coordinates come as floats here;
  * mmtf_decode_fixed_point gives the same column as integers and divisor, with nothing lost.
  *
- * Compile it at the top of the repository, after rt staticlib mmtf, by the first line, and with the installed library by the second:
+ * Compile it at the top of the repository, after bin/build library, by the first line, and with the installed library by the second:
  *
  *     gcc -std=c11 -Wall -Wextra -Iinclude -o target/column examples/column.c target/staticlib/libmmtf.a
  *     gcc -std=c11 -Wall -Wextra -o column column.c $(pkg-config --cflags --libs mmtf)

@@ -4,7 +4,7 @@
  * It shows mmtf_verdict and mmtf_matrix. A transform moves chains to their place in an assembly; the fourth number of a row is
  * the translation. If the file has no transform, a sentence on standard error says so, and the status is 2.
  *
- * Compile it at the top of the repository, after rt staticlib mmtf, by the first line, and with the installed library by the second:
+ * Compile it at the top of the repository, after bin/build library, by the first line, and with the installed library by the second:
  *
  *     gcc -std=c11 -Wall -Wextra -Iinclude -o target/matrix examples/matrix.c target/staticlib/libmmtf.a
  *     gcc -std=c11 -Wall -Wextra -o matrix matrix.c $(pkg-config --cflags --libs mmtf)

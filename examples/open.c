@@ -5,7 +5,7 @@
  * It shows how a program that wants many columns checks a file once: mmtf_fields answers the verdict and where each named
  * field stands, mmtf_header says how much room a column's values need, and no column is looked for again.
  *
- * Compile it at the top of the repository, after rt staticlib mmtf, by the first line, and with the installed library by the second:
+ * Compile it at the top of the repository, after bin/build library, by the first line, and with the installed library by the second:
  *
  *     gcc -std=c11 -Wall -Wextra -Iinclude -o target/open examples/open.c target/staticlib/libmmtf.a
  *     gcc -std=c11 -Wall -Wextra -o open open.c $(pkg-config --cflags --libs mmtf)

@@ -5,7 +5,7 @@
  * sentence on standard error says the verdict. A file of more than 65,536 bytes, the most that a station holds, gets no
  * receipt; the library's calls take any length.
  *
- * Compile it at the top of the repository, after rt staticlib mmtf, by the first line, and with the installed library by the second:
+ * Compile it at the top of the repository, after bin/build library, by the first line, and with the installed library by the second:
  *
  *     gcc -std=c11 -Wall -Wextra -Iinclude -o target/receipt examples/receipt.c target/staticlib/libmmtf.a
  *     gcc -std=c11 -Wall -Wextra -o receipt receipt.c $(pkg-config --cflags --libs mmtf)

@@ -147,7 +147,7 @@ class Loaded(Case):
         known = {**os.environ, "MMTF_LIB_DIR": "/nowhere"}
         done = subprocess.run([HERE / "build"], capture_output=True, text=True, env=known)
         self.assertEqual((done.returncode, done.stderr),
-                         (1, "There is no /nowhere/libmmtf.a: rt staticlib mmtf makes it.\n"))
+                         (1, "There is no /nowhere/libmmtf.a: bin/build library makes it.\n"))
 
 
 class Documented(Case):
