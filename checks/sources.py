@@ -1,11 +1,13 @@
 """What the repository has: crates, functions, definitions, laws and wrong programs. The scripts of this folder look names up here."""
 
 import re
+import textwrap
 from pathlib import Path
 
 HOME = Path(__file__).resolve().parent.parent
 FUNCTION = re.compile(r'^(?P<public>pub )?(?:pub\(crate\) )?(?:extern "C" )?fn (?P<name>\w+)(?P<said>.*?)(?:^\{| \{$)', re.M | re.S)
 BODY = re.compile(r'^(?:pub )?(?:pub\(crate\) )?(?:extern "C" )?fn (?P<name>\w+).*?(?:^\{| \{$)(?P<body>.*?)^\}', re.M | re.S)
+METHODS = re.compile(r"^impl(?:<[^>]*>)? (?P<type>\w+)(?:<[^>]*>)? \{$(?P<body>.*?)^\}", re.M | re.S)
 # The folders of a crate that its source is in.
 PARTS = ("src", "specs", "proofs")
 PASSED_OVER = re.compile(r"^\s*(?:$|--|//|use |pub use |ghost use |mod |pub mod |module )")
@@ -41,16 +43,25 @@ def modules_of(crate):
     return set(re.findall(r"^pub mod (\w+);", source(crate), re.M))
 
 
+def finds(pattern, text):
+    """What a pattern finds in a text, each with its name: Type::name for a method."""
+    for match in pattern.finditer(text):
+        yield match["name"], match
+    for block in METHODS.finditer(text):
+        for match in pattern.finditer(textwrap.dedent(block["body"])):
+            yield f"{block['type']}::{match['name']}", match
+
+
 def by_name(crate, pattern):
     """What a pattern finds in the files of a crate, by its group `name`: crate::module::name has the key module::name. What stands
     in a module that other crates cannot name is found by its bare name too, if nothing else has that."""
     modules, found = modules_of(crate), {}
     for module, text in files_of(crate):
-        for match in pattern.finditer(text):
+        for name, match in finds(pattern, text):
             if module:
-                found[f"{module}::{match['name']}"] = (module, match)
-            if module not in modules and (not module or match["name"] not in found):
-                found[match["name"]] = (module, match)
+                found[f"{module}::{name}"] = (module, match)
+            if module not in modules and (not module or name not in found):
+                found[name] = (module, match)
     return found
 
 
@@ -64,6 +75,11 @@ def bodies_of(crate):
     """The bodies of a crate's functions, each with the file that it stands in."""
     home = "main" if (HOME / "crates" / crate / "src" / "main.rt").exists() else "lib"
     return {name: (f"crates/{crate}/src/{module or home}.rt", match["body"]) for name, (module, match) in by_name(crate, BODY).items()}
+
+
+def refusals():
+    """The refusals of the table by their numbers, each with the name of its variant."""
+    return {int(n): name for name, n in re.findall(r"^    (\w+) = (\d+),$", source("refusal"), re.M)}
 
 
 def declared_in(crate):
@@ -81,6 +97,16 @@ def names_of_functions(text):
         for module in re.findall(r"\b[a-z_]\w*\b", taken):
             text = re.sub(rf"(?<!::)\b{module}::", f"{crate}::{module}::", text)
     return set(re.findall(r"\b\w+(?:::\w+)+", text))
+
+
+def methods_in(text, public):
+    """The methods among public functions that a text calls, as Type::method or of a value; of which type the value is, is not looked at."""
+    found = set()
+    for name in public:
+        *_, last, method = name.split("::")
+        if last[0].isupper() and re.search(rf"(?:\b{last}::|\.){method}\(", text):
+            found.add(name)
+    return found
 
 
 def path_of(crate, file):
@@ -113,15 +139,18 @@ class Repository:
 
     def calls(self):
         """The public functions that C, Python and the program reach, and those of matrices."""
-        named = {f"{BOUNDARY}::{name}" for name in self.functions[BOUNDARY]} | MATRICES
-        return set(self.public()).intersection(named.union(*map(names_of_functions, map(source, CALLERS))))
+        public, named = set(self.public()), {f"{BOUNDARY}::{name}" for name in self.functions[BOUNDARY]} | MATRICES
+        for crate in CALLERS:
+            named |= names_of_functions(source(crate)) | methods_in(source(crate), public)
+        return public & named
 
     def unused(self):
         """The inner steps that no crate names but their own."""
-        named = set()
+        public, named = set(self.public()), set()
         for crate in self.crates:
-            named |= {name for name in names_of_functions(source(crate)) if not name.startswith(f"{crate}::")}
-        return set(self.public()) - self.calls() - named
+            others = {name for name in public if not name.startswith(f"{crate}::")}
+            named |= names_of_functions(source(crate)) & others | methods_in(source(crate), others)
+        return public - self.calls() - named
 
     def definition(self, crate, cited):
         """The text of a definition that is cited as File.name, from its signature to the next empty line, or None."""
@@ -136,6 +165,7 @@ class Repository:
         return any(path.exists() and has_line(path, rf"(?:pub )?{re.escape(name)} :") for path in paths)
 
     def has_edit(self, crate, name):
-        """A wrong program stands below a line '# NAME in FUNCTION: ..' or '# NAME in laws FILE: ..' of one of the crate's edits."""
-        headed = re.compile(rf"^# {name} in (?:laws )?\w+(?: and \w+)*(?: at \S+)?: ", re.M)
+        """A wrong program stands below a line '# NAME in FUNCTION: ..', '# NAME in Type::METHOD: ..' or '# NAME in laws FILE: ..' of one of the
+        crate's edits."""
+        headed = re.compile(rf"^# {name} in (?:laws )?[\w:]+(?: and [\w:]+)*(?: at \S+)?: ", re.M)
         return any(headed.search(read(path)) for path in (HOME / "crates" / crate / "must-fail").glob("*.edit"))

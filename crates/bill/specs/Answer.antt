@@ -1,12 +1,11 @@
 -- What billing bytes answers and leaves in a buffer, for any bytes and any room: the first refusal by the stated order, or the bill (paper 02,
 -- wish 1). A receipt that cannot be read ends what stands at the front of the bytes, so that a receipt at fault there comes before it. Then what is
 -- said of bytes that were billed, without a reader. No lemma stands here: the laws are in Laws/Answer.antt. Assumes nothing.
-use Rattle.std.specs.Prelude.{◌≡◌, ℕ, zero, suc, ◌+◌, ◌*◌, ◌≤◌, true, cond, List, [], ◌∷◌, length, drop, ◌==◌, nat_le}
+use Rattle.std.specs.Prelude.{◌≡◌, Result, Err, ℕ, zero, suc, ◌+◌, ◌*◌, ◌≤◌, true, cond, List, [], ◌∷◌, length, drop, ◌==◌, nat_le}
 use Rattle.refusal.specs.Table.{accepted, file_over_limit, receipt_malformed, job_not_rising}
 use Rattle.refusal.specs.First.{or_else, unless}
-use Rattle.refusal.specs.Answer.{answered, leaves}
-use Rattle.refusal.specs.declared.Answer.{Answer}
-use Rattle.refusal.specs.declared.Answer.TheVariants.{Refused}
+use Rattle.refusal.specs.Outcome.{answered}
+use Rattle.refusal.specs.Answer.{leaves}
 use Rattle.messagepack.specs.Limits.{file_limit}
 use Rattle.text.specs.Equal.{equal}
 use Rattle.receipt.specs.declared.Receipt.{Receipt}
@@ -38,8 +37,8 @@ unfoldable pub text_of : List ℕ → List ℕ
 text_of bytes = bill_text (bill_of (front_receipts bytes))
 
 -- what billing answers for a buffer with so much room: the refusal, then 25, else how many bytes were written
-unfoldable pub bill_answer : List ℕ → ℕ → Answer
-bill_answer bytes room = cond (bill_number bytes == accepted) (answered (length (text_of bytes)) room) (Refused (bill_number bytes))
+unfoldable pub bill_answer : List ℕ → ℕ → Result ℕ ℕ
+bill_answer bytes room = cond (bill_number bytes == accepted) (answered (length (text_of bytes)) room) (Err (bill_number bytes))
 
 -- what the buffer holds afterwards: the bill and then what was there; on refusal what was there
 unfoldable pub bill_buffer : List ℕ → List ℕ → List ℕ

@@ -1,20 +1,20 @@
 -- For the code: the ledger that receipts are entered into one after another, what entering bytes or a piece of them does, and the bill of a ledger.
 -- The library enters all bytes at once; a program that holds a piece at a time enters one after another, and `pieces-joined` of Laws/Pieces.antt
 -- says that this is the same. No lemma stands here. Assumes nothing.
-use Rattle.std.specs.Prelude.{◌≡◌, ℕ, ◌+◌, ◌%◌, ◌<◌, ◌≤◌, Bool, true, false, cond, ◌&&◌, List, [], ◌∷◌, ◌++◌, length, drop, ◌==◌, nat_lt, slice_index, slice_set}
+use Rattle.std.specs.Prelude.{◌≡◌, ℕ, suc, ◌+◌, ◌%◌, ◌<◌, ◌≤◌, Bool, true, false, cond, ◌&&◌, List, [], ◌∷◌, ◌++◌, length, drop, replicate, ◌==◌, nat_lt, slice_index, slice_set}
 use Rattle.refusal.specs.Table.{accepted, receipt_malformed, job_not_rising}
+use Rattle.refusal.specs.Outcome.{number_of}
 use Rattle.receipt.specs.declared.Receipt.{Receipt}
-use Rattle.receipt.specs.Receipt.{receipt_limit}
+use Rattle.receipt.specs.Receipt.{receipt_limit, station_limit}
 use Rattle.receipt.specs.Reading.{read_from, has_front}
 use Rattle.bill.specs.declared.Entered.{Entered}
+use Rattle.bill.specs.declared.Ledger.{Ledger}
 use Rattle.bill.specs.Run.{texts, all_kept, stations}
 use Rattle.bill.specs.Bill.{Entry, Bill, is_accepted}
 
--- three columns, each indexed by the station: its last job, its accepted and its refused jobs
-pub record Ledger : Type 0 where
-  pub jobs : List ℕ
-  pub accepted : List ℕ
-  pub refused : List ℕ
+-- a ledger with nothing in it
+abbrev pub blank : Ledger
+blank = record { jobs = replicate (suc station_limit) 0; accepted = replicate (suc station_limit) 0; refused = replicate (suc station_limit) 0 }
 
 -- a column with one more at a station, modulo 2 ^ 32
 abbrev pub raised : List ℕ → ℕ → List ℕ
@@ -61,7 +61,7 @@ pub record Enters (bytes : List ℕ) (ends : Bool) (old new : Ledger) (r : Enter
   pub order : all_rise old receipts ≡ true
   pub enough : (k : ℕ) → k < length receipts → least ends ≤ length (texts (drop k receipts)) + length (drop r.bytes bytes)
   pub ledger : new ≡ posted_all old receipts
-  pub stops : Stops ends new (drop r.bytes bytes) r.refusal
+  pub stops : Stops ends new (drop r.bytes bytes) (number_of r.outcome)
 
 -- the entries of those of some stations that have jobs in the ledger
 unfoldable pub ledger_entries : List ℕ → List ℕ → List ℕ → List Entry

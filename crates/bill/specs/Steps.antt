@@ -1,7 +1,7 @@
 -- For the code inside: a ledger of three columns, and the lines of one station of a ledger's bill. No lemma stands here. Assumes nothing.
 use Rattle.std.specs.Prelude.{ℕ, cond, ◌&&◌, List, [], ◌==◌}
 use Rattle.bill.specs.Bill.{entry_text}
-use Rattle.bill.specs.Ledger.{Ledger}
+use Rattle.bill.specs.declared.Ledger.{Ledger}
 
 abbrev pub ledger : List ℕ → List ℕ → List ℕ → Ledger
 ledger jobs accepted refused = record { jobs = jobs; accepted = accepted; refused = refused }

@@ -3,18 +3,19 @@
 // columns, each indexed by the station; a program that holds a piece of the receipts at a time enters one piece after another by the same step.
 #![tactic(auto)]
 
-ghost use Rattle.std.specs.Prelude.{◌≡◌, ℕ, suc, ◌%◌, ◌&&◌, length, take, replicate, if◌then◌else◌, ◌==◌, nat_eq, slice_index, slice_set};
-ghost use Rattle.refusal.specs.Answer.{answered, leaves};
+ghost use Rattle.std.specs.Prelude.{◌≡◌, Ok, ℕ, suc, ◌%◌, ◌&&◌, length, take, replicate, if◌then◌else◌, ◌==◌, nat_eq, slice_index, slice_set};
+ghost use Rattle.refusal.specs.Outcome.{numbered, answered};
+ghost use Rattle.refusal.specs.Answer.{leaves};
 ghost use Rattle.receipt.specs.Receipt.{station_limit};
 ghost use Rattle.text.specs.Put.{Put};
 ghost use Rattle.bill.specs.Run.{stations};
 ghost use Rattle.bill.specs.Bill.{entry_text, entries_text, bill_text};
 ghost use Rattle.bill.specs.Answer.{bill_answer, bill_buffer, Billed};
-ghost use Rattle.bill.specs.Ledger.{raised, least, Enters, ledger_entries, ledger_total, ledger_bill};
+ghost use Rattle.bill.specs.Ledger.{raised, blank, least, Enters, ledger_entries, ledger_total, ledger_bill};
 ghost use Rattle.bill.specs.Steps.{ledger, ledger_entry};
 
 use receipt::Found;
-use refusal::Answer;
+use refusal::Refusal;
 
 // Room in a column for every station; the first entry stands for none.
 pub const STATIONS: usize = receipt::STATION_LIMIT as usize + 1;
@@ -22,35 +23,74 @@ pub const STATIONS: usize = receipt::STATION_LIMIT as usize + 1;
 // The most bytes of a bill: three lines for each station and the total, with numbers of at most six digits.
 pub const ROOM: usize = (STATIONS - 1) * 46 + 13;
 
-// What was entered: how many bytes and receipts, and the refusal of the receipt after them, or 0 where entering ended.
+// The ledger that receipts are entered into: three columns, each indexed by the station: its last job, its accepted and its refused jobs.
+#[derive(Drop)]
+pub struct Ledger {
+    pub jobs: [u32; STATIONS],
+    pub accepted: [u32; STATIONS],
+    pub refused: [u32; STATIONS],
+}
+
+impl Ledger {
+    // A ledger with nothing in it.
+    pub fn new() -> Ledger
+        ensures { result ≡ blank }
+    {
+        Ledger {
+            jobs: column(),
+            accepted: column(),
+            refused: column(),
+        }
+    }
+
+    // Enters the receipts at the front of the bytes, as `enter` does.
+    pub fn enter(&mut self, receipts: &[u8], ends: bool) -> Entered
+        ensures { Enters receipts.now ends self.old self.new result }
+    {
+        enter(
+            receipts,
+            ends,
+            &mut self.jobs,
+            &mut self.accepted,
+            &mut self.refused,
+        )
+    }
+
+    // Writes the bill of the ledger into the buffer, as `write` does.
+    pub fn write(&self, buffer: &mut [u8]) -> Result<usize, Refusal>
+        ensures answer { numbered result ≡ answered (length (bill_text (ledger_bill self.now.accepted self.now.refused))) (length buffer.old) }
+        ensures buffer { buffer.new ≡ leaves (bill_text (ledger_bill self.now.accepted self.now.refused)) buffer.old }
+    {
+        write(&self.accepted, &self.refused, buffer)
+    }
+}
+
+// What was entered: how many bytes and receipts, and whether entering ended there or the next receipt was refused.
 #[derive(Clone, Copy)]
 pub struct Entered {
-    pub refusal: u8,
+    pub outcome: Result<(), Refusal>,
     pub bytes: usize,
     pub receipts: usize,
 }
 
 // Writes the bill of a run of receipts into the buffer: 1 for a run over the limit, then 29 or 30 of the first receipt at fault, then 25.
-pub fn bill(receipts: &[u8], buffer: &mut [u8]) -> Answer
-    ensures answer { result ≡ bill_answer receipts.now (length buffer.old) }
+pub fn bill(receipts: &[u8], buffer: &mut [u8]) -> Result<usize, Refusal>
+    ensures answer { numbered result ≡ bill_answer receipts.now (length buffer.old) }
     ensures buffer { buffer.new ≡ bill_buffer receipts.now buffer.old }
-    ensures bill { (n : ℕ) → result ≡ Answer.Count n → Billed receipts.now (take n buffer.new) }
+    ensures bill { (n : ℕ) → result ≡ Ok n → Billed receipts.now (take n buffer.new) }
 {
     if messagepack::FILE_LIMIT < receipts.len() {
-        return Answer::Refused(refusal::FILE_OVER_LIMIT);
+        return Err(Refusal::FileOverLimit);
     }
-    let mut jobs = column();
-    let mut accepted = column();
-    let mut refused = column();
-    let entered = enter(receipts, true, &mut jobs, &mut accepted, &mut refused);
-    if entered.refusal != refusal::ACCEPTED {
-        return Answer::Refused(entered.refusal);
-    }
-    write(&accepted, &refused, buffer)
+    let mut ledger = Ledger::new();
+    let entered = ledger.enter(receipts, true);
+    entered.outcome?;
+    ledger.write(buffer)
 }
 
 // Enters the receipts at the front of the bytes into the ledger, one after another, up to the first that is at fault. Where the bytes are a piece of
-// a longer run (`ends` is false), it stops where less is left than the longest receipt has: the next piece begins there.
+// a longer run (`ends` is false), it stops where less is left than the longest receipt has: the next piece begins there. A `for` is no
+// plainer: each receipt begins where the one before it ends. The columns may have any length, as callers of `enter` may lend them.
 pub fn enter(
     receipts: &[u8],
     ends: bool,
@@ -64,28 +104,29 @@ pub fn enter(
     let mut at: usize = 0;
     let mut count: usize = 0;
     while least <= receipts.len() - at {
-        let Found::At(found, end) = receipt::find(receipts, at) else {
+        let Some(found) = receipt::find(receipts, at) else {
             return Entered {
-                refusal: refusal::RECEIPT_MALFORMED,
+                outcome: Err(Refusal::ReceiptMalformed),
                 bytes: at,
                 receipts: count,
             };
         };
-        let station = numbers::u32_to_usize(found.station);
-        if found.job <= at_station(jobs, station) {
+        let Found { receipt, end } = found;
+        let station = receipt.station as usize;
+        if receipt.job <= at_station(jobs, station) {
             return Entered {
-                refusal: refusal::JOB_NOT_RISING,
+                outcome: Err(Refusal::JobNotRising),
                 bytes: at,
                 receipts: count,
             };
         }
-        store(jobs, station, found.job);
-        tally(found.verdict, station, accepted, refused);
+        store(jobs, station, receipt.job);
+        tally(receipt.verdict, station, accepted, refused);
         at = end;
         count += 1;
     }
     Entered {
-        refusal: refusal::ACCEPTED,
+        outcome: Ok(()),
         bytes: at,
         receipts: count,
     }
@@ -98,34 +139,31 @@ fn tally(verdict: u32, station: usize, accepted: &mut [u32], refused: &mut [u32]
 {
     if verdict == 0 {
         raise(accepted, station);
-        return;
+    } else {
+        raise(refused, station);
     }
-    raise(refused, station);
 }
 
 // How many bytes must be left for a receipt to be looked for.
 fn least_left(ends: bool) -> usize
     ensures { result ≡ least ends }
 {
-    if ends {
-        return 1;
-    }
-    receipt::RECEIPT_LIMIT
+    if ends { 1 } else { receipt::RECEIPT_LIMIT }
 }
 
 // Writes the bill of a ledger into the buffer: 25 where there is too little room. The line of the total has 7 bytes beside its digits.
-pub fn write(accepted: &[u32], refused: &[u32], buffer: &mut [u8]) -> Answer
-    ensures answer { result ≡ answered (length (bill_text (ledger_bill accepted.now refused.now))) (length buffer.old) }
+pub fn write(accepted: &[u32], refused: &[u32], buffer: &mut [u8]) -> Result<usize, Refusal>
+    ensures answer { numbered result ≡ answered (length (bill_text (ledger_bill accepted.now refused.now))) (length buffer.old) }
     ensures buffer { buffer.new ≡ leaves (bill_text (ledger_bill accepted.now refused.now)) buffer.old }
 {
     let total = total_of(accepted);
     let size = entries_size(accepted, refused) + 7 + text::digit_count(total);
     if buffer.len() < size {
-        return Answer::Refused(refusal::BUFFER_TOO_SMALL);
+        return Err(Refusal::BufferTooSmall);
     }
     let end = put_entries(buffer, accepted, refused);
     receipt::put_line(buffer, end, b"total", total);
-    Answer::Count(size)
+    Ok(size)
 }
 
 // The accepted jobs of all stations, modulo 2 ^ 32.
@@ -133,10 +171,8 @@ fn total_of(accepted: &[u32]) -> u32
     ensures { result ≡ ledger_total stations accepted.now % 4294967296 }
 {
     let mut total: u32 = 0;
-    let mut station: usize = 1;
-    while station < STATIONS {
-        total = std::num::wrapping_add_u32(total, at_station(accepted, station));
-        station += 1;
+    for station in 1..STATIONS {
+        total = total.wrapping_add(at_station(accepted, station));
     }
     total
 }
@@ -146,14 +182,12 @@ fn entries_size(accepted: &[u32], refused: &[u32]) -> usize
     ensures { result ≡ length (entries_text (ledger_entries stations accepted.now refused.now)) }
 {
     let mut size: usize = 0;
-    let mut station: usize = 1;
-    while station < STATIONS {
+    for station in 1..STATIONS {
         size += entry_size(
             station as u32,
             at_station(accepted, station),
             at_station(refused, station),
         );
-        station += 1;
     }
     size
 }
@@ -173,8 +207,7 @@ fn put_entries(buffer: &mut [u8], accepted: &[u32], refused: &[u32]) -> usize
     ensures { Put buffer.old 0 (entries_text (ledger_entries stations accepted.now refused.now)) buffer.new result }
 {
     let mut next: usize = 0;
-    let mut station: usize = 1;
-    while station < STATIONS {
+    for station in 1..STATIONS {
         next = put_entry(
             buffer,
             next,
@@ -182,7 +215,6 @@ fn put_entries(buffer: &mut [u8], accepted: &[u32], refused: &[u32]) -> usize
             at_station(accepted, station),
             at_station(refused, station),
         );
-        station += 1;
     }
     next
 }
@@ -203,7 +235,7 @@ fn put_entry(buffer: &mut [u8], at: usize, station: u32, accepted: u32, refused:
 fn has_none(accepted: u32, refused: u32) -> bool
     ensures { result ≡ (accepted == 0) && (refused == 0) }
 {
-    numbers::both(accepted == 0, refused == 0)
+    accepted == 0 && refused == 0
 }
 
 // A column with 0 for every station.
@@ -236,9 +268,5 @@ fn store(column: &mut [u32], station: usize, number: u32)
 fn raise(column: &mut [u32], station: usize)
     ensures { column.new ≡ raised column.old station }
 {
-    store(
-        column,
-        station,
-        std::num::wrapping_add_u32(at_station(column, station), 1),
-    );
+    store(column, station, at_station(column, station).wrapping_add(1));
 }

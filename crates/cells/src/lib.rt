@@ -1,69 +1,52 @@
 // One cell of a column of any kind. The payload is read at most twice, and nothing is copied.
 #![tactic(auto)]
 
-ghost use Rattle.std.specs.Prelude.{◌≡◌, true, false, ℕ};
+ghost use Rattle.std.specs.Prelude.{◌≡◌, Ok, true, false};
+ghost use Rattle.refusal.specs.Outcome.{numbered};
 ghost use Rattle.columns.specs.Table.{is_strings};
 ghost use Rattle.columns.specs.Decode.{decode, judged_payload};
 ghost use Rattle.cells.specs.Calls.{quotient_cell, value_of, cell_of};
 ghost use Rattle.cells.specs.Steps.{is_direct, ResultAt, HasResultAt};
 
 use columns::{HEADER_SIZE, Header, Kind, Wanted};
+use refusal::Refusal;
 use steps::{Form, Range, Size};
 
-// A whole number, a letter, a float, or the refusal.
+// A whole number, a letter or a float.
 #[derive(Clone, Copy)]
 pub enum Cell {
     Int(i32),
     Char(u8),
     Float(f32),
-    Refused(u8),
 }
 
 // The cell at an index: the column's own refusals 14 to 19, then 15 for strings, 28 past the end, and 27 by this cell or the divisor.
-pub fn cell_at(column: &[u8], index: usize) -> Cell
-    ensures { result ≡ cell_of (decode Wanted.Any column.now) index }
+pub fn cell_at(column: &[u8], index: usize) -> Result<Cell, Refusal>
+    ensures { numbered result ≡ cell_of (decode Wanted.Any column.now) index }
 {
-    match columns::read_header(column, Wanted::Any) {
-        Header::Refused(r) => Cell::Refused(r),
-        Header::Good(n, m, kind, form, delta) => match kind {
-            Kind::Strings => strings_refusal(&column[HEADER_SIZE..], n, m),
-            _ => cell_in(&column[HEADER_SIZE..], n, m, kind, form, delta, index),
-        },
-    }
+    let header = columns::read_header(column, Wanted::Any)?;
+    cell_in(&column[HEADER_SIZE..], header, index)
 }
 
-// The refusal of a payload of strings whose header passed: its own, else 15.
-fn strings_refusal(payload: &[u8], n: usize, size: u32) -> Cell
-    ensures { (i : ℕ) → result ≡ cell_of (judged_payload (Header.Good n size Kind.Strings Form.Names false) payload.now) i }
+// The cell of a payload whose header passed.
+fn cell_in(payload: &[u8], header: Header, index: usize) -> Result<Cell, Refusal>
+    requires { is_strings header.kind ≡ false → is_direct header.form header.delta ≡ true }
+    ensures { numbered result ≡ cell_of (judged_payload (Ok header) payload.now) index }
 {
-    let number = payloads::refusal_of(payload, Form::Names, size as usize, n);
-    if number != refusal::ACCEPTED {
-        return Cell::Refused(number);
+    payloads::refusal_of(
+        payload,
+        header.form,
+        header.parameter as usize,
+        header.length,
+    )?;
+    if header.kind == Kind::Strings {
+        return Err(Refusal::CodecUnknown);
     }
-    Cell::Refused(refusal::CODEC_UNKNOWN)
-}
-
-// The cell of a payload whose header passed, of a kind that has cells.
-fn cell_in(
-    payload: &[u8],
-    n: usize,
-    m: u32,
-    kind: Kind,
-    form: Form,
-    delta: bool,
-    index: usize,
-) -> Cell
-    requires { (is_strings kind ≡ false) × (is_direct form delta ≡ true) }
-    ensures { result ≡ cell_of (judged_payload (Header.Good n m kind form delta) payload.now) index }
-{
-    let refused = payloads::refusal_of(payload, form, m as usize, n);
-    if refused != refusal::ACCEPTED {
-        return Cell::Refused(refused);
+    if header.length <= index {
+        return Err(Refusal::NoSuchEntry);
     }
-    if n <= index {
-        return Cell::Refused(refusal::NO_SUCH_ENTRY);
-    }
-    value_of(kind, m, number_in(payload, form, delta, index))
+    let number = number_in(payload, header.form, header.delta, index);
+    value_of(header.kind, header.parameter, number)
 }
 
 // The result at an index of a payload that has one there.
@@ -73,11 +56,10 @@ fn number_in(payload: &[u8], form: Form, delta: bool, index: usize) -> i32
 {
     match form {
         Form::Plain(size) => steps::number_at(payload, index * steps::bytes(size), size),
-        Form::Packed(size) => match size {
-            Size::One => packed_at(payload, Size::One, delta, index),
-            Size::Two => packed_at(payload, Size::Two, delta, index),
-            Size::Four => packed_at(payload, Size::Four, delta, index),
-        },
+        // A call for each size: the compiler makes a loop of it that has the size as a constant.
+        Form::Packed(Size::One) => packed_at(payload, Size::One, delta, index),
+        Form::Packed(Size::Two) => packed_at(payload, Size::Two, delta, index),
+        Form::Packed(Size::Four) => packed_at(payload, Size::Four, delta, index),
         Form::Runs(_) => run_at(payload, delta, index),
         Form::Names => 0,
     }
@@ -118,7 +100,7 @@ fn run_at(payload: &[u8], delta: bool, index: usize) -> i32
     while 8 <= payload.len() - at {
         let run = &payload[at..];
         let value = numbers::read_i32(run, 0);
-        let count = numbers::to_u32(numbers::read_i32(run, 4)) as usize;
+        let count = numbers::read_u32(run, 4) as usize;
         at += 8;
         if left < count {
             return payloads::after_run(sum, value, left + 1, delta);
@@ -130,26 +112,24 @@ fn run_at(payload: &[u8], delta: bool, index: usize) -> i32
 }
 
 // A column's number as a cell.
-fn value_of(kind: Kind, m: u32, x: i32) -> Cell
-    ensures { result ≡ value_of kind m x }
+fn value_of(kind: Kind, m: u32, x: i32) -> Result<Cell, Refusal>
+    ensures { numbered result ≡ value_of kind m x }
 {
     match kind {
-        Kind::Float32 => Cell::Float(numbers::of_bits(numbers::to_u32(x))),
+        Kind::Float32 => Ok(Cell::Float(numbers::of_bits(x.cast_unsigned()))),
         Kind::FixedPoint => quotient_cell(x, m),
-        Kind::Int8 => Cell::Int(x),
-        Kind::Int16 => Cell::Int(x),
-        Kind::Int32 => Cell::Int(x),
-        Kind::Strings => Cell::Refused(refusal::CODEC_UNKNOWN),
-        Kind::Chars => Cell::Char(numbers::low_byte(numbers::to_u32(x))),
+        Kind::Int8 | Kind::Int16 | Kind::Int32 => Ok(Cell::Int(x)),
+        Kind::Strings => Err(Refusal::CodecUnknown),
+        Kind::Chars => Ok(Cell::Char(numbers::low_byte(x.cast_unsigned()))),
     }
 }
 
 // A number by a divisor: one division in single precision, where both are exact.
-fn quotient_cell(x: i32, divisor: u32) -> Cell
-    ensures { result ≡ quotient_cell divisor x }
+fn quotient_cell(x: i32, divisor: u32) -> Result<Cell, Refusal>
+    ensures { numbered result ≡ quotient_cell divisor x }
 {
     if floats::are_exact(payloads::is_exact(x), divisor) {
-        return Cell::Float((x as f32) / (divisor as f32));
+        return Ok(Cell::Float((x as f32) / (divisor as f32)));
     }
-    Cell::Refused(refusal::NOT_EXACT)
+    Err(Refusal::NotExact)
 }

@@ -1,4 +1,5 @@
 -- What is proved of the definitions of `columns`.
+pub mod Same
 pub mod Table
 pub mod Rows
 pub mod Header

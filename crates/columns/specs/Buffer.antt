@@ -1,15 +1,14 @@
 -- What a decoder of columns answers and leaves in a lent buffer, by what the column decodes to. No lemma stands here: the laws are in
 -- Laws/Buffer.antt. Assumes nothing.
-use Rattle.std.specs.Prelude.{List, map, ℕ, length, ℤ}
-use Rattle.refusal.specs.declared.Answer.{Answer}
-use Rattle.refusal.specs.declared.Answer.TheVariants.{Refused}
-use Rattle.refusal.specs.Answer.{answered, leaves}
+use Rattle.std.specs.Prelude.{Result, Err, List, map, ℕ, length, ℤ}
+use Rattle.refusal.specs.Outcome.{answered}
+use Rattle.refusal.specs.Answer.{leaves}
 use Rattle.columns.specs.declared.Kind.{Kind}
 use Rattle.columns.specs.Decode.{Decoding, refused, column}
 
 -- the answer for a buffer with room for so many elements: how many were written, or the refusal; 25 where they do not fit
-abbrev pub decoded_answer : Decoding → ℕ → Answer
-decoded_answer (refused r) room = Refused r
+abbrev pub decoded_answer : Decoding → ℕ → Result ℕ ℕ
+decoded_answer (refused r) room = Err r
 decoded_answer (column k m cells) room = answered (length cells) room
 
 -- the buffer afterwards: the column's cells as elements at its start and everything beyond unchanged; on refusal, all unchanged

@@ -4,7 +4,7 @@
 -- The letters here and in Header, Decode and Encode: w is what a caller wants, c a codec's number, k a kind, f a form, d whether delta
 -- follows, p what the parameter is, n a column's length in results, m its parameter, e how many elements it has, b how many bytes its
 -- payload has, s the column's bytes.
-use Rattle.std.specs.Prelude.{Bool, true, false, ◌&&◌, List, [], ◌∷◌, ℕ, ◌*◌, ◌%◌, get_or, eqb, leb}
+use Rattle.std.specs.Prelude.{Option, Some, None, Bool, true, false, ◌&&◌, List, [], ◌∷◌, ℕ, ◌*◌, ◌%◌, get_or, eqb, leb}
 use Rattle.numbers.specs.Ranges.{integer_limit}
 use Rattle.steps.specs.declared.Size.TheVariants.{One, Two, Four}
 use Rattle.steps.specs.declared.Range.TheVariants as range
@@ -18,33 +18,36 @@ use Rattle.columns.specs.declared.Wanted.TheVariants.{Only, Real, Any}
 use Rattle.columns.specs.declared.Parameter.{Parameter}
 use Rattle.columns.specs.declared.Parameter.TheVariants.{Unused, Divisor, NameSize}
 use Rattle.columns.specs.declared.Codec.{Codec}
-use Rattle.columns.specs.declared.Codec.TheVariants.{Known, Unknown}
+
+-- a codec by its kind, form, delta and parameter
+abbrev pub codec_with : Kind → Form → Bool → Parameter → Option Codec
+codec_with k f d p = Some (record { kind = k; form = f; delta = d; parameter = p })
 
 -- the rows 0 to 16; there is no codec 0
-abbrev pub table : List Codec
+abbrev pub table : List (Option Codec)
 table =
-    Unknown
-    ∷ Known kind.Float32 (Plain Four) false Unused
-    ∷ Known kind.Int8 (Plain One) false Unused
-    ∷ Known kind.Int16 (Plain Two) false Unused
-    ∷ Known kind.Int32 (Plain Four) false Unused
-    ∷ Known kind.Strings Names false NameSize
-    ∷ Known kind.Chars (Runs range.Ascii) false Unused
-    ∷ Known kind.Int32 (Runs range.Int32) false Unused
-    ∷ Known kind.Int32 (Runs range.Int32) true Unused
-    ∷ Known kind.FixedPoint (Runs range.Int32) false Divisor
-    ∷ Known kind.FixedPoint (Packed Two) true Divisor
-    ∷ Known kind.FixedPoint (Plain Two) false Divisor
-    ∷ Known kind.FixedPoint (Packed Two) false Divisor
-    ∷ Known kind.FixedPoint (Packed One) false Divisor
-    ∷ Known kind.Int32 (Packed Two) false Unused
-    ∷ Known kind.Int32 (Packed One) false Unused
-    ∷ Known kind.Int8 (Runs range.Int8) false Unused
+    None
+    ∷ codec_with kind.Float32 (Plain Four) false Unused
+    ∷ codec_with kind.Int8 (Plain One) false Unused
+    ∷ codec_with kind.Int16 (Plain Two) false Unused
+    ∷ codec_with kind.Int32 (Plain Four) false Unused
+    ∷ codec_with kind.Strings Names false NameSize
+    ∷ codec_with kind.Chars (Runs range.Ascii) false Unused
+    ∷ codec_with kind.Int32 (Runs range.Int32) false Unused
+    ∷ codec_with kind.Int32 (Runs range.Int32) true Unused
+    ∷ codec_with kind.FixedPoint (Runs range.Int32) false Divisor
+    ∷ codec_with kind.FixedPoint (Packed Two) true Divisor
+    ∷ codec_with kind.FixedPoint (Plain Two) false Divisor
+    ∷ codec_with kind.FixedPoint (Packed Two) false Divisor
+    ∷ codec_with kind.FixedPoint (Packed One) false Divisor
+    ∷ codec_with kind.Int32 (Packed Two) false Unused
+    ∷ codec_with kind.Int32 (Packed One) false Unused
+    ∷ codec_with kind.Int8 (Runs range.Int8) false Unused
     ∷ []
 
 -- the codec of a number
-unfoldable pub codec_of : ℕ → Codec
-codec_of c = get_or table c Unknown
+unfoldable pub codec_of : ℕ → Option Codec
+codec_of c = get_or table c None
 
 -- a number for each kind, to tell kinds apart, and for the table of columns in code
 abbrev pub kind_tag : Kind → ℕ

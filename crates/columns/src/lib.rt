@@ -3,9 +3,11 @@
 #![tactic(auto)]
 
 ghost use Rattle.std.specs.Prelude.{◌≡◌, ◌≤◌};
-ghost use Rattle.columns.specs.Table.{codec_of, kind_tag, is_real, suits, length_limit, parameter_ok, used, size_right};
+ghost use Rattle.refusal.specs.Outcome.{numbered};
+ghost use Rattle.columns.specs.Table.{codec_with, codec_of, is_real, suits, length_limit, parameter_ok, used, size_right};
 ghost use Rattle.columns.specs.Header.{judged, header_of};
 
+use refusal::Refusal;
 use steps::{Form, Range, Size};
 
 // The most results of a column.
@@ -21,7 +23,7 @@ pub const NAME_LIMIT: u32 = 255;
 const DIVISOR_LIMIT: u32 = numbers::INTEGER_LIMIT as u32;
 
 // The kinds of columns (paper 01: real by codec 1, real by codecs 9 to 13, small, short, whole, names, letters).
-#[derive(Clone, Copy)]
+#[derive(Clone, Copy, PartialEq, Eq)]
 pub enum Kind {
     Float32,
     FixedPoint,
@@ -48,33 +50,45 @@ pub enum Parameter {
     NameSize,
 }
 
-// A row of the table: kind, form of the payload, whether delta follows, and what the parameter is.
+// A row of the table of codecs.
 #[derive(Clone, Copy)]
-pub enum Codec {
-    Known(Kind, Form, bool, Parameter),
-    Unknown,
+pub struct Codec {
+    pub kind: Kind,
+    // the form of the payload
+    pub form: Form,
+    // whether delta follows
+    pub delta: bool,
+    // what the header's parameter is
+    pub parameter: Parameter,
 }
 
-// A header that passes, with length, parameter, kind, form and delta; or its refusal.
+// A header that passes.
 #[derive(Clone, Copy)]
-pub enum Header {
-    Good(usize, u32, Kind, Form, bool),
-    Refused(u8),
+pub struct Header {
+    // how many results the column has
+    pub length: usize,
+    // the parameter as the codec uses it
+    pub parameter: u32,
+    pub kind: Kind,
+    pub form: Form,
+    pub delta: bool,
 }
 
-// What an encoder will do: form of the payload, delta, and length and parameter as they are written; or its refusal.
+// What an encoder will do: the form of the payload, delta, and length and parameter as they are written.
 #[derive(Clone, Copy)]
-pub enum Plan {
-    Good(Form, bool, u32, u32),
-    Refused(u8),
+pub struct Plan {
+    pub form: Form,
+    pub delta: bool,
+    pub length: u32,
+    pub parameter: u32,
 }
 
 // The header of a column of the kind that is wanted, with the refusals 14 to 17.
-pub fn read_header(column: &[u8], wanted: Wanted) -> Header
-    ensures { result ≡ header_of wanted column.now }
+pub fn read_header(column: &[u8], wanted: Wanted) -> Result<Header, Refusal>
+    ensures { numbered result ≡ header_of wanted column.now }
 {
     if column.len() < HEADER_SIZE {
-        return Header::Refused(refusal::COLUMN_SHORT);
+        return Err(Refusal::ColumnShort);
     }
     let codec = numbers::read_u32(column, 0);
     let length = numbers::read_u32(column, 4);
@@ -94,28 +108,40 @@ const UNUSED: Parameter = Parameter::Unused;
 const DIVISOR: Parameter = Parameter::Divisor;
 
 // The codec of a number.
-pub fn codec_of(number: u32) -> Codec
+pub fn codec_of(number: u32) -> Option<Codec>
     ensures { result ≡ codec_of number }
 {
     match number {
-        1 => Codec::Known(Kind::Float32, Form::Plain(Size::Four), false, UNUSED),
-        2 => Codec::Known(Kind::Int8, Form::Plain(Size::One), false, UNUSED),
-        3 => Codec::Known(Kind::Int16, Form::Plain(Size::Two), false, UNUSED),
-        4 => Codec::Known(Kind::Int32, Form::Plain(Size::Four), false, UNUSED),
-        5 => Codec::Known(Kind::Strings, Form::Names, false, Parameter::NameSize),
-        6 => Codec::Known(Kind::Chars, Form::Runs(Range::Ascii), false, UNUSED),
-        7 => Codec::Known(Kind::Int32, Form::Runs(Range::Int32), false, UNUSED),
-        8 => Codec::Known(Kind::Int32, Form::Runs(Range::Int32), true, UNUSED),
-        9 => Codec::Known(Kind::FixedPoint, Form::Runs(Range::Int32), false, DIVISOR),
-        10 => Codec::Known(Kind::FixedPoint, Form::Packed(Size::Two), true, DIVISOR),
-        11 => Codec::Known(Kind::FixedPoint, Form::Plain(Size::Two), false, DIVISOR),
-        12 => Codec::Known(Kind::FixedPoint, Form::Packed(Size::Two), false, DIVISOR),
-        13 => Codec::Known(Kind::FixedPoint, Form::Packed(Size::One), false, DIVISOR),
-        14 => Codec::Known(Kind::Int32, Form::Packed(Size::Two), false, UNUSED),
-        15 => Codec::Known(Kind::Int32, Form::Packed(Size::One), false, UNUSED),
-        16 => Codec::Known(Kind::Int8, Form::Runs(Range::Int8), false, UNUSED),
-        _ => Codec::Unknown,
+        1 => row(Kind::Float32, Form::Plain(Size::Four), false, UNUSED),
+        2 => row(Kind::Int8, Form::Plain(Size::One), false, UNUSED),
+        3 => row(Kind::Int16, Form::Plain(Size::Two), false, UNUSED),
+        4 => row(Kind::Int32, Form::Plain(Size::Four), false, UNUSED),
+        5 => row(Kind::Strings, Form::Names, false, Parameter::NameSize),
+        6 => row(Kind::Chars, Form::Runs(Range::Ascii), false, UNUSED),
+        7 => row(Kind::Int32, Form::Runs(Range::Int32), false, UNUSED),
+        8 => row(Kind::Int32, Form::Runs(Range::Int32), true, UNUSED),
+        9 => row(Kind::FixedPoint, Form::Runs(Range::Int32), false, DIVISOR),
+        10 => row(Kind::FixedPoint, Form::Packed(Size::Two), true, DIVISOR),
+        11 => row(Kind::FixedPoint, Form::Plain(Size::Two), false, DIVISOR),
+        12 => row(Kind::FixedPoint, Form::Packed(Size::Two), false, DIVISOR),
+        13 => row(Kind::FixedPoint, Form::Packed(Size::One), false, DIVISOR),
+        14 => row(Kind::Int32, Form::Packed(Size::Two), false, UNUSED),
+        15 => row(Kind::Int32, Form::Packed(Size::One), false, UNUSED),
+        16 => row(Kind::Int8, Form::Runs(Range::Int8), false, UNUSED),
+        _ => None,
     }
+}
+
+// A row of the table.
+fn row(kind: Kind, form: Form, delta: bool, parameter: Parameter) -> Option<Codec>
+    ensures { result ≡ codec_with kind form delta parameter }
+{
+    Some(Codec {
+        kind,
+        form,
+        delta,
+        parameter,
+    })
 }
 
 // Whether a kind is the one that is wanted.
@@ -123,7 +149,7 @@ pub fn is_wanted(wanted: Wanted, kind: Kind) -> bool
     ensures { result ≡ suits wanted kind }
 {
     match wanted {
-        Wanted::Only(k) => kind_tag(k) == kind_tag(kind),
+        Wanted::Only(k) => k == kind,
         Wanted::Real => is_real(kind),
         Wanted::Any => true,
     }
@@ -135,18 +161,8 @@ pub fn parameter_ok(parameter: Parameter, value: u32) -> bool
 {
     match parameter {
         Parameter::Unused => true,
-        Parameter::Divisor => {
-            if value < 1 {
-                return false;
-            }
-            value <= DIVISOR_LIMIT
-        }
-        Parameter::NameSize => {
-            if value < 1 {
-                return false;
-            }
-            value <= NAME_LIMIT
-        }
+        Parameter::Divisor => 1 <= value && value <= DIVISOR_LIMIT,
+        Parameter::NameSize => 1 <= value && value <= NAME_LIMIT,
     }
 }
 
@@ -156,39 +172,39 @@ pub fn used_parameter(parameter: Parameter, value: u32) -> u32
 {
     match parameter {
         Parameter::Unused => 0,
-        Parameter::Divisor => value,
-        Parameter::NameSize => value,
+        Parameter::Divisor | Parameter::NameSize => value,
     }
 }
 
 // The rules 15 to 17 of a header.
-fn judge(codec: Codec, length: u32, parameter: u32, bytes: usize, wanted: Wanted) -> Header
-    ensures { result ≡ judged wanted codec length parameter bytes }
+fn judge(
+    codec: Option<Codec>,
+    length: u32,
+    parameter: u32,
+    bytes: usize,
+    wanted: Wanted,
+) -> Result<Header, Refusal>
+    ensures { numbered result ≡ judged wanted codec length parameter bytes }
 {
-    match codec {
-        Codec::Unknown => Header::Refused(refusal::CODEC_UNKNOWN),
-        Codec::Known(kind, form, delta, p) => {
-            if !is_wanted(wanted, kind) {
-                return Header::Refused(refusal::CODEC_UNKNOWN);
-            }
-            if LENGTH_LIMIT < length {
-                return Header::Refused(refusal::HEADER_RANGE);
-            }
-            if !parameter_ok(p, parameter) {
-                return Header::Refused(refusal::HEADER_RANGE);
-            }
-            if !size_ok(form, length as usize, parameter as usize, bytes) {
-                return Header::Refused(refusal::PAYLOAD_SIZE);
-            }
-            Header::Good(
-                length as usize,
-                used_parameter(p, parameter),
-                kind,
-                form,
-                delta,
-            )
-        }
+    let Some(codec) = codec else {
+        return Err(Refusal::CodecUnknown);
+    };
+    if !is_wanted(wanted, codec.kind) {
+        return Err(Refusal::CodecUnknown);
     }
+    if LENGTH_LIMIT < length || !parameter_ok(codec.parameter, parameter) {
+        return Err(Refusal::HeaderRange);
+    }
+    if !size_ok(codec.form, length as usize, parameter as usize, bytes) {
+        return Err(Refusal::PayloadSize);
+    }
+    Ok(Header {
+        length: length as usize,
+        parameter: used_parameter(codec.parameter, parameter),
+        kind: codec.kind,
+        form: codec.form,
+        delta: codec.delta,
+    })
 }
 
 // Whether a payload has the right size.
@@ -208,28 +224,5 @@ fn size_ok(form: Form, length: usize, parameter: usize, bytes: usize) -> bool
 fn is_real(kind: Kind) -> bool
     ensures { result ≡ is_real kind }
 {
-    match kind {
-        Kind::Float32 => true,
-        Kind::FixedPoint => true,
-        Kind::Int8 => false,
-        Kind::Int16 => false,
-        Kind::Int32 => false,
-        Kind::Strings => false,
-        Kind::Chars => false,
-    }
-}
-
-// A number for each kind, for no other use than to tell kinds apart.
-fn kind_tag(kind: Kind) -> u8
-    ensures { result ≡ kind_tag kind }
-{
-    match kind {
-        Kind::Float32 => 0,
-        Kind::FixedPoint => 1,
-        Kind::Int8 => 2,
-        Kind::Int16 => 3,
-        Kind::Int32 => 4,
-        Kind::Strings => 5,
-        Kind::Chars => 6,
-    }
+    matches!(kind, Kind::Float32 | Kind::FixedPoint)
 }

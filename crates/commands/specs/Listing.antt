@@ -1,7 +1,6 @@
 -- The fields of a file as lines: what each is, by the head of its value, and the header of a binary. No lemma stands here. Assumes nothing.
-use Rattle.std.specs.Prelude.{cond, List, ℕ, ltb}
+use Rattle.std.specs.Prelude.{cond, Option, Some, None, Result, Ok, Err, List, ℕ, ltb}
 use Rattle.numbers.specs.BigEndian.{unsigned_at}
-use Rattle.text.specs.declared.Number.{Number}
 use Rattle.heads.specs.Head.{kind_at}
 use Rattle.heads.specs.declared.Kind.{Kind}
 use Rattle.columns.specs.declared.Header.{Header}
@@ -13,33 +12,33 @@ use Rattle.lines.specs.Single.{field_text}
 use Rattle.commands.specs.declared.listing.What.{What}
 
 -- a number, or none where 32 bits do not hold it
-abbrev pub count_of : ℕ → Number
-count_of n = cond (ltb n 0x1_0000_0000) (Number.Is n) Number.None
+abbrev pub count_of : ℕ → Option ℕ
+count_of n = cond (ltb n 0x1_0000_0000) (Some n) None
 
 -- a value that is no column
-abbrev pub what_of : Sort → Number → What
-what_of sort length = record { sort = sort; codec = Number.None; length = length }
+abbrev pub what_of : Sort → Option ℕ → What
+what_of sort length = record { sort = sort; codec = None; length = length }
 
 -- a column of a codec, with so many cells
-abbrev pub column_what : ℕ → Number → What
-column_what codec length = record { sort = Sort.Column; codec = Number.Is codec; length = length }
+abbrev pub column_what : ℕ → Option ℕ → What
+column_what codec length = record { sort = Sort.Column; codec = Some codec; length = length }
 
 -- a binary: a column, if its header passes, with the codec that stands first in it, and its cells
-abbrev pub binary_what : Header → List ℕ → Number → What
-binary_what (Header.Good n m k f d) body length = column_what (unsigned_at 4 body 0) (count_of n)
-binary_what (Header.Refused r) body length = what_of Sort.Binary length
+abbrev pub binary_what : Result Header ℕ → List ℕ → Option ℕ → What
+binary_what (Ok header) body length = column_what (unsigned_at 4 body 0) (count_of header.length)
+binary_what (Err r) body length = what_of Sort.Binary length
 
 -- a value by its kind: the number of its head is its length. No value of an accepted file is outside the subset or missing
-abbrev pub kind_what : Kind → List ℕ → Number → What
-kind_what Kind.Unsigned body length = what_of Sort.Integer Number.None
-kind_what Kind.Signed body length = what_of Sort.Integer Number.None
-kind_what Kind.Float body length = what_of Sort.Float Number.None
+abbrev pub kind_what : Kind → List ℕ → Option ℕ → What
+kind_what Kind.Unsigned body length = what_of Sort.Integer None
+kind_what Kind.Signed body length = what_of Sort.Integer None
+kind_what Kind.Float body length = what_of Sort.Float None
 kind_what Kind.Str body length = what_of Sort.String length
 kind_what Kind.Bin body length = binary_what (header_of Wanted.Any body) body length
 kind_what Kind.Array body length = what_of Sort.Array length
 kind_what Kind.Map body length = what_of Sort.Map length
-kind_what Kind.Outside body length = what_of Sort.Binary Number.None
-kind_what Kind.Missing body length = what_of Sort.Binary Number.None
+kind_what Kind.Outside body length = what_of Sort.Binary None
+kind_what Kind.Missing body length = what_of Sort.Binary None
 
 -- the value at a place
 abbrev pub what_at : List ℕ → ℕ → What

@@ -1,21 +1,19 @@
 -- The status of a run: 0 where the file is accepted or the data were written, 1 where the file or the column is refused, 2 where nothing was produced. No lemma
 -- stands here. Assumes nothing.
-use Rattle.std.specs.Prelude.{Bool, cond, List, ℕ, eqb, ltb, pos}
+use Rattle.std.specs.Prelude.{Bool, cond, Option, Some, None, List, ℤ, ℕ, eqb, ltb, pos}
 use Rattle.refusal.specs.Table.{accepted}
 use Rattle.text.specs.Decimal.{number_in}
-use Rattle.text.specs.declared.Number.{Number}
 use Rattle.sentences.specs.declared.OfPart.{OfPart}
 use Rattle.commands.specs.declared.status.Status.{Status}
 use Rattle.commands.specs.declared.status.Status.TheVariants.{Done, Refused, Nothing}
-use Rattle.commands.specs.declared.status.Descriptor.{Descriptor}
 
 -- a number as a descriptor
-abbrev pub descriptor_by : Number → Descriptor
-descriptor_by (Number.Is n) = cond (ltb n 2147483648) (Descriptor.At (pos n)) Descriptor.None
-descriptor_by Number.None = Descriptor.None
+abbrev pub descriptor_by : Option ℕ → Option ℤ
+descriptor_by (Some n) = cond (ltb n 2147483648) (Some (pos n)) None
+descriptor_by None = None
 
 -- the descriptor that a word names
-abbrev pub descriptor_in : List ℕ → Descriptor
+abbrev pub descriptor_in : List ℕ → Option ℤ
 descriptor_in word = descriptor_by (number_in word)
 
 -- the status of a verdict

@@ -1,5 +1,5 @@
 -- The value of a field as text: how each shape is shown, and the line of a plain value at a place. No lemma stands here. Assumes nothing.
-use Rattle.std.specs.Prelude.{cond, List, ℕ}
+use Rattle.std.specs.Prelude.{cond, Option, Some, None, List, ℕ}
 use Rattle.heads.specs.Head.{kind_at}
 use Rattle.values.specs.Heads.{is_string, is_float}
 use Rattle.views.specs.Plain.{head_end, text_at, text_end, integer_at, bits_at}
@@ -12,14 +12,14 @@ use Rattle.sentences.specs.declared.OfPart.{OfPart}
 use Rattle.commands.specs.declared.texts.Way.{Way}
 
 -- how a value of a shape is shown, or what is said where it is not
-abbrev pub way_of : Shape → Way
-way_of Shape.Integer = Way.One
-way_of Shape.Float = Way.One
-way_of Shape.String = Way.Text
-way_of Shape.Flat = Way.Each
-way_of Shape.Binary = Way.Not OfPart.IsBinary
-way_of Shape.Nested = Way.Not OfPart.Nested
-way_of Shape.Missing = Way.Not OfPart.NoField
+abbrev pub way_of : Option Shape → Way
+way_of (Some Shape.Integer) = Way.One
+way_of (Some Shape.Float) = Way.One
+way_of (Some Shape.String) = Way.Text
+way_of (Some Shape.Flat) = Way.Each
+way_of (Some Shape.Binary) = Way.Not OfPart.IsBinary
+way_of (Some Shape.Nested) = Way.Not OfPart.Nested
+way_of None = Way.Not OfPart.NoField
 
 -- the line of the plain value at a place: a string, a float in decimal or an integer
 abbrev pub item_text : List ℕ → ℕ → List ℕ

@@ -1,14 +1,13 @@
 -- The words of the program: its commands, how many words each takes, and what they say. No lemma stands here. Assumes nothing.
-use Rattle.std.specs.Prelude.{Bool, true, cond, List, ℕ, eqb, leb, ltb}
-use Rattle.refusal.specs.Table.{buffer_too_small}
+use Rattle.std.specs.Prelude.{Bool, true, false, cond, Option, Some, None, List, ℕ, eqb, leb, ltb}
+use Rattle.refusal.specs.Table.{buffer_too_small, refusal_number}
+use Rattle.refusal.specs.declared.Refusal.{Refusal}
 use Rattle.sentences.specs.declared.OfPart.{OfPart}
 use Rattle.text.specs.Equal.{equal}
 use Rattle.text.specs.Ascii.{ascii}
 use Rattle.text.specs.Decimal.{number_in}
-use Rattle.text.specs.declared.Number.{Number}
-use Rattle.commands.specs.declared.words.Asked.{Asked}
 use Rattle.commands.specs.declared.words.Command.{Command}
-use Rattle.commands.specs.declared.words.Command.TheVariants.{Check, Receipt, Bill, Fields, View, RawView, Column, RawColumn, Help, Version, Unknown}
+use Rattle.commands.specs.declared.words.Command.TheVariants.{Check, Receipt, Bill, Fields, View, Column, Help, Version, Unknown}
 
 -- the command about the program itself that a word names
 abbrev pub about_of : List ℕ → Command
@@ -26,8 +25,8 @@ command_of word =
     (cond (equal word (ascii "receipt")) Receipt
     (cond (equal word (ascii "bill")) Bill
     (cond (equal word (ascii "fields")) Fields
-    (cond (equal word (ascii "view")) View
-    (cond (equal word (ascii "column")) Column
+    (cond (equal word (ascii "view")) (View false)
+    (cond (equal word (ascii "column")) (Column false)
     (about_of word))))))
 
 -- the command with --raw; one that does not take it stays
@@ -36,10 +35,8 @@ raw_of Check = Check
 raw_of Receipt = Receipt
 raw_of Bill = Bill
 raw_of Fields = Fields
-raw_of View = RawView
-raw_of RawView = RawView
-raw_of Column = RawColumn
-raw_of RawColumn = RawColumn
+raw_of (View raw) = View true
+raw_of (Column raw) = Column true
 raw_of Help = Help
 raw_of Version = Version
 raw_of Unknown = Unknown
@@ -54,10 +51,10 @@ words_fit Check n = leb 4 n
 words_fit Receipt n = eqb n 6
 words_fit Bill n = leb 4 n
 words_fit Fields n = eqb n 4
-words_fit View n = eqb n 5
-words_fit RawView n = eqb n 6
-words_fit Column n = eqb n 5
-words_fit RawColumn n = eqb n 6
+words_fit (View false) n = eqb n 5
+words_fit (View true) n = eqb n 6
+words_fit (Column false) n = eqb n 5
+words_fit (Column true) n = eqb n 6
 words_fit Help n = eqb n 3
 words_fit Version n = eqb n 3
 words_fit Unknown n = true
@@ -68,10 +65,10 @@ file_place Check = 3
 file_place Receipt = 5
 file_place Bill = 3
 file_place Fields = 3
-file_place View = 3
-file_place RawView = 4
-file_place Column = 3
-file_place RawColumn = 4
+file_place (View false) = 3
+file_place (View true) = 4
+file_place (Column false) = 3
+file_place (Column true) = 4
 file_place Help = 3
 file_place Version = 3
 file_place Unknown = 3
@@ -82,23 +79,23 @@ name_place Check = 4
 name_place Receipt = 6
 name_place Bill = 4
 name_place Fields = 4
-name_place View = 4
-name_place RawView = 5
-name_place Column = 4
-name_place RawColumn = 5
+name_place (View false) = 4
+name_place (View true) = 5
+name_place (Column false) = 4
+name_place (Column true) = 5
 name_place Help = 4
 name_place Version = 4
 name_place Unknown = 4
 
 -- a number that a command asks for, 1 to a limit
-abbrev pub asked_by : Number → ℕ → Asked
-asked_by Number.None limit = Asked.None
-asked_by (Number.Is n) limit = cond (ltb n 1) Asked.None (cond (ltb limit n) Asked.None (Asked.Is n))
+abbrev pub asked_by : Option ℕ → ℕ → Option ℕ
+asked_by None limit = None
+asked_by (Some n) limit = cond (ltb n 1) None (cond (ltb limit n) None (Some n))
 
 -- the number that a word says, if it is 1 to a limit
-abbrev pub asked_of : List ℕ → ℕ → Asked
+abbrev pub asked_of : List ℕ → ℕ → Option ℕ
 asked_of word limit = asked_by (number_in word) limit
 
--- what is said of a column that is refused with a number
-abbrev pub part_of : ℕ → OfPart
-part_of n = cond (eqb n buffer_too_small) OfPart.NotShown (OfPart.Refused n)
+-- what is said of a column that is refused
+abbrev pub part_of : Refusal → OfPart
+part_of refusal = cond (eqb (refusal_number refusal) buffer_too_small) OfPart.NotShown (OfPart.Refused refusal)

@@ -1,17 +1,20 @@
 // How far the files of a bill are read, and which receipt of which file is at fault. The files are one run of receipts: a receipt may begin in one of
 // them and end in another.
-ghost use Rattle.std.specs.Prelude.{◌≡◌, ◌-◌};
+ghost use Rattle.std.specs.Prelude.{◌≡◌};
+ghost use Rattle.refusal.specs.Outcome.{number_of};
 ghost use Rattle.commands.specs.Bills.{unread, opened_run, read_run, held_by, decided_by, entered_run, number_in, raised, refusal_of};
 
+use refusal::Refusal;
+
 // A run of receipts, as far as it is read: how many bytes it may still have until it is over the limit; how many bytes are held, of receipts that are
-// not entered yet; the file in which the first of these receipts begins, its number among those that begin there, and its refusal, or 0.
+// not entered yet; the file in which the first of these receipts begins, its number among those that begin there, and whether it is refused.
 #[derive(Clone, Copy)]
 pub struct Run {
     pub left: usize,
     pub held: usize,
     pub file: usize,
     pub number: u32,
-    pub refusal: u8,
+    pub outcome: Result<(), Refusal>,
 }
 
 // A run of which nothing is read yet.
@@ -23,7 +26,7 @@ pub fn no_bytes() -> Run
         held: 0,
         file: 0,
         number: 1,
-        refusal: refusal::ACCEPTED,
+        outcome: Ok(()),
     }
 }
 
@@ -31,18 +34,13 @@ pub fn no_bytes() -> Run
 pub fn opened(run: Run, file: usize) -> Run
     ensures { result ≡ opened_run run file }
 {
-    if run.refusal != refusal::ACCEPTED {
-        return run;
-    }
-    if run.held != 0 {
+    if run.outcome.is_err() || run.held != 0 {
         return run;
     }
     Run {
-        left: run.left,
-        held: run.held,
         file,
         number: 1,
-        refusal: run.refusal,
+        ..run
     }
 }
 
@@ -51,99 +49,81 @@ pub fn read(run: Run, bytes: usize, held: usize) -> Run
     ensures { result ≡ read_run run bytes held }
 {
     Run {
-        left: less(run.left, bytes),
-        held: held_by(run.refusal, held),
-        file: run.file,
-        number: run.number,
-        refusal: run.refusal,
+        left: run.left.saturating_sub(bytes),
+        held: held_by(run.outcome, held),
+        ..run
     }
 }
 
-// A run when receipts of it are entered while a file is read, with the refusal of the next one and how many bytes are then held. Of the receipts that
+// A run when receipts of it are entered while a file is read, with the outcome of the next one and how many bytes are then held. Of the receipts that
 // are entered only the first may begin in an earlier file.
-pub fn entered(run: Run, file: usize, refusal: u8, held: usize, receipts: usize) -> Run
-    ensures { result ≡ entered_run run file refusal held receipts }
+pub fn entered(
+    run: Run,
+    file: usize,
+    outcome: Result<(), Refusal>,
+    held: usize,
+    receipts: usize,
+) -> Run
+    ensures { result ≡ entered_run run file outcome held receipts }
 {
+    let rest = Run {
+        held: held_by(outcome, held),
+        outcome,
+        ..run
+    };
     if receipts == 0 {
-        return Run {
-            left: run.left,
-            held: held_by(refusal, held),
-            file: run.file,
-            number: run.number,
-            refusal,
-        };
+        return rest;
     }
     Run {
-        left: run.left,
-        held: held_by(refusal, held),
         file,
         number: raise(number_in(run, file), receipts),
-        refusal,
+        ..rest
     }
 }
 
 // What is decided of a receipt where a file ends: one that is malformed may go on in the next file.
-pub fn decided(refusal: u8, ends: bool) -> u8
-    ensures { result ≡ decided_by refusal ends }
+pub fn decided(outcome: Result<(), Refusal>, ends: bool) -> Result<(), Refusal>
+    ensures { number_of result ≡ decided_by (number_of outcome) ends }
 {
-    if !ends {
-        return refusal;
+    match outcome {
+        Err(Refusal::ReceiptMalformed) if ends => Ok(()),
+        _ => outcome,
     }
-    if refusal == refusal::RECEIPT_MALFORMED {
-        return refusal::ACCEPTED;
-    }
-    refusal
 }
 
-// The refusal of a run when no more of it is read, or 0: a receipt that is held then does not go on.
-pub fn refusal_of(run: Run) -> u8
-    ensures { result ≡ refusal_of run }
+// The refusal of a run when no more of it is read: a receipt that is held then does not go on.
+pub fn refusal_of(run: Run) -> Result<(), Refusal>
+    ensures { number_of result ≡ refusal_of run }
 {
     if run.left == 0 {
-        return refusal::FILE_OVER_LIMIT;
+        return Err(Refusal::FileOverLimit);
     }
     if 0 < run.held {
-        return refusal::RECEIPT_MALFORMED;
+        return Err(Refusal::ReceiptMalformed);
     }
-    run.refusal
+    run.outcome
 }
 
 // How many bytes are held: none where the run is refused.
-fn held_by(refusal: u8, held: usize) -> usize
-    ensures { result ≡ held_by refusal held }
+fn held_by(outcome: Result<(), Refusal>, held: usize) -> usize
+    ensures { result ≡ held_by (number_of outcome) held }
 {
-    if refusal == refusal::ACCEPTED {
-        return held;
+    match outcome {
+        Ok(()) => held,
+        Err(_) => 0,
     }
-    0
 }
 
 // The number of the next receipt in a file, or 0 where it begins in another.
 fn number_in(run: Run, file: usize) -> u32
     ensures { result ≡ number_in run file }
 {
-    if run.file == file {
-        return run.number;
-    }
-    0
+    if run.file == file { run.number } else { 0 }
 }
 
 // A number after more receipts, as far as 32 bits hold it.
 fn raise(number: u32, receipts: usize) -> u32
     ensures { result ≡ raised number receipts }
 {
-    if receipts < numbers::u32_to_usize(u32::MAX - number) {
-        return number + receipts as u32;
-    }
-    u32::MAX
-}
-
-// A number less another, or 0 where that is more.
-fn less(number: usize, other: usize) -> usize
-    ensures { result ≡ number - other }
-{
-    if number < other {
-        return 0;
-    }
-    number - other
+    number.saturating_add(u32::try_from(receipts).unwrap_or(u32::MAX))
 }

@@ -3,7 +3,6 @@ ghost use Rattle.std.specs.Prelude.{◌≡◌};
 ghost use Rattle.commands.specs.Status.{descriptor_in, verdict_status, written_status, part_status, worst_of, digit_of};
 
 use sentences::OfPart;
-use text::Number;
 
 // The file is accepted or the data were written; the file or the column is refused; or nothing was produced.
 #[derive(Clone, Copy)]
@@ -13,34 +12,23 @@ pub enum Status {
     Nothing,
 }
 
-// The descriptor to which the status is written, or none.
-#[derive(Clone, Copy)]
-pub enum Descriptor {
-    At(i32),
-    None,
-}
-
-// The descriptor that a word names.
-pub fn descriptor_of(word: &[u8]) -> Descriptor
+// The descriptor that a word names, to which the status is written.
+pub fn descriptor_of(word: &[u8]) -> Option<i32>
     ensures { result ≡ descriptor_in word.now }
 {
-    let Number::Is(number) = text::number_of(word) else {
-        return Descriptor::None;
-    };
-    if number < 0x8000_0000 {
-        return Descriptor::At(number as i32);
-    }
-    Descriptor::None
+    let number = text::number_of(word)?;
+    i32::try_from(number).ok()
 }
 
-// The status of a verdict that was written or said.
+// The status of a verdict that was written or said. It is a number and no `Refusal`, since it may come from a receipt's text.
 pub fn of_verdict(verdict: u8) -> Status
     ensures { result ≡ verdict_status verdict }
 {
     if verdict == refusal::ACCEPTED {
-        return Status::Done;
+        Status::Done
+    } else {
+        Status::Refused
     }
-    Status::Refused
 }
 
 // The status of data that were written whole, or not.
@@ -48,9 +36,10 @@ pub fn of_written(written: bool) -> Status
     ensures { result ≡ written_status written }
 {
     if written {
-        return Status::Done;
+        Status::Done
+    } else {
+        Status::Nothing
     }
-    Status::Nothing
 }
 
 // The status of a part of a file that was not written.
@@ -58,12 +47,8 @@ pub fn of_part(said: OfPart) -> Status
     ensures { result ≡ part_status said }
 {
     match said {
-        OfPart::NoField => Status::Nothing,
-        OfPart::NoColumn => Status::Nothing,
-        OfPart::NotShown => Status::Nothing,
-        OfPart::Nested => Status::Nothing,
-        OfPart::IsBinary => Status::Nothing,
         OfPart::Refused(_) => Status::Refused,
+        _ => Status::Nothing,
     }
 }
 
@@ -71,14 +56,10 @@ pub fn of_part(said: OfPart) -> Status
 pub fn worst_of(a: Status, b: Status) -> Status
     ensures { result ≡ worst_of a b }
 {
-    match a {
-        Status::Done => b,
-        Status::Refused => match b {
-            Status::Done => Status::Refused,
-            Status::Refused => Status::Refused,
-            Status::Nothing => Status::Nothing,
-        },
-        Status::Nothing => Status::Nothing,
+    match (a, b) {
+        (Status::Nothing, _) | (_, Status::Nothing) => Status::Nothing,
+        (Status::Refused, _) | (_, Status::Refused) => Status::Refused,
+        (Status::Done, Status::Done) => Status::Done,
     }
 }
 

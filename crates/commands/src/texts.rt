@@ -16,18 +16,17 @@ pub enum Way {
     Not(OfPart),
 }
 
-// How a value of a shape is shown.
-pub fn way_of(shape: Shape) -> Way
+// How a value of a shape is shown; where there is no such value, what is said of that.
+pub fn way_of(shape: Option<Shape>) -> Way
     ensures { result ≡ way_of shape }
 {
     match shape {
-        Shape::Integer => Way::One,
-        Shape::Float => Way::One,
-        Shape::String => Way::Text,
-        Shape::Flat => Way::Each,
-        Shape::Binary => Way::Not(OfPart::IsBinary),
-        Shape::Nested => Way::Not(OfPart::Nested),
-        Shape::Missing => Way::Not(OfPart::NoField),
+        Some(Shape::Integer | Shape::Float) => Way::One,
+        Some(Shape::String) => Way::Text,
+        Some(Shape::Flat) => Way::Each,
+        Some(Shape::Binary) => Way::Not(OfPart::IsBinary),
+        Some(Shape::Nested) => Way::Not(OfPart::Nested),
+        None => Way::Not(OfPart::NoField),
     }
 }
 

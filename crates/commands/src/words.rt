@@ -2,73 +2,58 @@
 ghost use Rattle.std.specs.Prelude.{◌≡◌};
 ghost use Rattle.commands.specs.Words.{command_of, about_of, raw_of, flagged, words_fit, file_place, name_place, asked_of, part_of};
 
+use refusal::Refusal;
 use sentences::OfPart;
-use text::Number;
 
+// What a word asks the program to do. Where `raw` is set, the word --raw stands after it.
 #[derive(Clone, Copy)]
 pub enum Command {
     Check,
     Receipt,
     Bill,
     Fields,
-    View,
-    RawView,
-    Column,
-    RawColumn,
+    View { raw: bool },
+    Column { raw: bool },
     Help,
     Version,
     Unknown,
 }
 
-// A number that a command asks for, or none: the word says no number, or one that is out of range.
-#[derive(Clone, Copy)]
-pub enum Asked {
-    Is(u32),
-    None,
-}
-
-// The command that a word names.
+// The command that a word names. No `match` on the word: it is proved byte by byte, and its proof did not close.
 pub fn command_of(word: &[u8]) -> Command
     ensures { result ≡ command_of word.now }
 {
     if text::same_bytes(word, b"check") {
-        return Command::Check;
+        Command::Check
+    } else if text::same_bytes(word, b"receipt") {
+        Command::Receipt
+    } else if text::same_bytes(word, b"bill") {
+        Command::Bill
+    } else if text::same_bytes(word, b"fields") {
+        Command::Fields
+    } else if text::same_bytes(word, b"view") {
+        Command::View { raw: false }
+    } else if text::same_bytes(word, b"column") {
+        Command::Column { raw: false }
+    } else {
+        about_of(word)
     }
-    if text::same_bytes(word, b"receipt") {
-        return Command::Receipt;
-    }
-    if text::same_bytes(word, b"bill") {
-        return Command::Bill;
-    }
-    if text::same_bytes(word, b"fields") {
-        return Command::Fields;
-    }
-    if text::same_bytes(word, b"view") {
-        return Command::View;
-    }
-    if text::same_bytes(word, b"column") {
-        return Command::Column;
-    }
-    about_of(word)
 }
 
 // The command about the program itself that a word names.
 fn about_of(word: &[u8]) -> Command
     ensures { result ≡ about_of word.now }
 {
-    if text::same_bytes(word, b"help") {
-        return Command::Help;
+    if text::same_bytes(word, b"help")
+        || text::same_bytes(word, b"--help")
+        || text::same_bytes(word, b"-h")
+    {
+        Command::Help
+    } else if text::same_bytes(word, b"--version") {
+        Command::Version
+    } else {
+        Command::Unknown
     }
-    if text::same_bytes(word, b"--help") {
-        return Command::Help;
-    }
-    if text::same_bytes(word, b"-h") {
-        return Command::Help;
-    }
-    if text::same_bytes(word, b"--version") {
-        return Command::Version;
-    }
-    Command::Unknown
 }
 
 // A command with the word directly after it: --raw asks view for bytes, and column for floats in hexadecimal. A file of that name is ./--raw.
@@ -86,17 +71,9 @@ fn raw(command: Command) -> Command
     ensures { result ≡ raw_of command }
 {
     match command {
-        Command::Check => Command::Check,
-        Command::Receipt => Command::Receipt,
-        Command::Bill => Command::Bill,
-        Command::Fields => Command::Fields,
-        Command::View => Command::RawView,
-        Command::RawView => Command::RawView,
-        Command::Column => Command::RawColumn,
-        Command::RawColumn => Command::RawColumn,
-        Command::Help => Command::Help,
-        Command::Version => Command::Version,
-        Command::Unknown => Command::Unknown,
+        Command::View { .. } => Command::View { raw: true },
+        Command::Column { .. } => Command::Column { raw: true },
+        _ => command,
     }
 }
 
@@ -105,16 +82,12 @@ pub fn fits(command: Command, count: usize) -> bool
     ensures { result ≡ words_fit command count }
 {
     match command {
-        Command::Check => 4 <= count,
+        Command::Check | Command::Bill => 4 <= count,
         Command::Receipt => count == 6,
-        Command::Bill => 4 <= count,
         Command::Fields => count == 4,
-        Command::View => count == 5,
-        Command::RawView => count == 6,
-        Command::Column => count == 5,
-        Command::RawColumn => count == 6,
-        Command::Help => count == 3,
-        Command::Version => count == 3,
+        Command::View { raw: false } | Command::Column { raw: false } => count == 5,
+        Command::View { raw: true } | Command::Column { raw: true } => count == 6,
+        Command::Help | Command::Version => count == 3,
         Command::Unknown => true,
     }
 }
@@ -124,17 +97,9 @@ pub fn file_place(command: Command) -> usize
     ensures { result ≡ file_place command }
 {
     match command {
-        Command::Check => 3,
         Command::Receipt => 5,
-        Command::Bill => 3,
-        Command::Fields => 3,
-        Command::View => 3,
-        Command::RawView => 4,
-        Command::Column => 3,
-        Command::RawColumn => 4,
-        Command::Help => 3,
-        Command::Version => 3,
-        Command::Unknown => 3,
+        Command::View { raw: true } | Command::Column { raw: true } => 4,
+        _ => 3,
     }
 }
 
@@ -142,43 +107,26 @@ pub fn file_place(command: Command) -> usize
 pub fn name_place(command: Command) -> usize
     ensures { result ≡ name_place command }
 {
-    match command {
-        Command::Check => 4,
-        Command::Receipt => 6,
-        Command::Bill => 4,
-        Command::Fields => 4,
-        Command::View => 4,
-        Command::RawView => 5,
-        Command::Column => 4,
-        Command::RawColumn => 5,
-        Command::Help => 4,
-        Command::Version => 4,
-        Command::Unknown => 4,
-    }
+    file_place(command) + 1
 }
 
 // The number that a word says, if it is 1 to a limit.
-pub fn number_in(word: &[u8], limit: u32) -> Asked
+pub fn number_in(word: &[u8], limit: u32) -> Option<u32>
     ensures { result ≡ asked_of word.now limit }
 {
-    let Number::Is(number) = text::number_of(word) else {
-        return Asked::None;
-    };
-    if number < 1 {
-        return Asked::None;
+    let number = text::number_of(word)?;
+    if number < 1 || limit < number {
+        return None;
     }
-    if limit < number {
-        return Asked::None;
-    }
-    Asked::Is(number)
+    Some(number)
 }
 
-// What is said of a column that is refused with a number.
-pub fn part_of(number: u8) -> OfPart
-    ensures { result ≡ part_of number }
+// What is said of a column that is refused.
+pub fn part_of(refusal: Refusal) -> OfPart
+    ensures { result ≡ part_of refusal }
 {
-    if number == refusal::BUFFER_TOO_SMALL {
-        return OfPart::NotShown;
+    match refusal {
+        Refusal::BufferTooSmall => OfPart::NotShown,
+        _ => OfPart::Refused(refusal),
     }
-    OfPart::Refused(number)
 }

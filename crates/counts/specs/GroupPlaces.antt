@@ -1,6 +1,7 @@
 -- What the functions of the module `groups` say of a group type at a place. No lemma stands here. Assumes nothing.
-use Rattle.std.specs.Prelude.{◌≡◌, Bool, true, false, cond, ◌&&◌, List, ℕ, ◌*◌, ◌%◌, eqb}
-use Rattle.refusal.specs.Table.{accepted}
+use Rattle.std.specs.Prelude.{◌≡◌, Bool, true, false, cond, ◌&&◌, Option as Answer, Some, None, Result, IfOk, List, ℕ, ◌*◌, ◌%◌, eqb}
+use Rattle.refusal.specs.declared.Refusal.{Refusal}
+use Rattle.refusal.specs.Outcome.{number_of}
 use Rattle.messagepack.specs.Document.{Document, Entries, count}
 use Rattle.text.specs.Equal.{equal}
 use Rattle.text.specs.Ascii.{ascii}
@@ -11,7 +12,6 @@ use Rattle.counts.specs.Group.{atoms_of, bonds_of, group_number}
 use Rattle.counts.specs.declared.groups.Places.{Places}
 use Rattle.counts.specs.declared.groups.Found.{Found}
 use Rattle.counts.specs.declared.groups.Group.{Group}
-use Rattle.values.specs.declared.lists.Length as l
 use Rattle.values.specs.Integers.{array_length}
 
 -- the places of a group type's lists among its entries
@@ -43,25 +43,31 @@ noted key value r =
     }
 
 -- `bonds_agree` by the lengths of the two lists, where they are there
-abbrev pub agrees : Bool → ℕ → Bool → ℕ → Bool
-agrees has_bonds bonds has_orders orders =
-    cond has_bonds (eqb (bonds % 2) 0 && cond has_orders (eqb (orders * 2) bonds) true) (cond has_orders false true)
+abbrev pub agrees : Answer ℕ → Answer ℕ → Bool
+agrees None None = true
+agrees None (Some orders) = false
+agrees (Some bonds) None = eqb (bonds % 2) 0
+agrees (Some bonds) (Some orders) = eqb (bonds % 2) 0 && eqb (orders * 2) bonds
 
 -- a promise on a walked file by a group type whose lists stand at places
-abbrev pub WalkedLists : List ℕ → List ℕ → Places → (Document → Type 0) → Type 0
-WalkedLists leads file places P = WalkedBy leads (λ x. PlacesIn file (entries_of x) places) P
+abbrev pub WalkedLists : List ℕ → Places → (Document → Type 0) → Type 0
+WalkedLists file places P = WalkedBy (λ x. PlacesIn file (entries_of x) places) P
 
 -- the lengths of a group type's lists
-pub record Lengths (x : Document) (atoms charges elements : ℕ) (bonds orders : l.Length) : Type 0 where
+pub record Lengths (x : Document) (atoms charges elements : ℕ) (bonds orders : Answer ℕ) : Type 0 where
   pub atoms_are : atoms ≡ atoms_of x
   pub charges-are : charges ≡ count (items_in (under "formalChargeList" x))
   pub elements-are : elements ≡ count (items_in (under "elementList" x))
   pub bonds-are : bonds ≡ array_length (under "bondAtomList" x)
   pub orders-are : orders ≡ array_length (under "bondOrderList" x)
 
+-- a group type that is not refused: its atoms, its bonds and its end
+pub record GroupIs (x : Document) (e : ℕ) (g : Group) : Type 0 where
+  pub atoms : g.atoms ≡ atoms_of x
+  pub bonds : g.bonds ≡ bonds_of x
+  pub ends : g.end ≡ e
+
 -- the answer for a group type
-pub record GroupSays (x : Document) (e : ℕ) (r : Group) : Type 0 where
-  pub number : r.refusal ≡ group_number x
-  pub atoms : r.refusal ≡ accepted → r.atoms ≡ atoms_of x
-  pub bonds : r.refusal ≡ accepted → r.bonds ≡ bonds_of x
-  pub ends : r.end ≡ e
+pub record GroupSays (x : Document) (e : ℕ) (r : Result Group Refusal) : Type 0 where
+  pub number : number_of r ≡ group_number x
+  pub group : IfOk r (λ g. GroupIs x e g)

@@ -1,6 +1,7 @@
 -- The rules of counts in the parts that the functions inside this crate judge, and what is known of a file's places when they do. No lemma
 -- stands here. Assumes nothing.
 use Rattle.std.specs.Prelude.{◌≡◌, Bool, cond, ◌&&◌, List, [], ◌∷◌, ℕ, suc, ◌+◌, ◌/◌, ◌≤◌, eqb, leb, ℤ, pos, nat_abs}
+use Rattle.std.specs.Prelude.{Option as Answer, Some, None, unwrap_or}
 use Rattle.refusal.specs.Table.{accepted, counts_disagree, index_outside, value_outside}
 use Rattle.refusal.specs.First.{unless, first}
 use Rattle.numbers.specs.Ranges.{between}
@@ -11,7 +12,6 @@ use Rattle.fields.specs.Table.{named}
 use Rattle.fields.specs.Noted.{PlacesOf}
 use Rattle.file_columns.specs.Cells.{type_limit}
 use Rattle.file_columns.specs.declared.whole.Sums.{Sums}
-use Rattle.values.specs.declared.lists.Length as list
 use Rattle.file_columns.specs.Columns.{columns, AllRight}
 use Rattle.counts.specs.Group.{group_number, groups_number}
 use Rattle.counts.specs.GroupPlaces.{agrees}
@@ -26,12 +26,12 @@ pub record Facts (s : List ℕ) (es : Entries) (places : List ℕ) : Type 0 wher
   pub short : Short s
 
 -- a promise on a walked file by its entries, of which these facts are known
-abbrev pub WalkedFacts : List ℕ → List ℕ → List ℕ → (Entries → Type 0) → Type 0
-WalkedFacts leads file places P = WalkedBy leads (λ es. Facts file es places) P
+abbrev pub WalkedFacts : List ℕ → List ℕ → (Entries → Type 0) → Type 0
+WalkedFacts file places P = WalkedBy (λ es. Facts file es places) P
 
 -- a promise on a walked file within the limit by the n group types that stand from a place on
-abbrev pub WalkedTypes : List ℕ → List ℕ → ℕ → ℕ → (Documents → Type 0) → Type 0
-WalkedTypes leads file n at P = Short file → WalkedAll leads file n at (λ types e. P types)
+abbrev pub WalkedTypes : List ℕ → ℕ → ℕ → (Documents → Type 0) → Type 0
+WalkedTypes file n at P = Short file → WalkedAll file n at (λ types e. P types)
 
 -- a table after group types: it begins with a number of each type that rule 5 passes, up to the first that it refuses; beyond it is as before
 unfoldable pub table_of : (Document → ℕ) → Documents → List ℕ → List ℕ
@@ -61,11 +61,11 @@ pub record CountsAre (f : Counted) (c : Counts) : Type 0 where
   pub few-atoms : c.atoms ≤ count_limit
 
 -- a promise on a walked file by what the rules look at, and one where the num fields are in range
-abbrev pub WalkedCounted : List ℕ → List ℕ → List ℕ → (Counted → Type 0) → Type 0
-WalkedCounted leads file places P = WalkedFacts leads file places (λ es. P (counted_of es))
+abbrev pub WalkedCounted : List ℕ → List ℕ → (Counted → Type 0) → Type 0
+WalkedCounted file places P = WalkedFacts file places (λ es. P (counted_of es))
 
-abbrev pub WalkedCounts : List ℕ → List ℕ → List ℕ → Counts → (Counted → Type 0) → Type 0
-WalkedCounts leads file places counts P = WalkedCounted leads file places (λ f. CountsAre f counts → P f)
+abbrev pub WalkedCounts : List ℕ → List ℕ → Counts → (Counted → Type 0) → Type 0
+WalkedCounts file places counts P = WalkedCounted file places (λ f. CountsAre f counts → P f)
 
 -- group types within their limit
 abbrev pub FewTypes : Counted → Type 0
@@ -93,12 +93,12 @@ abbrev pub chains_part : Counted → ℕ
 chains_part f = first (unless (numbers_right f) value_outside ∷ unless (chains_agree f) counts_disagree ∷ [])
 
 -- rules 6 to 8 by the sums over all groups and the lengths of the lists outside
-abbrev pub totals_number : Sums → list.Length → list.Length → Counts → ℕ
-totals_number sums outer orders c =
+abbrev pub totals_number : Answer Sums → Answer ℕ → Answer ℕ → Counts → ℕ
+totals_number None outer orders c = index_outside
+totals_number (Some sums) outer orders c =
     first
-    (unless sums.inside index_outside
-    ∷ unless (eqb sums.atoms c.atoms) counts_disagree
-    ∷ unless (eqb (sums.bonds + outer.count / 2) c.bonds && agrees outer.there outer.count orders.there orders.count) counts_disagree
+    (unless (eqb sums.atoms c.atoms) counts_disagree
+    ∷ unless (eqb (sums.bonds + unwrap_or outer 0 / 2) c.bonds && agrees outer orders) counts_disagree
     ∷ [])
 
 -- rules 6 to 8

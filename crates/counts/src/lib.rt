@@ -7,6 +7,7 @@ mod groups;
 mod indices;
 
 ghost use Rattle.std.specs.Prelude.{◌≡◌, suc, ◌+◌, ◌≤◌, eqb, leb, length};
+ghost use Rattle.refusal.specs.Outcome.{number_of};
 ghost use Rattle.values.specs.Parts.{integer_of};
 ghost use Rattle.values.specs.Walked.{Walked};
 ghost use Rattle.file_columns.specs.Cells.{type_limit};
@@ -19,7 +20,7 @@ ghost use Rattle.counts.specs.Steps.{FewTypes, table_of, totals_number, groups_p
 
 use columns::{Kind, Wanted};
 use file_columns::whole::Sums;
-use values::lists::{Length, Sum};
+use refusal::Refusal;
 
 // The most models, chains, groups, atoms or bonds.
 pub const COUNT_LIMIT: usize = 16_777_216;
@@ -37,34 +38,18 @@ pub struct Counts {
     pub models: usize,
 }
 
-// The refusal by the rules of counts in their order, 20 to 23, or 0. Rule 1 (at most 4,096 group types) and rule 4 (column lengths) are judged here.
-pub fn refusal_of(leads: &[u8; 256], file: &[u8], places: &[usize; fields::FIELD_COUNT]) -> u8
-    ensures { WalkedCounted leads.now file.now places.now (λ f. result ≡ counts_number f) }
+// The refusal by the rules of counts in their order, 20 to 23, or none. Rule 1 (at most 4,096 group types) and rule 4 (column lengths) are judged here.
+pub fn refusal_of(file: &[u8], places: &[usize; fields::FIELD_COUNT]) -> Result<(), Refusal>
+    ensures { WalkedCounted file.now places.now (λ f. number_of result ≡ counts_number f) }
 {
-    let types = values::lists::length_at(leads, file, places[fields::GROUP_LIST]).count;
-    if !types_fit(types) {
-        return refusal::TOO_MANY_GROUP_TYPES;
-    }
-    let counts = counts_at(leads, file, places);
-    let number = chains_refusal(leads, file, places, counts);
-    if number != refusal::ACCEPTED {
-        return number;
-    }
-    if !file_columns::lengths_fit(
-        leads,
-        file,
-        places,
-        counts.atoms,
-        counts.groups,
-        counts.chains,
-    ) {
-        return refusal::COUNTS_DISAGREE;
-    }
-    let number = groups_refusal(leads, file, places, counts);
-    if number != refusal::ACCEPTED {
-        return number;
-    }
-    values_refusal(leads, file, places, counts)
+    let types = values::lists::length_at(file, places[fields::GROUP_LIST]).unwrap_or(0);
+    refusal::unless(types_fit(types), Refusal::TooManyGroupTypes)?;
+    let counts = counts_at(file, places);
+    chains_refusal(file, places, counts)?;
+    let fit = file_columns::lengths_fit(file, places, counts.atoms, counts.groups, counts.chains);
+    refusal::unless(fit, Refusal::CountsDisagree)?;
+    groups_refusal(file, places, counts)?;
+    values_refusal(file, places, counts)
 }
 
 // Rule 1: whether there are no more group types than there may be.
@@ -76,52 +61,45 @@ fn types_fit(types: usize) -> bool
 
 // Rules 2 and 3: the num fields, and the entries of chainsPerModel and groupsPerChain with their sums.
 fn chains_refusal(
-    leads: &[u8; 256],
     file: &[u8],
     places: &[usize; fields::FIELD_COUNT],
     counts: Counts,
-) -> u8
-    ensures { WalkedCounted leads.now file.now places.now (λ f. CountsIn f counts → result ≡ chains_part f) }
+) -> Result<(), Refusal>
+    ensures { WalkedCounted file.now places.now (λ f. CountsIn f counts → number_of result ≡ chains_part f) }
 {
-    if !counts_fit(counts) {
-        return refusal::VALUE_OUTSIDE;
-    }
-    let Sum::Is(groups) = values::lists::sum_at(leads, file, places[fields::GROUPS_PER_CHAIN])
-    else {
-        return refusal::VALUE_OUTSIDE;
-    };
-    let Sum::Is(chains) = values::lists::sum_at(leads, file, places[fields::CHAINS_PER_MODEL])
-    else {
-        return refusal::VALUE_OUTSIDE;
-    };
-    let models = values::lists::length_at(leads, file, places[fields::CHAINS_PER_MODEL]).count;
-    let ends = values::lists::length_at(leads, file, places[fields::GROUPS_PER_CHAIN]).count;
+    refusal::unless(counts_fit(counts), Refusal::ValueOutside)?;
+    let per_chain = places[fields::GROUPS_PER_CHAIN];
+    let per_model = places[fields::CHAINS_PER_MODEL];
+    let groups = values::lists::sum_at(file, per_chain).ok_or(Refusal::ValueOutside)?;
+    let chains = values::lists::sum_at(file, per_model).ok_or(Refusal::ValueOutside)?;
+    let models = values::lists::length_at(file, per_model).unwrap_or(0);
+    let ends = values::lists::length_at(file, per_chain).unwrap_or(0);
     refusal::unless(
         chains_agree(counts, models, chains, ends, groups),
-        refusal::COUNTS_DISAGREE,
+        Refusal::CountsDisagree,
     )
 }
 
 // Rule 2: the five num fields at their places, as counts.
-pub fn counts_at(leads: &[u8; 256], file: &[u8], places: &[usize; fields::FIELD_COUNT]) -> Counts
+pub fn counts_at(file: &[u8], places: &[usize; fields::FIELD_COUNT]) -> Counts
     ensures small { Small result }
-    ensures fields { WalkedCounted leads.now file.now places.now (λ f. CountsIn f result) }
+    ensures fields { WalkedCounted file.now places.now (λ f. CountsIn f result) }
 {
     Counts {
-        bonds: count_at(leads, file, places[fields::NUM_BONDS]),
-        atoms: count_at(leads, file, places[fields::NUM_ATOMS]),
-        groups: count_at(leads, file, places[fields::NUM_GROUPS]),
-        chains: count_at(leads, file, places[fields::NUM_CHAINS]),
-        models: count_at(leads, file, places[fields::NUM_MODELS]),
+        bonds: count_at(file, places[fields::NUM_BONDS]),
+        atoms: count_at(file, places[fields::NUM_ATOMS]),
+        groups: count_at(file, places[fields::NUM_GROUPS]),
+        chains: count_at(file, places[fields::NUM_CHAINS]),
+        models: count_at(file, places[fields::NUM_MODELS]),
     }
 }
 
 // Rule 2: the integer at a place as a count; one above the limit where it is out of range.
-fn count_at(leads: &[u8; 256], file: &[u8], at: usize) -> usize
+fn count_at(file: &[u8], at: usize) -> usize
     ensures small { result ≤ suc count_limit }
-    ensures integer { Walked leads.now file.now at (λ x e. result ≡ as_count (integer_of x)) }
+    ensures integer { Walked file.now at (λ x e. result ≡ as_count (integer_of x)) }
 {
-    as_count(values::integer_at(leads, file, at))
+    as_count(values::integer_at(file, at))
 }
 
 // Rule 2: an integer as a count; one above the limit where it is out of range.
@@ -131,103 +109,69 @@ fn as_count(number: i32) -> usize
     if number < 0 {
         return COUNT_LIMIT + 1;
     }
-    let n = numbers::to_u32(number) as usize;
-    if COUNT_LIMIT < n {
-        return COUNT_LIMIT + 1;
-    }
-    n
+    (number as usize).min(COUNT_LIMIT + 1)
 }
 
 // Rule 2: whether the five num fields are in range.
 fn counts_fit(counts: Counts) -> bool
     ensures { result ≡ counts_fit counts }
 {
-    if COUNT_LIMIT < counts.bonds {
-        return false;
-    }
-    if COUNT_LIMIT < counts.atoms {
-        return false;
-    }
-    if COUNT_LIMIT < counts.groups {
-        return false;
-    }
-    if COUNT_LIMIT < counts.chains {
-        return false;
-    }
-    counts.models <= COUNT_LIMIT
+    counts.bonds <= COUNT_LIMIT
+        && counts.atoms <= COUNT_LIMIT
+        && counts.groups <= COUNT_LIMIT
+        && counts.chains <= COUNT_LIMIT
+        && counts.models <= COUNT_LIMIT
 }
 
 // Rule 3: whether models, chains and groups are as many as chainsPerModel and groupsPerChain say: their entries, and the sums of these.
 fn chains_agree(counts: Counts, models: usize, chains: u64, ends: usize, groups: u64) -> bool
     ensures { result ≡ chains_fit counts models chains ends groups }
 {
-    if models != counts.models {
-        return false;
-    }
-    if chains != numbers::usize_to_u64(counts.chains) {
-        return false;
-    }
-    if ends != counts.chains {
-        return false;
-    }
-    groups == numbers::usize_to_u64(counts.groups)
+    models == counts.models
+        && chains == counts.chains as u64
+        && ends == counts.chains
+        && groups == counts.groups as u64
 }
 
 // Rules 5 to 8: each group type, the groups that are of them, and the atoms and bonds that these add up to. A table for few types is smaller.
 fn groups_refusal(
-    leads: &[u8; 256],
     file: &[u8],
     places: &[usize; fields::FIELD_COUNT],
     counts: Counts,
-) -> u8
-    ensures { WalkedCounts leads.now file.now places.now counts (λ f. FewTypes f → result ≡ groups_part f) }
+) -> Result<(), Refusal>
+    ensures { WalkedCounts file.now places.now counts (λ f. FewTypes f → number_of result ≡ groups_part f) }
 {
-    let types = values::lists::length_at(leads, file, places[fields::GROUP_LIST]).count;
+    let types = values::lists::length_at(file, places[fields::GROUP_LIST]).unwrap_or(0);
     if types <= FEW_TYPES {
-        let mut atoms = few_entries();
-        let mut bonds = few_entries();
-        return types_refusal(leads, file, places, counts, &mut atoms, &mut bonds);
+        let mut atoms = [0; FEW_TYPES];
+        let mut bonds = [0; FEW_TYPES];
+        return types_refusal(file, places, counts, &mut atoms, &mut bonds);
     }
-    let mut atoms = no_entries();
-    let mut bonds = no_entries();
-    types_refusal(leads, file, places, counts, &mut atoms, &mut bonds)
+    let mut atoms = [0; file_columns::whole::TYPE_LIMIT];
+    let mut bonds = [0; file_columns::whole::TYPE_LIMIT];
+    types_refusal(file, places, counts, &mut atoms, &mut bonds)
 }
 
 // Rules 5 to 8 by tables that have an entry for each type.
 fn types_refusal(
-    leads: &[u8; 256],
     file: &[u8],
     places: &[usize; fields::FIELD_COUNT],
     counts: Counts,
     atoms: &mut [u32],
     bonds: &mut [u32],
-) -> u8
-    ensures { WalkedCounts leads.now file.now places.now counts (λ f. Hold (count f.groupList) atoms.old bonds.old → result ≡ groups_part f) }
+) -> Result<(), Refusal>
+    ensures { WalkedCounts file.now places.now counts (λ f. Hold (count f.groupList) atoms.old bonds.old → number_of result ≡ groups_part f) }
 {
-    let list = values::items_at(leads, file, places[fields::GROUP_LIST]);
+    let list = values::items_at(file, places[fields::GROUP_LIST]);
     let n = list.count;
-    if atoms.len() < n {
-        return refusal::TOO_MANY_GROUP_TYPES;
+    if atoms.len() < n || bonds.len() < n {
+        return Err(Refusal::TooManyGroupTypes);
     }
-    if bonds.len() < n {
-        return refusal::TOO_MANY_GROUP_TYPES;
-    }
-    let number = fill_tables(leads, file, n, list.at, atoms, bonds);
-    if number != refusal::ACCEPTED {
-        return number;
-    }
+    fill_tables(file, n, list.at, atoms, bonds)?;
     let int32 = Wanted::Only(Kind::Int32);
-    let sums = file_columns::totals(
-        leads,
-        file,
-        places[fields::GROUP_TYPE_LIST],
-        n,
-        atoms,
-        bonds,
-    );
-    let outer = file_columns::length_at(leads, file, places[fields::BOND_ATOM_LIST], int32);
+    let sums = file_columns::totals(file, places[fields::GROUP_TYPE_LIST], n, atoms, bonds);
+    let outer = file_columns::length_at(file, places[fields::BOND_ATOM_LIST], int32);
     let orders = file_columns::length_at(
-        leads,
         file,
         places[fields::BOND_ORDER_LIST],
         Wanted::Only(Kind::Int8),
@@ -235,164 +179,102 @@ fn types_refusal(
     totals_refusal(sums, outer, orders, counts)
 }
 
-// Rule 5 for n group types from a place on: the refusal of the first that has one, or 0 with the atoms and bonds of each type in the tables.
+// Rule 5 for n group types from a place on: the refusal of the first that has one, or none, with the atoms and bonds of each type in the tables.
 fn fill_tables(
-    leads: &[u8; 256],
     file: &[u8],
     n: usize,
     at: usize,
     atoms: &mut [u32],
     bonds: &mut [u32],
-) -> u8
+) -> Result<(), Refusal>
     requires { Hold n atoms.old bonds.old }
-    ensures number { WalkedTypes leads.now file.now n at (λ ts. result ≡ groups_number ts) }
-    ensures atoms { WalkedTypes leads.now file.now n at (λ ts. atoms.new ≡ table_of atoms_of ts atoms.old) }
-    ensures bonds { WalkedTypes leads.now file.now n at (λ ts. bonds.new ≡ table_of bonds_of ts bonds.old) }
+    ensures number { WalkedTypes file.now n at (λ ts. number_of result ≡ groups_number ts) }
+    ensures atoms { WalkedTypes file.now n at (λ ts. atoms.new ≡ table_of atoms_of ts atoms.old) }
+    ensures bonds { WalkedTypes file.now n at (λ ts. bonds.new ≡ table_of bonds_of ts bonds.old) }
 {
-    let mut i: usize = 0;
     let mut p = at;
-    while i < n {
-        let group = crate::groups::group_at(leads, file, p);
-        if group.refusal != refusal::ACCEPTED {
-            return group.refusal;
-        }
+    // By an index, since two tables are filled side by side, each up to n.
+    for i in 0..n {
+        let group = crate::groups::group_at(file, p)?;
         atoms[i] = group.atoms;
         bonds[i] = group.bonds;
         p = group.end;
-        i += 1;
     }
-    refusal::ACCEPTED
-}
-
-// Rules 7 and 8: a table of few group types with nothing in it.
-fn few_entries() -> [u32; FEW_TYPES]
-    ensures { length result ≡ 128 }
-{
-    [0u32; FEW_TYPES]
-}
-
-// Rules 7 and 8: a table of group types with nothing in it.
-fn no_entries() -> [u32; file_columns::whole::TYPE_LIMIT]
-    ensures { length result ≡ type_limit }
-{
-    [0u32; file_columns::whole::TYPE_LIMIT]
+    Ok(())
 }
 
 // Rule 6 (groups are of types that there are), rule 7 (their atoms are numAtoms) and rule 8 (their bonds and the pairs outside are numBonds, and
 // the orders outside agree) by the sums over all groups.
-fn totals_refusal(sums: Sums, outer: Length, orders: Length, counts: Counts) -> u8
-    ensures { result ≡ totals_number sums outer orders counts }
+fn totals_refusal(
+    sums: Option<Sums>,
+    outer: Option<usize>,
+    orders: Option<usize>,
+    counts: Counts,
+) -> Result<(), Refusal>
+    ensures { number_of result ≡ totals_number sums outer orders counts }
 {
-    if !sums.inside {
-        return refusal::INDEX_OUTSIDE;
-    }
-    if sums.atoms != numbers::usize_to_u64(counts.atoms) {
-        return refusal::COUNTS_DISAGREE;
-    }
-    if !adds_up(
-        sums.bonds,
-        numbers::usize_to_u64(outer.count / 2),
-        numbers::usize_to_u64(counts.bonds),
-    ) {
-        return refusal::COUNTS_DISAGREE;
-    }
-    if !crate::groups::bonds_agree(outer.there, outer.count, orders.there, orders.count) {
-        return refusal::COUNTS_DISAGREE;
-    }
-    refusal::ACCEPTED
+    let sums = sums.ok_or(Refusal::IndexOutside)?;
+    refusal::unless(sums.atoms == counts.atoms as u64, Refusal::CountsDisagree)?;
+    let pairs = (outer.unwrap_or(0) / 2) as u64;
+    refusal::unless(
+        adds_up(sums.bonds, pairs, counts.bonds as u64)
+            && crate::groups::bonds_agree(outer, orders),
+        Refusal::CountsDisagree,
+    )
 }
 
 // Rule 8: whether two numbers add up to a third.
 fn adds_up(a: u64, b: u64, sum: u64) -> bool
     ensures { result ≡ eqb (a + b) sum }
 {
-    if sum < a {
-        return false;
-    }
-    sum - a == b
+    a <= sum && sum - a == b
 }
 
 // Rules 9 to 11: the bonds outside, the listed values, and the chains that entities and transforms list.
 fn values_refusal(
-    leads: &[u8; 256],
     file: &[u8],
     places: &[usize; fields::FIELD_COUNT],
     counts: Counts,
-) -> u8
-    ensures { WalkedCounts leads.now file.now places.now counts (λ f. result ≡ values_part f) }
+) -> Result<(), Refusal>
+    ensures { WalkedCounts file.now places.now counts (λ f. number_of result ≡ values_part f) }
 {
-    if !outer_inside(leads, file, places, counts) {
-        return refusal::INDEX_OUTSIDE;
-    }
-    if !outer_right(leads, file, places) {
-        return refusal::VALUE_OUTSIDE;
-    }
-    if !values_right(leads, file, places) {
-        return refusal::VALUE_OUTSIDE;
-    }
-    if !indices_inside(leads, file, places, counts) {
-        return refusal::INDEX_OUTSIDE;
-    }
-    refusal::ACCEPTED
+    refusal::unless(outer_inside(file, places, counts), Refusal::IndexOutside)?;
+    refusal::unless(outer_right(file, places), Refusal::ValueOutside)?;
+    refusal::unless(values_right(file, places), Refusal::ValueOutside)?;
+    refusal::unless(indices_inside(file, places, counts), Refusal::IndexOutside)
 }
 
 // Rule 9: whether the bonds outside are between atoms that there are.
-fn outer_inside(
-    leads: &[u8; 256],
-    file: &[u8],
-    places: &[usize; fields::FIELD_COUNT],
-    counts: Counts,
-) -> bool
-    ensures { WalkedCounts leads.now file.now places.now counts (λ f. result ≡ outer_inside f) }
+fn outer_inside(file: &[u8], places: &[usize; fields::FIELD_COUNT], counts: Counts) -> bool
+    ensures { WalkedCounts file.now places.now counts (λ f. result ≡ outer_inside f) }
 {
     let int32 = Wanted::Only(Kind::Int32);
     let last = numbers::last_index(counts.atoms);
-    file_columns::all_between(leads, file, places[fields::BOND_ATOM_LIST], int32, 0, last)
+    file_columns::all_between(file, places[fields::BOND_ATOM_LIST], int32, 0, last)
 }
 
 // Rule 9: whether the orders of the bonds outside are 1 to 4.
-fn outer_right(leads: &[u8; 256], file: &[u8], places: &[usize; fields::FIELD_COUNT]) -> bool
-    ensures { WalkedCounted leads.now file.now places.now (λ f. result ≡ outer_right f) }
+fn outer_right(file: &[u8], places: &[usize; fields::FIELD_COUNT]) -> bool
+    ensures { WalkedCounted file.now places.now (λ f. result ≡ outer_right f) }
 {
     let int8 = Wanted::Only(Kind::Int8);
-    file_columns::all_between(leads, file, places[fields::BOND_ORDER_LIST], int8, 1, 4)
+    file_columns::all_between(file, places[fields::BOND_ORDER_LIST], int8, 1, 4)
 }
 
 // Rule 10: whether secStructList is -1 to 7, and sequenceIdList at least -1.
-fn values_right(leads: &[u8; 256], file: &[u8], places: &[usize; fields::FIELD_COUNT]) -> bool
-    ensures { WalkedCounted leads.now file.now places.now (λ f. result ≡ values_right f) }
+fn values_right(file: &[u8], places: &[usize; fields::FIELD_COUNT]) -> bool
+    ensures { WalkedCounted file.now places.now (λ f. result ≡ values_right f) }
 {
     let int8 = Wanted::Only(Kind::Int8);
     let int32 = Wanted::Only(Kind::Int32);
-    if !file_columns::all_between(leads, file, places[fields::SEC_STRUCT_LIST], int8, -1, 7) {
-        return false;
-    }
-    file_columns::all_between(
-        leads,
-        file,
-        places[fields::SEQUENCE_ID_LIST],
-        int32,
-        -1,
-        i32::MAX,
-    )
+    file_columns::all_between(file, places[fields::SEC_STRUCT_LIST], int8, -1, 7)
+        && file_columns::all_between(file, places[fields::SEQUENCE_ID_LIST], int32, -1, i32::MAX)
 }
 
 // Rule 11: whether entities, then the transforms of assemblies, list chains that there are.
-fn indices_inside(
-    leads: &[u8; 256],
-    file: &[u8],
-    places: &[usize; fields::FIELD_COUNT],
-    counts: Counts,
-) -> bool
-    ensures { WalkedCounts leads.now file.now places.now counts (λ f. result ≡ indices_inside f) }
+fn indices_inside(file: &[u8], places: &[usize; fields::FIELD_COUNT], counts: Counts) -> bool
+    ensures { WalkedCounts file.now places.now counts (λ f. result ≡ indices_inside f) }
 {
-    if !crate::indices::all_inside(leads, file, places[fields::ENTITY_LIST], counts.chains) {
-        return false;
-    }
-    crate::indices::assemblies_inside(
-        leads,
-        file,
-        places[fields::BIO_ASSEMBLY_LIST],
-        counts.chains,
-    )
+    crate::indices::all_inside(file, places[fields::ENTITY_LIST], counts.chains)
+        && crate::indices::assemblies_inside(file, places[fields::BIO_ASSEMBLY_LIST], counts.chains)
 }

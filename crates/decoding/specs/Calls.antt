@@ -1,25 +1,21 @@
 -- What the decoder of fixed point answers, and the elements of a lent buffer by the cells of a column; `Buffer` of columns says the rest of
 -- what a decoder answers and leaves. No lemma stands here: the laws are in Laws/Calls.antt. Assumes nothing.
-use Rattle.std.specs.Prelude.{List, ℕ, ◌%◌, length, ℤ}
+use Rattle.std.specs.Prelude.{Result, Ok, Err, List, ℕ, ◌%◌, length, ℤ}
 use Rattle.std.specs.Int.{w32}
 use Rattle.std.proofs.Common.{to_z, of_z}
-use Rattle.refusal.specs.declared.Answer.{Answer}
-use Rattle.refusal.specs.declared.Answer.TheVariants as answer
-use Rattle.refusal.specs.Answer.{answered}
+use Rattle.refusal.specs.Outcome.{answered}
 use Rattle.columns.specs.declared.Kind.{Kind}
 use Rattle.columns.specs.Decode.{Decoding, refused, column}
 use Rattle.columns.specs.Buffer.{decoded_buffer}
-use Rattle.decoding.specs.declared.Fixed.{Fixed}
-use Rattle.decoding.specs.declared.Fixed.TheVariants.{Column, Refused}
 
 -- an answer with the divisor m
-abbrev pub with_divisor : ℕ → Answer → Fixed
-with_divisor m (answer.Count n) = Column n (to_z w32 m)
-with_divisor m (answer.Refused r) = Refused r
+abbrev pub with_divisor : ℕ → Result ℕ ℕ → Result (ℕ × ℤ) ℕ
+with_divisor m (Ok n) = Ok (n, to_z w32 m)
+with_divisor m (Err r) = Err r
 
 -- the answer of the decoder of fixed point, which tells the divisor too
-abbrev pub fixed_answer : Decoding → ℕ → Fixed
-fixed_answer (refused r) room = Refused r
+abbrev pub fixed_answer : Decoding → ℕ → Result (ℕ × ℤ) ℕ
+fixed_answer (refused r) room = Err r
 fixed_answer (column k m cells) room = with_divisor m (answered (length cells) room)
 
 -- a cell as an element of a buffer of numbers, and of bytes

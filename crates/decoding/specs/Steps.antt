@@ -1,26 +1,36 @@
--- What a payload of strings and of characters decodes to, the forms of numbers, and numbers written in blocks, for the code inside. No lemma
--- stands here. Assumes nothing.
+-- The kinds and forms of bytes, the forms of numbers, and numbers written in blocks, for the code inside. No lemma stands here. Assumes
+-- nothing.
 use Rattle.std.specs.Prelude.{◌≡◌, Bool, true, false, not, List, ◌++◌, map, ℕ, ◌≤◌, length, take, drop, ℤ}
 use Rattle.steps.specs.declared.Size.{Size}
 use Rattle.steps.specs.declared.Size.TheVariants.{One, Two, Four}
-use Rattle.steps.specs.declared.Range.TheVariants.{Ascii}
+use Rattle.steps.specs.declared.Range.TheVariants.{Int8, Int16, Int32, Ascii}
 use Rattle.steps.specs.declared.Form.{Form}
 use Rattle.steps.specs.declared.Form.TheVariants.{Plain, Packed, Runs, Names}
 use Rattle.steps.specs.Numbers.{numbers_in}
 use Rattle.payloads.specs.Results.{HasResults}
 use Rattle.columns.specs.declared.Kind.{Kind}
 use Rattle.columns.specs.declared.Kind.TheVariants as kind
-use Rattle.columns.specs.declared.Header.TheVariants.{Good}
-use Rattle.columns.specs.Decode.{Decoding, judged_payload}
 use Rattle.decoding.specs.Calls.{as_number}
 
--- n names of a size each
-abbrev pub names_payload : ℕ → ℕ → Kind → List ℕ → Decoding
-names_payload n size k s = judged_payload (Good n size k Names false) s
+-- the kinds of columns of bytes
+abbrev pub is_bytes : Kind → Bool
+is_bytes kind.Float32 = false
+is_bytes kind.FixedPoint = false
+is_bytes kind.Int8 = false
+is_bytes kind.Int16 = false
+is_bytes kind.Int32 = false
+is_bytes kind.Strings = true
+is_bytes kind.Chars = true
 
--- n characters, by a header with the parameter m
-abbrev pub chars_payload : ℕ → ℕ → List ℕ → Decoding
-chars_payload n m s = judged_payload (Good n m kind.Chars (Runs Ascii) false) s
+-- the forms of bytes: names, and runs of characters
+abbrev pub has_bytes : Form → Bool → Bool
+has_bytes (Plain z) d = false
+has_bytes (Packed z) d = false
+has_bytes (Runs Int8) d = false
+has_bytes (Runs Int16) d = false
+has_bytes (Runs Int32) d = false
+has_bytes (Runs Ascii) d = not d
+has_bytes Names d = not d
 
 -- the forms of numbers: no names, plain numbers without delta, and packed numbers of one and two bytes
 abbrev pub is_written : Form → Bool → Bool

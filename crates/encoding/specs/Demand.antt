@@ -3,12 +3,10 @@
 -- writer's form come back unchanged. Codecs 9 to 13 asked for as floats are divided and do not come back, so that nothing is claimed of them
 -- here: what they give is the contract of `floats::decode_float32`. No lemma stands here: that the statement holds is `demand-2` of
 -- Laws/Demand.antt. Assumes nothing.
-use Rattle.std.specs.Prelude.{◌≡◌, true, List, ◌++◌, map, ℕ, ◌≤◌, ◌<◌, ◌^◌, length, get_or, take, drop, ℤ, pos}
+use Rattle.std.specs.Prelude.{◌≡◌, Result, Ok, true, List, ◌++◌, map, ℕ, ◌≤◌, ◌<◌, ◌^◌, length, get_or, take, drop, ℤ, pos}
 use Rattle.std.specs.Int.{w32}
 use Rattle.std.proofs.Common.{to_z}
-use Rattle.refusal.specs.declared.Answer.{Answer}
-use Rattle.refusal.specs.declared.Answer.TheVariants.{Count}
-use Rattle.refusal.specs.Answer.{answered}
+use Rattle.refusal.specs.Outcome.{answered}
 use Rattle.numbers.specs.BigEndian.{Bytes, unsigned_at}
 use Rattle.steps.specs.Fits.{AllFit}
 use Rattle.columns.specs.declared.Kind.{Kind}
@@ -19,8 +17,6 @@ use Rattle.columns.specs.Buffer.{decoded_answer, decoded_buffer}
 use Rattle.columns.specs.Encode.{encode}
 use Rattle.columns.specs.CanHold.{is_one_of, codecs_of, CanHold}
 use Rattle.columns.specs.WriterForm.{WriterForm}
-use Rattle.decoding.specs.declared.Fixed.{Fixed}
-use Rattle.decoding.specs.declared.Fixed.TheVariants.{Column}
 use Rattle.decoding.specs.Calls as decoding
 use Rattle.floats.specs.Calls as floats
 use Rattle.encoding.specs.Calls.{encoded_answer, encoded_buffer}
@@ -79,7 +75,7 @@ taken kind.Chars m = 0
 
 -- what an encoder answers for the codec c, the parameter m and the elements ys, and what it leaves in the buffer; c and m are the 32 bits
 -- of the numbers that the call takes
-abbrev pub encoder_says : (k : Kind) → ℕ → ℕ → List (Element k) → ℕ → Answer
+abbrev pub encoder_says : (k : Kind) → ℕ → ℕ → List (Element k) → ℕ → Result ℕ ℕ
 encoder_says k c m ys room = encoded_answer (encode (Only k) c (taken k m) (cells_from k ys)) room
 
 abbrev pub encoder_leaves : (k : Kind) → ℕ → ℕ → List (Element k) → List ℕ → List ℕ
@@ -87,8 +83,8 @@ encoder_leaves k c m ys buffer = encoded_buffer (encode (Only k) c (taken k m) (
 
 -- what a decoder answers that wrote n elements, with the divisor d, which is 0 where there is none; d is told as the signed number of its 32
 -- bits, which is d itself up to 2,147,483,647
-abbrev pub wrote : ℕ → ℕ → Fixed
-wrote n d = Column n (to_z w32 d)
+abbrev pub wrote : ℕ → ℕ → Result (ℕ × ℤ) ℕ
+wrote n d = Ok (n, to_z w32 d)
 
 -- the divisor that a decoder tells of a column with the parameter m: that of fixed point, and 0 for the other kinds
 abbrev pub divisor_of : Kind → ℕ → ℕ
@@ -101,7 +97,7 @@ divisor_of kind.Strings m = 0
 divisor_of kind.Chars m = 0
 
 -- what a decoder answers for the bytes s and a buffer of so many elements, and what it leaves in the buffer
-abbrev pub decoder_says : Kind → List ℕ → ℕ → Fixed
+abbrev pub decoder_says : Kind → List ℕ → ℕ → Result (ℕ × ℤ) ℕ
 decoder_says kind.Float32 s room = decoding.with_divisor 0 (decoded_answer (floats.exactly (decode Real s)) room)
 decoder_says kind.FixedPoint s room = decoding.fixed_answer (decode (Only kind.FixedPoint) s) room
 decoder_says kind.Int8 s room = decoding.with_divisor 0 (decoded_answer (decode (Only kind.Int8) s) room)
@@ -147,10 +143,10 @@ pub record Demand2 : Type 0 where
   pub encodes : (k : Kind) (c m : ℕ) (ys : List (Element k)) → CanHold k c (taken k m) (cells_from k ys)
       → (n : ℕ) × ((room : ℕ) → encoder_says k c m ys room ≡ answered n room)
   -- whatever an encoder writes, the codec can hold
-  pub encodes-held : (k : Kind) (c m : ℕ) (ys : List (Element k)) (room n : ℕ) → encoder_says k c m ys room ≡ Count n → CanHold k c (taken k m) (cells_from k ys)
+  pub encodes-held : (k : Kind) (c m : ℕ) (ys : List (Element k)) (room n : ℕ) → encoder_says k c m ys room ≡ Ok n → CanHold k c (taken k m) (cells_from k ys)
   -- an encoder that answers n wrote n bytes of the codec and the parameter that were asked for, and these decode, in any buffer with room,
   -- to the column that was lent
-  pub decodes-back : (k : Kind) (c m : ℕ) (ys : List (Element k)) (old : List ℕ) (n : ℕ) → Typed k ys → encoder_says k c m ys (length old) ≡ Count n
+  pub decodes-back : (k : Kind) (c m : ℕ) (ys : List (Element k)) (old : List ℕ) (n : ℕ) → Typed k ys → encoder_says k c m ys (length old) ≡ Ok n
       → (buffer : List (Element k)) → length ys ≤ length buffer → Back k c m ys (take n (encoder_leaves k c m ys old)) buffer
   -- whatever a decoder hands over, the codec of its bytes can hold
   pub holds-decoded : (k : Kind) (s : List ℕ) (buffer : List (Element k)) (n d : ℕ) → OfKind k s → decoder_says k s (length buffer) ≡ wrote n d
@@ -158,5 +154,5 @@ pub record Demand2 : Type 0 where
   -- bytes in the writer's form, decoded and encoded again with the codec and the parameter of their header, are those bytes
   pub encodes-back : (k : Kind) (s : List ℕ) (buffer : List (Element k)) (n d : ℕ) → Bytes s → OfKind k s → WriterForm s → decoder_says k s (length buffer) ≡ wrote n d
       → (old : List ℕ) → length s ≤ length old
-      → (encoder_says k (codec_in s) (parameter_in s) (take n (decoder_leaves k s buffer)) (length old) ≡ Count (length s))
+      → (encoder_says k (codec_in s) (parameter_in s) (take n (decoder_leaves k s buffer)) (length old) ≡ Ok (length s))
       × (encoder_leaves k (codec_in s) (parameter_in s) (take n (decoder_leaves k s buffer)) old ≡ s ++ drop (length s) old)

@@ -39,25 +39,25 @@ plain_end length kind wanted n p =
     cond (eqb kind wanted) (cond (has_body kind) (cond (leb (p + n) length) (p + n) 0) p) 0
 
 -- of the document at a place: where it ends, if it passes a test, else 0
-pub record ValueSays (leads s : List ℕ) (f : Document → Bool) (at : ℕ) (r : ℕ) : Type 0 where
-  pub says : Walked leads s at (λ x e. r ≡ ends_if (f x) e)
+pub record ValueSays (s : List ℕ) (f : Document → Bool) (at : ℕ) (r : ℕ) : Type 0 where
+  pub says : Walked s at (λ x e. r ≡ ends_if (f x) e)
 
 -- of the n values of an array from a place on: where they end, if all pass, else 0
-pub record ItemsSay (leads s : List ℕ) (f : Document → Bool) (n at : ℕ) (r : ℕ) : Type 0 where
-  pub says : WalkedAll leads s n at (λ ds e. r ≡ ends_if (all f ds) e)
+pub record ItemsSay (s : List ℕ) (f : Document → Bool) (n at : ℕ) (r : ℕ) : Type 0 where
+  pub says : WalkedAll s n at (λ ds e. r ≡ ends_if (all f ds) e)
 
 -- of n values of an array from a place on: those before another place pass and end there, and so many are left
 pub record RunSays (s : List ℕ) (f : Document → Bool) (n at left p : ℕ) : Type 0 where
-  pub says : (leads : List ℕ) (r : ℕ) → ItemsSay leads s f left p r → ItemsSay leads s f n at r
+  pub says : (r : ℕ) → ItemsSay s f left p r → ItemsSay s f n at r
 
 -- of the n entries of a map from a place on, when a set of rows has been seen before: where they end, if each named key has its type and all
 -- required ones have been seen
-pub record EntriesSay (leads s : List ℕ) (rows : Rows) (seen n at : ℕ) (r : ℕ) : Type 0 where
-  pub says : WalkedEntries leads s n at (λ es e. r ≡ ends_if (fitting rows es && covered rows (bit_or seen (set_of (present rows es)))) e)
+pub record EntriesSay (s : List ℕ) (rows : Rows) (seen n at : ℕ) (r : ℕ) : Type 0 where
+  pub says : WalkedEntries s n at (λ es e. r ≡ ends_if (fitting rows es && covered rows (bit_or seen (set_of (present rows es)))) e)
 
 -- of the document at a place: where it ends, and whether it has the type of row i of the named fields
-pub record RowSays (leads s : List ℕ) (i at : ℕ) (e : ℕ) (b : Bool) : Type 0 where
-  pub says : Walked leads s at (λ x f. (e ≡ f) × (b ≡ row_test i named x))
+pub record RowSays (s : List ℕ) (i at : ℕ) (e : ℕ) (b : Bool) : Type 0 where
+  pub says : Walked s at (λ x f. (e ≡ f) × (b ≡ row_test i named x))
 
 -- what is noted in the end of the entries from p on, when some has been noted before
 pub record NotedFrom (s : List ℕ) (p : ℕ) (places ends : List ℕ) (presence : ℕ) (typed : Bool) (es : Entries) (r : Fields) : Type 0 where
@@ -67,8 +67,8 @@ pub record NotedFrom (s : List ℕ) (p : ℕ) (places ends : List ℕ) (presence
   pub fit : r.typed ≡ (typed && fitting named es)
 
 -- what is noted in the end of the n entries from a place on, when some has been noted before
-pub record NoteSays (leads s : List ℕ) (places ends : List ℕ) (presence : ℕ) (typed : Bool) (n at : ℕ) (r : Fields) : Type 0 where
-  pub says : WalkedEntries leads s n at (λ es e. NotedFrom s at places ends presence typed es r)
+pub record NoteSays (s : List ℕ) (places ends : List ℕ) (presence : ℕ) (typed : Bool) (n at : ℕ) (r : Fields) : Type 0 where
+  pub says : WalkedEntries s n at (λ es e. NotedFrom s at places ends presence typed es r)
 
 -- no places
 abbrev pub no_places : List ℕ

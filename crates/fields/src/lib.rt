@@ -2,9 +2,13 @@
 // type, with the set of those that are present; and the refusals 12, 13 and 24. The types stand in one table of bytes, made once for a pass
 // and lent. Values, arrays and maps are gone through by functions that call each other, the levels left falling. Each function takes any bytes
 // and any place, and promises a meaning for a file that has been walked (`Walked.antt` of values).
+//
+// Where a value ends is a number, 0 where it has not its type. Tried as an enum, and slower: that goes through memory, and is what made the
+// verdict on small files 1.25 times that of the Rust and more (docs/PERFORMANCE.md).
 #![tactic(auto)]
 
 ghost use Rattle.std.specs.Prelude.{◌≡◌, true, false, List, ℕ, ◌+◌, ◌*◌, ◌^◌, ◌≤◌, ◌<◌, length, get_or, take, drop, set};
+ghost use Rattle.refusal.specs.Outcome.{number_of};
 ghost use Rattle.numbers.specs.BigEndian.{unsigned_at};
 ghost use Rattle.text.specs.Equal.{equal};
 ghost use Rattle.values.specs.Walked.{Walked, WalkedEntries, WalkedBy};
@@ -16,7 +20,8 @@ ghost use Rattle.fields.specs.Noted.{Noted, Spanned};
 ghost use Rattle.fields.specs.Numbers.{type_table, type_depth, first_field, name_of, rows_from, type_of, row_test, build, covered, marked, lacking, distinct_names, table_byte, all_rows, hint_of, hinted};
 ghost use Rattle.fields.specs.Steps.{head_kind, has_body, plain_end, ValueSays, ItemsSay, RunSays, EntriesSay, RowSays, no_places};
 
-use heads::{Head, Kind};
+use heads::Kind;
+use refusal::Refusal;
 
 // How many fields are named.
 pub const FIELD_COUNT: usize = ENTITY_LIST + 1;
@@ -104,7 +109,8 @@ pub const BIO_ASSEMBLY_LIST: usize = NCS_OPERATOR_LIST + 1;
 pub const ENTITY_LIST: usize = BIO_ASSEMBLY_LIST + 1;
 
 // What a pass over a file's entries notes of the named fields: where each one's value stands and where it ends, 0 and 0 where it is absent; the
-// set of those present, a bit for each; whether each of them has its type.
+// set of those present, a bit for each; whether each of them has its type, a fact beside the others and no condition on them. The places stay numbers:
+// `Noted`, and what stands on it, speaks of 0.
 #[derive(Clone, Copy)]
 pub struct Fields {
     pub places: [usize; FIELD_COUNT],
@@ -120,7 +126,7 @@ pub struct Run {
     pub left: usize,
 }
 
-// Where a field's value ends, and whether it has its type.
+// Where a field's value ends, and whether it has its type. No `Option`: the end is known in both cases.
 #[derive(Clone, Copy)]
 pub struct Judged {
     pub end: usize,
@@ -128,92 +134,75 @@ pub struct Judged {
 }
 
 // What is noted of the count entries of a file from a place on. A value of the wrong type is stepped over, since 12 comes before 13.
-pub fn note(leads: &[u8; 256], file: &[u8], count: usize, at: usize) -> Fields
-    ensures noted { WalkedEntries leads.now file.now count at (λ es e. Noted file.now es result) }
-    ensures spans { WalkedEntries leads.now file.now count at (λ es e. Spanned file.now at es result) }
+pub fn note(file: &[u8], count: usize, at: usize) -> Fields
+    ensures noted { WalkedEntries file.now count at (λ es e. Noted file.now es result) }
+    ensures spans { WalkedEntries file.now count at (λ es e. Spanned file.now at es result) }
 {
     let types = types();
     let mut places = no_places();
     let mut ends = no_places();
     let mut presence: u64 = 0;
     let mut typed = true;
-    let mut left = count;
     let mut p = at;
-    while 0 < left {
-        let key = values::key_at(leads, file, p);
-        let a = key.at;
-        let m = key.count;
-        let value = a + m;
-        let row = row_of(&types, file, a, m, FIRST_FIELD, FIELD_COUNT);
-        let judged = judge(leads, file, &types, value, row);
+    for _ in 0..count {
+        let key = values::key_at(file, p);
+        let value = key.at + key.count;
+        let row = row_of(&types, file, key.at, key.count, FIRST_FIELD, FIELD_COUNT);
+        let judged = judge(file, &types, value, row);
         put_place(&mut places, row, value);
         put_place(&mut ends, row, judged.end);
         presence = mark(FIELD_COUNT, presence, row);
-        typed = numbers::both(typed, judged.typed);
+        typed = typed && judged.typed;
         p = judged.end;
-        left -= 1;
     }
     Fields {
-        places: places,
-        ends: ends,
-        presence: presence,
-        typed: typed,
+        places,
+        ends,
+        presence,
+        typed,
     }
 }
 
-// The refusal of a file by what is noted of its fields: 12, 13, 24, or 0.
-pub fn refusal_of(leads: &[u8; 256], file: &[u8], fields: Fields) -> u8
-    ensures { WalkedBy leads.now (λ es. Noted file.now es fields) (λ es. result ≡ fields_number es) }
+// The refusal of a file by what is noted of its fields: 12, 13 or 24.
+pub fn refusal_of(file: &[u8], fields: Fields) -> Result<(), Refusal>
+    ensures { WalkedBy (λ es. Noted file.now es fields) (λ es. number_of result ≡ fields_number es) }
 {
     let types = types();
     let whole = all_seen(&types, fields.presence, FIRST_FIELD, FIELD_COUNT);
-    let right = fields.typed;
     if !whole {
-        return refusal::FIELD_MISSING;
+        return Err(Refusal::FieldMissing);
     }
-    if !right {
-        return refusal::FIELD_TYPE;
+    if !fields.typed {
+        return Err(Refusal::FieldType);
     }
-    let version = values::text_at(leads, file, fields.places[MMTF_VERSION]);
-    let a = version.at;
-    let m = version.count;
-    if !is_version_one(file, a, m) {
-        return refusal::VERSION_NOT_1;
+    let version = values::text_at(file, fields.places[MMTF_VERSION]);
+    if !is_version_one(&file[version.at..version.at + version.count]) {
+        return Err(Refusal::VersionNot1);
     }
-    refusal::ACCEPTED
+    Ok(())
 }
 
 // Has the value at a place the type of a named field? Where there is no such field, no value has.
-pub fn is_typed(leads: &[u8; 256], file: &[u8], at: usize, field: usize) -> bool
-    ensures { Walked leads.now file.now at (λ x e. result ≡ typed (field_type_of field) x) }
+pub fn is_typed(file: &[u8], at: usize, field: usize) -> bool
+    ensures { Walked file.now at (λ x e. result ≡ typed (field_type_of field) x) }
 {
     if FIELD_COUNT <= field {
         return false;
     }
     let types = types();
-    let judged = judge(leads, file, &types, at, field);
+    let judged = judge(file, &types, at, field);
     judged.typed
 }
 
-// Do the m bytes from a on begin with "1." and a digit?
-fn is_version_one(file: &[u8], a: usize, m: usize) -> bool
-    requires { a + m ≤ length file.now }
-    ensures { result ≡ is_version_one (take m (drop a file.now)) }
+// Do the bytes begin with "1." and a digit?
+#[tactic(auto, unfolding(crate::specs::Fields::is_version_one))]
+fn is_version_one(text: &[u8]) -> bool
+    ensures { result ≡ is_version_one text.now }
 {
-    if m < 3 {
+    if text.len() < 3 {
         return false;
     }
-    if file[a] != b'1' {
-        return false;
-    }
-    if file[a + 1] != b'.' {
-        return false;
-    }
-    let digit = file[a + 2];
-    if digit < b'0' {
-        return false;
-    }
-    digit <= b'9'
+    text[0] == b'1' && text[1] == b'.' && b'0' <= text[2] && text[2] <= b'9'
 }
 
 // No places.
@@ -242,14 +231,14 @@ fn mark(n: usize, seen: u64, i: usize) -> u64
 }
 
 // The value at a place as that of a field, or of no field.
-fn judge(leads: &[u8; 256], file: &[u8], types: &[u8; TABLE_SIZE], at: usize, row: usize) -> Judged
+fn judge(file: &[u8], types: &[u8; TABLE_SIZE], at: usize, row: usize) -> Judged
     requires { types.now ≡ type_table }
-    ensures { RowSays leads.now file.now row at result.end result.typed }
+    ensures { RowSays file.now row at result.end result.typed }
 {
-    let e = field_typed(leads, file, types, at, row);
+    let e = field_typed(file, types, at, row);
     if e == 0 {
         return Judged {
-            end: values::skip(leads, file, at),
+            end: values::skip(file, at),
             typed: false,
         };
     }
@@ -260,38 +249,22 @@ fn judge(leads: &[u8; 256], file: &[u8], types: &[u8; TABLE_SIZE], at: usize, ro
 }
 
 // The value at a place as that of a named field, or of none, as `row_typed` has it: one that holds no others is found with no step into the recursion.
-fn field_typed(
-    leads: &[u8; 256],
-    file: &[u8],
-    types: &[u8; TABLE_SIZE],
-    at: usize,
-    row: usize,
-) -> usize
+fn field_typed(file: &[u8], types: &[u8; TABLE_SIZE], at: usize, row: usize) -> usize
     requires { types.now ≡ type_table }
-    ensures { ValueSays leads.now file.now (row_test row (rows_from (type_of type_depth) field_count first_field)) at result }
+    ensures { ValueSays file.now (row_test row (rows_from (type_of type_depth) field_count first_field)) at result }
 {
     if row < FIELD_COUNT {
         let code = cell(types, (FIRST_FIELD + row) * ROW_SIZE + ROWS_AT + 2);
         if code < PLAIN_TYPES {
-            return plain_at(leads, file, at, code + 1);
+            return plain_at(file, at, code + 1);
         }
     }
-    row_typed(
-        leads,
-        file,
-        types,
-        at,
-        FIRST_FIELD,
-        FIELD_COUNT,
-        row,
-        TYPE_DEPTH,
-    )
+    row_typed(file, types, at, FIRST_FIELD, FIELD_COUNT, row, TYPE_DEPTH)
 }
 
 // The value at a place as that of one of the n rows from first on, or of none: where it ends, 0 if it has not its type.
 #[cycle(entries_typed_entry_typed_items_typed_row_typed_typed_at)]
 fn row_typed(
-    leads: &[u8; 256],
     file: &[u8],
     types: &[u8; TABLE_SIZE],
     at: usize,
@@ -301,27 +274,20 @@ fn row_typed(
     depth: usize,
 ) -> usize
     requires { (types.now ≡ type_table) × ((first < 256) × (n < 64)) }
-    ensures { ValueSays leads.now file.now (row_test row (rows_from (type_of depth) n first)) at result }
+    ensures { ValueSays file.now (row_test row (rows_from (type_of depth) n first)) at result }
 {
     if row < n {
         let code = cell(types, (first + row) * ROW_SIZE + ROWS_AT + 2);
-        return typed_at(leads, file, types, at, code, depth);
+        return typed_at(file, types, at, code, depth);
     }
-    values::skip(leads, file, at)
+    values::skip(file, at)
 }
 
 // The value at a place by a type of at most so many levels.
 #[cycle(entries_typed_entry_typed_items_typed_row_typed_typed_at)]
-fn typed_at(
-    leads: &[u8; 256],
-    file: &[u8],
-    types: &[u8; TABLE_SIZE],
-    at: usize,
-    code: usize,
-    depth: usize,
-) -> usize
+fn typed_at(file: &[u8], types: &[u8; TABLE_SIZE], at: usize, code: usize, depth: usize) -> usize
     requires { types.now ≡ type_table }
-    ensures { ValueSays leads.now file.now (typed (type_of depth code)) at result }
+    ensures { ValueSays file.now (typed (type_of depth code)) at result }
 {
     if depth == 0 {
         return 0;
@@ -333,28 +299,27 @@ fn typed_at(
     let many = cell(types, code * 3 + 1) % 64;
     let inside = cell(types, code * 3 + 2);
     if tag < 3 {
-        return simple_at(leads, file, at, tag, many, inside);
+        return simple_at(file, at, tag, many, inside);
     }
-    let Head::At(n, p) = heads::head_at(leads, file, at) else {
+    let Some(head) = heads::head_at(file, at) else {
         return 0;
     };
-    let kind = head_kind(heads::kind_at(leads, file, at));
+    let kind = head_kind(heads::kind_at(file, at));
     if tag == 3 {
         if kind != ARRAY {
             return 0;
         }
-        return items_typed(leads, file, types, n, p, inside, depth - 1);
+        return items_typed(file, types, head.number, head.end, inside, depth - 1);
     }
     if kind != MAP {
         return 0;
     }
-    entries_typed(leads, file, types, n, p, inside, many, depth - 1)
+    entries_typed(file, types, head.number, head.end, inside, many, depth - 1)
 }
 
 // The count values of an array from a place on, each by a type.
 #[cycle(entries_typed_entry_typed_items_typed_row_typed_typed_at)]
 fn items_typed(
-    leads: &[u8; 256],
     file: &[u8],
     types: &[u8; TABLE_SIZE],
     count: usize,
@@ -363,17 +328,15 @@ fn items_typed(
     depth: usize,
 ) -> usize
     requires { types.now ≡ type_table }
-    ensures { ItemsSay leads.now file.now (typed (type_of depth code)) count at result }
+    ensures { ItemsSay file.now (typed (type_of depth code)) count at result }
 {
-    let mut left = count;
     let mut p = at;
-    while 0 < left {
-        let e = typed_at(leads, file, types, p, code, depth);
+    for _ in 0..count {
+        let e = typed_at(file, types, p, code, depth);
         if e == 0 {
             return 0;
         }
         p = e;
-        left -= 1;
     }
     p
 }
@@ -381,7 +344,6 @@ fn items_typed(
 // The count entries of a map from a place on by the n rows from first on.
 #[cycle(entries_typed_entry_typed_items_typed_row_typed_typed_at)]
 fn entries_typed(
-    leads: &[u8; 256],
     file: &[u8],
     types: &[u8; TABLE_SIZE],
     count: usize,
@@ -391,34 +353,31 @@ fn entries_typed(
     depth: usize,
 ) -> usize
     requires { (types.now ≡ type_table) × ((first < 256) × ((n < 64) × ((distinct_names (rows_from (type_of depth) n first) ≡ true) × (hinted n first ≡ true)))) }
-    ensures { EntriesSay leads.now file.now (rows_from (type_of depth) n first) 0 count at result }
+    ensures { EntriesSay file.now (rows_from (type_of depth) n first) 0 count at result }
 {
     let mut seen: u64 = 0;
-    let mut left = count;
     let mut p = at;
-    while 0 < left {
-        let key = values::key_at(leads, file, p);
-        let a = key.at;
-        let m = key.count;
-        let row = row_of(types, file, a, m, first, n);
-        let e = entry_typed(leads, file, types, a + m, first, n, row, depth);
+    for _ in 0..count {
+        let key = values::key_at(file, p);
+        let row = row_of(types, file, key.at, key.count, first, n);
+        let value = key.at + key.count;
+        let e = entry_typed(file, types, value, first, n, row, depth);
         if e == 0 {
             return 0;
         }
         seen = mark(n, seen, row);
         p = e;
-        left -= 1;
     }
     if all_seen(types, seen, first, n) {
-        return p;
+        p
+    } else {
+        0
     }
-    0
 }
 
 // The value at a place as `row_typed` has it: the commonest, short strings and lists, are found with no step into the recursion.
 #[cycle(entries_typed_entry_typed_items_typed_row_typed_typed_at)]
 fn entry_typed(
-    leads: &[u8; 256],
     file: &[u8],
     types: &[u8; TABLE_SIZE],
     at: usize,
@@ -428,13 +387,13 @@ fn entry_typed(
     depth: usize,
 ) -> usize
     requires { (types.now ≡ type_table) × ((first < 256) × (n < 64)) }
-    ensures { ValueSays leads.now file.now (row_test row (rows_from (type_of depth) n first)) at result }
+    ensures { ValueSays file.now (row_test row (rows_from (type_of depth) n first)) at result }
 {
     let end = quick_row(file, types, at, first, n, row, depth);
     if 0 < end {
         return end;
     }
-    row_typed(leads, file, types, at, first, n, row, depth)
+    row_typed(file, types, at, first, n, row, depth)
 }
 
 // Where a short string or a short array of integers at a place ends, if that is the type of a row; else 0.
@@ -448,7 +407,7 @@ fn quick_row(
     depth: usize,
 ) -> usize
     requires { (types.now ≡ type_table) × ((first < 256) × (n < 64)) }
-    ensures { 0 < result → (leads : List ℕ) → ValueSays leads file.now (row_test row (rows_from (type_of depth) n first)) at result }
+    ensures { 0 < result → ValueSays file.now (row_test row (rows_from (type_of depth) n first)) at result }
 {
     if depth == 0 {
         return 0;
@@ -468,12 +427,12 @@ fn quick_row(
 
 // Where an array of integers in their lead bytes ends, if its own lead byte has its count; of another value 0.
 fn quick_integers(file: &[u8], at: usize) -> usize
-    ensures { 0 < result → (leads : List ℕ) → ValueSays leads file.now (typed (array_of (plain 1))) at result }
+    ensures { 0 < result → ValueSays file.now (typed (array_of (plain 1))) at result }
 {
     if file.len() <= at {
         return 0;
     }
-    let b = numbers::u8_to_usize(file[at]);
+    let b = usize::from(file[at]);
     if b < 0x90 {
         return 0;
     }
@@ -488,64 +447,53 @@ fn quick_integers(file: &[u8], at: usize) -> usize
 }
 
 // The value at a place by a type with no types inside: a value of a kind, or an array of those, or of exactly so many.
-fn simple_at(
-    leads: &[u8; 256],
-    file: &[u8],
-    at: usize,
-    tag: usize,
-    many: usize,
-    wanted: usize,
-) -> usize
+fn simple_at(file: &[u8], at: usize, tag: usize, many: usize, wanted: usize) -> usize
     requires { (tag < 3) × (wanted ≤ 4) }
-    ensures { (f : ℕ → FieldType) → ValueSays leads.now file.now (typed (build f tag many wanted)) at result }
+    ensures { (f : ℕ → FieldType) → ValueSays file.now (typed (build f tag many wanted)) at result }
 {
     if tag == 0 {
-        return plain_at(leads, file, at, wanted);
+        return plain_at(file, at, wanted);
     }
-    let Head::At(n, p) = heads::head_at(leads, file, at) else {
+    let Some(head) = heads::head_at(file, at) else {
         return 0;
     };
-    let kind = head_kind(heads::kind_at(leads, file, at));
+    let kind = head_kind(heads::kind_at(file, at));
     if kind != ARRAY {
         return 0;
     }
     if tag == 1 {
-        return plain_items(leads, file, n, p, wanted);
+        return plain_items(file, head.number, head.end, wanted);
     }
-    if n != many {
+    if head.number != many {
         return 0;
     }
-    plain_items(leads, file, n, p, wanted)
+    plain_items(file, head.number, head.end, wanted)
 }
 
 // The count values of an array from a place on, each of a kind: integers in their lead bytes all at once.
-fn plain_items(leads: &[u8; 256], file: &[u8], count: usize, at: usize, wanted: usize) -> usize
+fn plain_items(file: &[u8], count: usize, at: usize, wanted: usize) -> usize
     requires { wanted ≤ 4 }
-    ensures { ItemsSay leads.now file.now (typed (plain wanted)) count at result }
+    ensures { ItemsSay file.now (typed (plain wanted)) count at result }
 {
-    if wanted == INTEGER {
-        if values::all_low(file, at, count) {
-            return at + count;
-        }
+    if wanted == INTEGER && values::all_low(file, at, count) {
+        return at + count;
     }
-    plain_each(leads, file, count, at, wanted)
+    plain_each(file, count, at, wanted)
 }
 
 // The count values of an array from a place on, each of a kind, one after another.
-fn plain_each(leads: &[u8; 256], file: &[u8], count: usize, at: usize, wanted: usize) -> usize
+fn plain_each(file: &[u8], count: usize, at: usize, wanted: usize) -> usize
     requires { wanted ≤ 4 }
-    ensures { ItemsSay leads.now file.now (typed (plain wanted)) count at result }
+    ensures { ItemsSay file.now (typed (plain wanted)) count at result }
 {
     let first = quick_items(file, count, at, wanted);
-    let mut left = first.left;
     let mut p = first.at;
-    while 0 < left {
-        let e = plain_at(leads, file, p, wanted);
+    for _ in 0..first.left {
+        let e = plain_at(file, p, wanted);
         if e == 0 {
             return 0;
         }
         p = e;
-        left -= 1;
     }
     p
 }
@@ -560,49 +508,47 @@ fn quick_items(file: &[u8], count: usize, at: usize, wanted: usize) -> Run
     if wanted == FLOAT {
         return quick_run(file, count, at, FLOAT);
     }
-    Run {
-        at: at,
-        left: count,
-    }
+    Run { at, left: count }
 }
 
 // Past the first of count values from a place on that are quickly found to be of a kind.
 fn quick_run(file: &[u8], count: usize, at: usize, wanted: usize) -> Run
     ensures { RunSays file.now (typed (plain wanted)) count at result.left result.at }
 {
-    let mut left = count;
     let mut p = at;
-    while 0 < left {
+    for i in 0..count {
         let e = quick_end(file, p, wanted);
         if e == 0 {
-            return Run { at: p, left: left };
+            return Run {
+                at: p,
+                left: count - i,
+            };
         }
         p = e;
-        left -= 1;
     }
-    Run { at: p, left: left }
+    Run { at: p, left: 0 }
 }
 
 // The value at a place, if it is of a kind.
-fn plain_at(leads: &[u8; 256], file: &[u8], at: usize, wanted: usize) -> usize
+fn plain_at(file: &[u8], at: usize, wanted: usize) -> usize
     requires { wanted ≤ 4 }
-    ensures { ValueSays leads.now file.now (typed (plain wanted)) at result }
+    ensures { ValueSays file.now (typed (plain wanted)) at result }
 {
     let end = quick_end(file, at, wanted);
     if 0 < end {
         return end;
     }
-    headed_at(leads, file, at, wanted)
+    headed_at(file, at, wanted)
 }
 
 // Where the commonest values end, an integer in its lead byte, a float and a short string, if they are wanted; else 0.
 fn quick_end(file: &[u8], at: usize, wanted: usize) -> usize
-    ensures { 0 < result → (leads : List ℕ) → ValueSays leads file.now (typed (plain wanted)) at result }
+    ensures { 0 < result → ValueSays file.now (typed (plain wanted)) at result }
 {
     if file.len() <= at {
         return 0;
     }
-    let b = numbers::u8_to_usize(file[at]);
+    let b = usize::from(file[at]);
     if wanted == INTEGER {
         if b < 0x80 {
             return at + 1;
@@ -631,7 +577,7 @@ fn quick_end(file: &[u8], at: usize, wanted: usize) -> usize
 // Where the float at a place ends; of another value 0.
 fn float_end(file: &[u8], at: usize) -> usize
     requires { at < length file.now }
-    ensures { 0 < result → (leads : List ℕ) → ValueSays leads file.now (typed (plain 2)) at result }
+    ensures { 0 < result → ValueSays file.now (typed (plain 2)) at result }
 {
     if file[at] != 0xca {
         return 0;
@@ -643,15 +589,15 @@ fn float_end(file: &[u8], at: usize) -> usize
 }
 
 // The value at a place, if it is of a kind, by its head.
-fn headed_at(leads: &[u8; 256], file: &[u8], at: usize, wanted: usize) -> usize
+fn headed_at(file: &[u8], at: usize, wanted: usize) -> usize
     requires { wanted ≤ 4 }
-    ensures { ValueSays leads.now file.now (typed (plain wanted)) at result }
+    ensures { ValueSays file.now (typed (plain wanted)) at result }
 {
-    let Head::At(n, p) = heads::head_at(leads, file, at) else {
+    let Some(head) = heads::head_at(file, at) else {
         return 0;
     };
-    let kind = head_kind(heads::kind_at(leads, file, at));
-    plain_end(file, kind, wanted, n, p)
+    let kind = head_kind(heads::kind_at(file, at));
+    plain_end(file, kind, wanted, head.number, head.end)
 }
 
 // Where a value of a kind that holds no others ends, if that kind is wanted: its head holds n and ends at p.
@@ -685,15 +631,13 @@ fn head_kind(kind: Kind) -> usize
     ensures { result ≡ head_kind kind }
 {
     match kind {
-        Kind::Unsigned => INTEGER,
-        Kind::Signed => INTEGER,
+        Kind::Unsigned | Kind::Signed => INTEGER,
         Kind::Float => FLOAT,
         Kind::Str => STRING,
         Kind::Bin => BINARY,
         Kind::Array => ARRAY,
         Kind::Map => MAP,
-        Kind::Outside => 0,
-        Kind::Missing => 0,
+        Kind::Outside | Kind::Missing => 0,
     }
 }
 
@@ -739,7 +683,7 @@ fn byte_of(file: &[u8], a: usize, m: usize, i: usize) -> usize
     ensures byte { result < 256 }
 {
     if i < m {
-        return numbers::u8_to_usize(file[a + i]);
+        return usize::from(file[a + i]);
     }
     0
 }
@@ -759,6 +703,7 @@ fn is_name(types: &[u8; TABLE_SIZE], file: &[u8], a: usize, m: usize, row: usize
 }
 
 // Are two strings of four bytes or more and of one length the same? Four bytes are compared at a time, and the last four may overlap others.
+// Byte by byte, as `==` does, was tried, and is slower (docs/PERFORMANCE.md, the verdict on small files). A `for` is no plainer: the step is four.
 fn same_words(x: &[u8], y: &[u8]) -> bool
     requires { (length x.now ≡ length y.now) × (4 ≤ length x.now) }
     ensures { result ≡ equal x.now y.now }
@@ -771,10 +716,7 @@ fn same_words(x: &[u8], y: &[u8]) -> bool
         }
         i += 4;
     }
-    if word(x, last) != word(y, last) {
-        return false;
-    }
-    true
+    word(x, last) == word(y, last)
 }
 
 // The number in the four bytes from a place on.
@@ -810,13 +752,11 @@ fn each_seen(types: &[u8; TABLE_SIZE], seen: u64, first: usize, n: usize) -> boo
     ensures { (f : ℕ → FieldType) → result ≡ covered (rows_from f n first) seen }
 {
     let mut rest = seen;
-    let mut i: usize = 0;
-    while i < n {
+    for i in 0..n {
         if lacks(cell(types, (first + i) * ROW_SIZE + ROWS_AT + 1), rest) {
             return false;
         }
         rest = rest / 2;
-        i += 1;
     }
     true
 }
@@ -825,10 +765,7 @@ fn each_seen(types: &[u8; TABLE_SIZE], seen: u64, first: usize, n: usize) -> boo
 fn lacks(need: usize, seen: u64) -> bool
     ensures { result ≡ lacking need seen }
 {
-    if need == 1 {
-        return seen % 2 != 1;
-    }
-    false
+    need == 1 && seen % 2 != 1
 }
 
 // A byte of the table; 0 past its end.
@@ -838,7 +775,7 @@ fn cell(types: &[u8; TABLE_SIZE], i: usize) -> usize
     ensures byte { result < 256 }
 {
     if i < TABLE_SIZE {
-        numbers::u8_to_usize(types[i])
+        usize::from(types[i])
     } else {
         0
     }

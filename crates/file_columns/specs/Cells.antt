@@ -1,5 +1,5 @@
 -- The cells of a column taken together: whether all pass a test, and sums over tables by them. No lemma stands here: the laws are in Laws/Cells.antt. Assumes nothing.
-use Rattle.std.specs.Prelude.{ℕ, ◌+◌, Bool, true, false, cond, ◌&&◌, List, [], ◌∷◌, length, ℤ, nat_le, slice_index, unsigned_abs}
+use Rattle.std.specs.Prelude.{ℕ, ◌+◌, Bool, false, cond, ◌&&◌, Option, Some, None, List, [], ◌∷◌, length, ℤ, nat_le, slice_index, unsigned_abs}
 use Rattle.numbers.specs.Ranges.{all_pass, all_below}
 use Rattle.columns.specs.Decode.{Decoding, refused, column}
 use Rattle.file_columns.specs.declared.whole.Sums.{Sums}
@@ -18,19 +18,15 @@ unfoldable pub total : List ℕ → List ℤ → ℕ
 total table [] = 0
 total table (x ∷ xs) = slice_index table (unsigned_abs x) + total table xs
 
--- the answer where there are no sums
-abbrev pub no_sums : Sums
-no_sums = record { inside = false; atoms = 0; bonds = 0 }
-
 -- the sums of two tables over cells that are all indices of the first n entries; else none
-abbrev pub sums_over : ℕ → List ℕ → List ℕ → List ℤ → Sums
-sums_over n atoms bonds xs = cond (all_below n xs) (record { inside = true; atoms = total atoms xs; bonds = total bonds xs }) no_sums
+abbrev pub sums_over : ℕ → List ℕ → List ℕ → List ℤ → Option Sums
+sums_over n atoms bonds xs = cond (all_below n xs) (Some (record { atoms = total atoms xs; bonds = total bonds xs })) None
 
 -- whether two tables have n entries each
 abbrev pub holds : ℕ → List ℕ → List ℕ → Bool
 holds n atoms bonds = nat_le n (length atoms) && nat_le n (length bonds)
 
 -- the sums over the cells of a column that decodes, where the tables have n entries; else none
-abbrev pub sums_of : ℕ → List ℕ → List ℕ → Decoding → Sums
-sums_of n atoms bonds (refused r) = no_sums
-sums_of n atoms bonds (column k m xs) = cond (holds n atoms bonds) (sums_over n atoms bonds xs) no_sums
+abbrev pub sums_of : ℕ → List ℕ → List ℕ → Decoding → Option Sums
+sums_of n atoms bonds (refused r) = None
+sums_of n atoms bonds (column k m xs) = cond (holds n atoms bonds) (sums_over n atoms bonds xs) None

@@ -1,13 +1,13 @@
 -- The columns among the named fields, in field order: of which kind each is, and what it has an entry for (paper 01, "Fields, in order" and
 -- rule 4 of "Counts that must agree"). No reader, no place and no lemma stands here. Assumes nothing.
-use Rattle.std.specs.Prelude.{◌≡◌, ℕ, Bool, true, false, cond, ◌&&◌, List, [], ◌∷◌, ℤ, ◌==◌}
+use Rattle.std.specs.Prelude.{◌≡◌, ℕ, Bool, true, ◌&&◌, List, [], ◌∷◌, ℤ, ◌==◌}
+use Rattle.std.specs.Prelude.{Option as Answer, Some, None}
 use Rattle.std.proofs.Math.Option.{Option, some, none as nothing}
 use Prim.Native.String as Text
 use Rattle.refusal.specs.Table.{accepted}
 use Rattle.refusal.specs.First.{or_else}
 use Rattle.messagepack.specs.Document.{Document, Entries}
 use Rattle.values.specs.Parts.{text_of}
-use Rattle.values.specs.declared.lists.Length.{Length}
 use Rattle.fields.specs.Fields.{field}
 use Rattle.columns.specs.declared.Kind.{Kind}
 use Rattle.columns.specs.declared.Kind.TheVariants.{Int8, Int32, Strings, Chars}
@@ -94,19 +94,19 @@ abbrev pub cells_in : Wanted → Option Document → Option (List ℤ)
 cells_in w nothing = nothing
 cells_in w (some x) = some (cells_of (decoded w x))
 
--- whether a column is there, and how many entries it has
+-- how many entries a column has, if it is there
 abbrev pub length_in : Decoding → ℕ
 length_in (refused r) = 0
 length_in (column k m xs) = length_of k xs
 
-abbrev pub column_length : Wanted → Option Document → Length
-column_length w nothing = record { there = false; count = 0 }
-column_length w (some x) = record { there = true; count = length_in (decoded w x) }
+abbrev pub column_length : Wanted → Option Document → Answer ℕ
+column_length w nothing = None
+column_length w (some x) = Some (length_in (decoded w x))
 
 -- a column's length, and what the column has one entry for
 pub record Measured : Type 0 where
   pub level : Level
-  pub entries : Length
+  pub entries : Answer ℕ
 
 -- the lengths of some columns of a file
 unfoldable pub lengths_in : List Column → Entries → List Measured
@@ -118,11 +118,12 @@ abbrev pub lengths_of : Entries → List Measured
 lengths_of es = lengths_in columns es
 
 -- has a column, if it is there, n entries?
-abbrev pub has_entries : ℕ → Length → Bool
-has_entries n l = cond l.there (l.count == n) true
+abbrev pub has_entries : ℕ → Answer ℕ → Bool
+has_entries n None = true
+has_entries n (Some l) = l == n
 
 -- has a column as many entries as there are atoms, groups or chains, by its level? Of bonds it may have any number.
-abbrev pub fits_level : Level → ℕ → ℕ → ℕ → Length → Bool
+abbrev pub fits_level : Level → ℕ → ℕ → ℕ → Answer ℕ → Bool
 fits_level atom atoms groups chains l = has_entries atoms l
 fits_level group atoms groups chains l = has_entries groups l
 fits_level chain atoms groups chains l = has_entries chains l

@@ -5,3 +5,4 @@ pub mod Cells
 pub mod Field
 pub mod Passing
 pub mod Around
+pub mod Exits

@@ -1,6 +1,7 @@
 -- What the functions inside this crate say of the places of a file's named fields, and the table of columns by numbers. No lemma stands here.
 -- Assumes nothing.
 use Rattle.std.specs.Prelude.{◌≡◌, ℕ, cond, List, map, ◌==◌, ◌≢◌, slice_index_or}
+use Rattle.std.specs.Prelude.{Option as Answer}
 use Rattle.std.proofs.Math.Option.{Option}
 use Rattle.messagepack.specs.Document.{Document, Entries}
 use Rattle.values.specs.Walked.{WalkedBy, WalkedPlace}
@@ -17,16 +18,16 @@ use Rattle.file_columns.specs.declared.whole.Sums.{Sums}
 use Rattle.file_columns.specs.Columns.{Column, Level, atom, group, chain, bond, columns, column_of, ColumnRight, AllRight, cells_in}
 
 -- a promise on a walked file by its entries, of which the named fields stand at their places
-abbrev pub WalkedFields : List ℕ → List ℕ → List ℕ → (Entries → Type 0) → Type 0
-WalkedFields leads file places P = WalkedBy leads (λ es. PlacesOf file es places) P
+abbrev pub WalkedFields : List ℕ → List ℕ → (Entries → Type 0) → Type 0
+WalkedFields file places P = WalkedBy (λ es. PlacesOf file es places) P
 
 -- a promise on a walked file of which the columns decode
-abbrev pub WalkedColumns : List ℕ → List ℕ → List ℕ → (Entries → Type 0) → Type 0
-WalkedColumns leads file places P = WalkedFields leads file places (λ es. AllRight columns es → P es)
+abbrev pub WalkedColumns : List ℕ → List ℕ → (Entries → Type 0) → Type 0
+WalkedColumns file places P = WalkedFields file places (λ es. AllRight columns es → P es)
 
 -- a promise on a walked file by the column of a kind at a place, which decodes if it is there
-abbrev pub WalkedColumn : List ℕ → List ℕ → ℕ → Wanted → (Option Document → Type 0) → Type 0
-WalkedColumn leads file at w P = WalkedPlace leads file at (λ o. ColumnRight w o → P o)
+abbrev pub WalkedColumn : List ℕ → ℕ → Wanted → (Option Document → Type 0) → Type 0
+WalkedColumn file at w P = WalkedPlace file at (λ o. ColumnRight w o → P o)
 
 -- how many columns are named
 abbrev pub column_count : ℕ
@@ -66,6 +67,6 @@ abbrev pub column_at : ℕ → Column
 column_at i = slice_index_or columns i (column_of "" Real bond)
 
 -- the sums of two tables over the cells of the int32 column at a place, where it is there and decodes, and the tables have an entry for each type
-abbrev pub TotalsIn : ℕ → ℕ → List ℕ → List ℕ → Option Document → Sums → Type 0
+abbrev pub TotalsIn : ℕ → ℕ → List ℕ → List ℕ → Option Document → Answer Sums → Type 0
 TotalsIn at types atoms bonds o r =
     (at ≢ 0) → ColumnRight (Only Int32) o → Hold types atoms bonds → r ≡ sums_over types atoms bonds (list_in (cells_in (Only Int32) o))

@@ -6,6 +6,7 @@
 pub mod whole;
 
 ghost use Rattle.std.specs.Prelude.{◌≡◌, ◌<◌, slice_index};
+ghost use Rattle.refusal.specs.Outcome.{number_of};
 ghost use Rattle.values.specs.Walked.{WalkedPlace};
 ghost use Rattle.numbers.specs.BigEndian.{unsigned_at};
 ghost use Rattle.numbers.specs.Ranges.{all_between};
@@ -15,9 +16,9 @@ ghost use Rattle.file_columns.specs.Columns.{columns_number, column_number, cell
 ghost use Rattle.file_columns.specs.Steps.{WalkedFields, WalkedColumns, WalkedColumn, TotalsIn, column_count};
 ghost use Rattle.file_columns.specs.Steps.{field_numbers, wanted_numbers, level_numbers, wanted_from, level_from};
 
-use crate::whole::{Checked, Sums};
+use crate::whole::Sums;
 use columns::{Kind, Wanted};
-use values::lists::Length;
+use refusal::Refusal;
 
 // How many columns are named.
 const COLUMN_COUNT: usize = 16;
@@ -48,142 +49,104 @@ const KINDS: [u8; COLUMN_COUNT] = [0, 0, 0, 4, 4, 5, 4, 2, 0, 4, 6, 0, 2, 6, 4, 
 // What each column has one entry for: 0 an atom, 1 a group, 2 a chain, 3 a bond.
 const LEVELS: [u8; COLUMN_COUNT] = [0, 0, 0, 1, 1, 2, 3, 3, 0, 0, 0, 0, 1, 1, 1, 2];
 
-// The refusal of the first column of a file that has one, 14 to 19, or 0.
-pub fn columns_refusal(leads: &[u8; 256], file: &[u8], places: &[usize; fields::FIELD_COUNT]) -> u8
-    ensures { WalkedFields leads.now file.now places.now (λ es. result ≡ columns_number es) }
+// The refusal of the first column of a file that has one, 14 to 19.
+pub fn columns_refusal(file: &[u8], places: &[usize; fields::FIELD_COUNT]) -> Result<(), Refusal>
+    ensures { WalkedFields file.now places.now (λ es. number_of result ≡ columns_number es) }
 {
-    let mut i: usize = 0;
-    while i < COLUMN_COUNT {
-        let number = refusal_at(leads, file, places[field_of(i)], kind_of(i));
-        if number != refusal::ACCEPTED {
-            return number;
-        }
-        i += 1;
+    for i in 0..COLUMN_COUNT {
+        refusal_at(file, places[field_of(i)], kind_of(i))?;
     }
-    refusal::ACCEPTED
+    Ok(())
 }
 
 // Whether each column of a file has one entry for each atom, group or chain.
 pub fn lengths_fit(
-    leads: &[u8; 256],
     file: &[u8],
     places: &[usize; fields::FIELD_COUNT],
     atoms: usize,
     groups: usize,
     chains: usize,
 ) -> bool
-    ensures { WalkedColumns leads.now file.now places.now (λ es. result ≡ lengths_fit (lengths_of es) atoms groups chains) }
+    ensures { WalkedColumns file.now places.now (λ es. result ≡ lengths_fit (lengths_of es) atoms groups chains) }
 {
-    let mut i: usize = 0;
-    while i < COLUMN_COUNT {
-        let list = length_at(leads, file, places[field_of(i)], kind_of(i));
+    for i in 0..COLUMN_COUNT {
+        let list = length_at(file, places[field_of(i)], kind_of(i));
         if !fits_level(list, level_of(i), atoms, groups, chains) {
             return false;
         }
-        i += 1;
     }
     true
 }
 
 // Whether a column has as many entries as there are atoms, groups or chains, by its level; of bonds it may have any number.
-fn fits_level(list: Length, level: usize, atoms: usize, groups: usize, chains: usize) -> bool
+fn fits_level(list: Option<usize>, level: usize, atoms: usize, groups: usize, chains: usize) -> bool
     ensures { result ≡ fits_level (level_from level) atoms groups chains list }
 {
-    if level == 0 {
-        return has_entries(list, atoms);
+    match level {
+        0 => has_entries(list, atoms),
+        1 => has_entries(list, groups),
+        2 => has_entries(list, chains),
+        _ => true,
     }
-    if level == 1 {
-        return has_entries(list, groups);
-    }
-    if level == 2 {
-        return has_entries(list, chains);
-    }
-    true
 }
 
 // Whether a column, if it is there, has so many entries.
-fn has_entries(list: Length, count: usize) -> bool
+fn has_entries(list: Option<usize>, count: usize) -> bool
     ensures { result ≡ has_entries count list }
 {
-    if list.there {
-        return list.count == count;
+    match list {
+        Some(n) => n == count,
+        None => true,
     }
-    true
 }
 
 // The length of the column at a place that decodes; a place 0 has none.
-pub fn length_at(leads: &[u8; 256], file: &[u8], at: usize, wanted: Wanted) -> Length
-    ensures { WalkedColumn leads.now file.now at wanted (λ o. result ≡ column_length wanted o) }
+pub fn length_at(file: &[u8], at: usize, wanted: Wanted) -> Option<usize>
+    ensures { WalkedColumn file.now at wanted (λ o. result ≡ column_length wanted o) }
 {
     if at == 0 {
-        return Length {
-            there: false,
-            count: 0,
-        };
+        return None;
     }
-    let part = values::text_at(leads, file, at);
-    let a = part.at;
-    Length {
-        there: true,
-        count: stated_length(&file[a..a + part.count]),
-    }
+    let part = values::text_at(file, at);
+    Some(stated_length(&file[part.at..part.at + part.count]))
 }
 
 // The length that a column's header states.
 fn stated_length(column: &[u8]) -> usize
     ensures { result ≡ unsigned_at 4 column.now 4 }
 {
-    numbers::u32_to_usize(numbers::read_u32(column, 4))
+    numbers::read_u32(column, 4) as usize
 }
 
-// The refusal of the column at a place, 14 to 19, or 0; a place 0 has none.
-fn refusal_at(leads: &[u8; 256], file: &[u8], at: usize, wanted: Wanted) -> u8
-    ensures { WalkedPlace leads.now file.now at (λ o. result ≡ column_number wanted o) }
+// The refusal of the column at a place, 14 to 19, where it has one; a place 0 has none.
+fn refusal_at(file: &[u8], at: usize, wanted: Wanted) -> Result<(), Refusal>
+    ensures { WalkedPlace file.now at (λ o. number_of result ≡ column_number wanted o) }
 {
     if at == 0 {
-        return refusal::ACCEPTED;
+        return Ok(());
     }
-    let part = values::text_at(leads, file, at);
-    let a = part.at;
-    match crate::whole::check(&file[a..a + part.count], wanted) {
-        Checked::Good(_, _) => refusal::ACCEPTED,
-        Checked::Refused(number) => number,
-    }
+    let part = values::text_at(file, at);
+    crate::whole::check(&file[part.at..part.at + part.count], wanted)?;
+    Ok(())
 }
 
 // Whether the cells of the column at a place, which decodes, lie between two numbers; a place 0 has none.
-pub fn all_between(
-    leads: &[u8; 256],
-    file: &[u8],
-    at: usize,
-    wanted: Wanted,
-    low: i32,
-    high: i32,
-) -> bool
-    ensures { WalkedColumn leads.now file.now at wanted (λ o. result ≡ all_between low high (list_in (cells_in wanted o))) }
+pub fn all_between(file: &[u8], at: usize, wanted: Wanted, low: i32, high: i32) -> bool
+    ensures { WalkedColumn file.now at wanted (λ o. result ≡ all_between low high (list_in (cells_in wanted o))) }
 {
     if at == 0 {
         return true;
     }
-    let part = values::text_at(leads, file, at);
-    let a = part.at;
-    crate::whole::all_between(&file[a..a + part.count], wanted, low, high)
+    let part = values::text_at(file, at);
+    crate::whole::all_between(&file[part.at..part.at + part.count], wanted, low, high)
 }
 
 // The sums of two tables over the cells of the int32 column at a place, where all are indices of the first `types` entries; else none.
-pub fn totals(
-    leads: &[u8; 256],
-    file: &[u8],
-    at: usize,
-    types: usize,
-    atoms: &[u32],
-    bonds: &[u32],
-) -> Sums
-    ensures { WalkedPlace leads.now file.now at (λ o. TotalsIn at types atoms.now bonds.now o result) }
+pub fn totals(file: &[u8], at: usize, types: usize, atoms: &[u32], bonds: &[u32]) -> Option<Sums>
+    ensures { WalkedPlace file.now at (λ o. TotalsIn at types atoms.now bonds.now o result) }
 {
-    let part = values::text_at(leads, file, at);
-    let a = part.at;
-    crate::whole::totals(&file[a..a + part.count], types, atoms, bonds)
+    let part = values::text_at(file, at);
+    crate::whole::totals(&file[part.at..part.at + part.count], types, atoms, bonds)
 }
 
 // The field of column i.
@@ -199,8 +162,7 @@ fn kind_of(i: usize) -> Wanted
     requires { i < column_count }
     ensures { result ≡ wanted_from (slice_index wanted_numbers i) }
 {
-    let kind = KINDS[i];
-    match kind {
+    match KINDS[i] {
         0 => Wanted::Real,
         2 => Wanted::Only(Kind::Int8),
         4 => Wanted::Only(Kind::Int32),
@@ -214,5 +176,5 @@ fn level_of(i: usize) -> usize
     requires { i < column_count }
     ensures { result ≡ slice_index level_numbers i }
 {
-    numbers::u8_to_usize(LEVELS[i])
+    usize::from(LEVELS[i])
 }

@@ -3,17 +3,19 @@
 ghost use Rattle.std.specs.Prelude.{◌≡◌, ℕ, ◌+◌, ◌-◌, ◌*◌, ◌<◌, ◌≤◌, true, false, ◌&&◌, replicate, nat_le};
 ghost use Rattle.std.specs.Int.{w32};
 ghost use Rattle.std.proofs.Common.{of_z};
+ghost use Rattle.refusal.specs.Outcome.{numbered};
 ghost use Rattle.numbers.specs.Ranges.{between, all_between};
 ghost use Rattle.steps.specs.Delta.{results_from, last_from};
 ghost use Rattle.steps.specs.Payload.{read_in, held_in};
 ghost use Rattle.columns.specs.Table.{elements, length_limit};
 ghost use Rattle.columns.specs.Decode.{decode};
 ghost use Rattle.file_columns.specs.Field.{other_size, other_names, field_column, checked_of};
-ghost use Rattle.file_columns.specs.Cells.{cells_pass, no_sums, sums_of};
+ghost use Rattle.file_columns.specs.Cells.{cells_pass, sums_of};
 ghost use Rattle.file_columns.specs.Passing.{held_pass, Reaches, ahead_of, held_sums, to_come, sums_in, Hold, Sound, Adds, AddsRun};
 
-use columns::{Codec, HEADER_SIZE, Header, Kind, Parameter, Wanted};
+use columns::{Codec, HEADER_SIZE, Kind, Parameter, Wanted};
 use payloads::Item;
+use refusal::Refusal;
 use steps::{Form, Size};
 
 // The most group types, and so the rows of a table over them.
@@ -22,26 +24,18 @@ pub const TYPE_LIMIT: usize = 4_096;
 // The bytes of a name in a named field.
 pub const FIELD_NAME_SIZE: u32 = 4;
 
-// The length and the parameter of a column that decodes, or its refusal.
+// The length and the parameter of a column that decodes.
 #[derive(Clone, Copy)]
-pub enum Checked {
-    Good(usize, u32),
-    Refused(u8),
+pub struct Checked {
+    pub length: usize,
+    pub parameter: u32,
 }
 
-// Whether all cells are indices, and the sums of two tables over them.
+// The sums of two tables over cells that are all indices of them.
 #[derive(Clone, Copy)]
 pub struct Sums {
-    pub inside: bool,
     pub atoms: u64,
     pub bonds: u64,
-}
-
-// The last of some results that all lie between two numbers; or one does not.
-#[derive(Clone, Copy)]
-enum Last {
-    Within(i32),
-    Outside,
 }
 
 // The cells to come, the sums over those before them, and the last of these.
@@ -53,30 +47,24 @@ struct Tally {
     last: i32,
 }
 
-// A tally with some results more; or one is no index, or they are too many.
-#[derive(Clone, Copy)]
-enum Step {
-    On(Tally),
-    Off,
-}
-
 // The length and the parameter of a column of a named field, where names have 4 bytes; or its refusal, 14 to 19.
-pub fn check(column: &[u8], wanted: Wanted) -> Checked
-    ensures { result ≡ checked_of (field_column wanted column.now) }
+pub fn check(column: &[u8], wanted: Wanted) -> Result<Checked, Refusal>
+    ensures { numbered result ≡ checked_of (field_column wanted column.now) }
 {
     if has_other_names(column, wanted) {
-        return Checked::Refused(refusal::HEADER_RANGE);
+        return Err(Refusal::HeaderRange);
     }
-    match columns::read_header(column, wanted) {
-        Header::Refused(r) => Checked::Refused(r),
-        Header::Good(n, m, _, form, _) => {
-            let number = payloads::refusal_of(&column[HEADER_SIZE..], form, m as usize, n);
-            if number != refusal::ACCEPTED {
-                return Checked::Refused(number);
-            }
-            Checked::Good(n, m)
-        }
-    }
+    let header = columns::read_header(column, wanted)?;
+    payloads::refusal_of(
+        &column[HEADER_SIZE..],
+        header.form,
+        header.parameter as usize,
+        header.length,
+    )?;
+    Ok(Checked {
+        length: header.length,
+        parameter: header.parameter,
+    })
 }
 
 // Whether a column of the kind that is wanted decodes, and all its cells lie between two numbers.
@@ -84,13 +72,13 @@ pub fn all_between(column: &[u8], wanted: Wanted, low: i32, high: i32) -> bool
     ensures { result ≡ cells_pass (between low high) (decode wanted column.now) }
 {
     match columns::read_header(column, wanted) {
-        Header::Refused(_) => false,
-        Header::Good(n, m, _, form, delta) => results_between(
+        Err(_) => false,
+        Ok(header) => results_between(
             &column[HEADER_SIZE..],
-            form,
-            m as usize,
-            delta,
-            n,
+            header.form,
+            header.parameter as usize,
+            header.delta,
+            header.length,
             low,
             high,
         ),
@@ -99,28 +87,29 @@ pub fn all_between(column: &[u8], wanted: Wanted, low: i32, high: i32) -> bool
 
 // The sums of the entries of two tables over the cells of an int32 column, where it decodes, the tables have `types` entries and all its cells
 // are indices of these; else none.
-pub fn totals(column: &[u8], types: usize, atoms: &[u32], bonds: &[u32]) -> Sums
+pub fn totals(column: &[u8], types: usize, atoms: &[u32], bonds: &[u32]) -> Option<Sums>
     ensures { result ≡ sums_of types atoms.now bonds.now (decode (Wanted.Only Kind.Int32) column.now) }
 {
     if !hold(types, atoms.len(), bonds.len()) {
-        return no_sums();
+        return None;
     }
-    match columns::read_header(column, Wanted::Only(Kind::Int32)) {
-        Header::Refused(_) => no_sums(),
-        Header::Good(n, _, _, form, delta) => {
-            sums_of(&column[HEADER_SIZE..], form, delta, n, types, atoms, bonds)
-        }
-    }
+    let header = columns::read_header(column, Wanted::Only(Kind::Int32)).ok()?;
+    sums_of(
+        &column[HEADER_SIZE..],
+        header.form,
+        header.delta,
+        header.length,
+        types,
+        atoms,
+        bonds,
+    )
 }
 
 // Whether two tables have so many entries.
 fn hold(types: usize, atoms: usize, bonds: usize) -> bool
     ensures { result ≡ (nat_le types atoms && nat_le types bonds) }
 {
-    if atoms < types {
-        return false;
-    }
-    types <= bonds
+    types <= atoms && types <= bonds
 }
 
 // Whether a column has names of another size than a named field has.
@@ -130,27 +119,22 @@ fn has_other_names(column: &[u8], wanted: Wanted) -> bool
     if column.len() < HEADER_SIZE {
         return false;
     }
-    let codec = numbers::read_u32(column, 0);
-    let parameter = numbers::read_u32(column, 8);
-    is_other_size(columns::codec_of(codec), parameter, wanted)
+    let codec = columns::codec_of(numbers::read_u32(column, 0));
+    is_other_size(codec, numbers::read_u32(column, 8), wanted)
 }
 
 // Whether a codec has names, and the parameter is another size than a named field has.
-fn is_other_size(codec: Codec, parameter: u32, wanted: Wanted) -> bool
+fn is_other_size(codec: Option<Codec>, parameter: u32, wanted: Wanted) -> bool
     ensures { result ≡ other_size wanted codec parameter }
 {
-    match codec {
-        Codec::Unknown => false,
-        Codec::Known(kind, _, _, p) => {
-            if !columns::is_wanted(wanted, kind) {
-                return false;
-            }
-            match p {
-                Parameter::NameSize => parameter != FIELD_NAME_SIZE,
-                _ => false,
-            }
+    let Some(codec) = codec else {
+        return false;
+    };
+    columns::is_wanted(wanted, codec.kind)
+        && match codec.parameter {
+            Parameter::NameSize => parameter != FIELD_NAME_SIZE,
+            _ => false,
         }
-    }
 }
 
 // Whether a payload holds n results that all lie between two numbers, by a loop of its form's own; names have `size` bytes each.
@@ -166,23 +150,12 @@ fn results_between(
     ensures { result ≡ held_pass (between low high) (elements form n size) delta (held_in form size payload.now) }
 {
     match form {
-        Form::Plain(width) => {
-            if delta {
-                return items_between(payload, Form::Plain(width), delta, n, low, high);
-            }
-            match width {
-                Size::One => plain_between(payload, Size::One, n, low, high),
-                Size::Two => plain_between(payload, Size::Two, n, low, high),
-                Size::Four => plain_between(payload, Size::Four, n, low, high),
-            }
-        }
-        Form::Packed(width) => match width {
-            Size::One => items_between(payload, Form::Packed(Size::One), delta, n, low, high),
-            Size::Two => items_between(payload, Form::Packed(Size::Two), delta, n, low, high),
-            Size::Four => items_between(payload, Form::Packed(Size::Four), delta, n, low, high),
-        },
-        Form::Runs(range) => items_between(payload, Form::Runs(range), delta, n, low, high),
+        // An arm for each size, so that the compiler makes a loop for each.
+        Form::Plain(Size::One) if !delta => plain_between(payload, Size::One, n, low, high),
+        Form::Plain(Size::Two) if !delta => plain_between(payload, Size::Two, n, low, high),
+        Form::Plain(Size::Four) if !delta => plain_between(payload, Size::Four, n, low, high),
         Form::Names => names_between(payload, size, delta, n, low, high),
+        _ => items_between(payload, form, delta, n, low, high),
     }
 }
 
@@ -193,9 +166,11 @@ fn plain_between(payload: &[u8], size: Size, n: usize, low: i32, high: i32) -> b
     let k = steps::bytes(size);
     let mut at: usize = 0;
     let mut fine = payload.len() / k == n;
+    // A `while`, since the place goes on by a number's size; the test has no way out of the loop, so that several numbers are tested at once.
     while k <= payload.len() - at {
         let number = steps::number_at(payload, at, size);
-        fine = numbers::both(fine, numbers::is_between(number, low, high));
+        let between = numbers::is_between(number, low, high);
+        fine = fine && between;
         at += k;
     }
     fine
@@ -205,10 +180,8 @@ fn plain_between(payload: &[u8], size: Size, n: usize, low: i32, high: i32) -> b
 fn names_between(payload: &[u8], size: usize, delta: bool, n: usize, low: i32, high: i32) -> bool
     ensures { result ≡ held_pass (between low high) (elements Form.Names n size) delta (held_in Form.Names size payload.now) }
 {
-    if payloads::refusal_of(payload, Form::Names, size, n) != refusal::ACCEPTED {
-        return false;
-    }
-    items_between(payload, Form::Names, delta, payload.len(), low, high)
+    payloads::refusal_of(payload, Form::Names, size, n).is_ok()
+        && items_between(payload, Form::Names, delta, payload.len(), low, high)
 }
 
 // Whether n results are read of a payload, item by item, that all lie between two numbers. `left` are still to come.
@@ -224,25 +197,21 @@ fn items_between(payload: &[u8], form: Form, delta: bool, n: usize, low: i32, hi
                 if left < count {
                     return false;
                 }
-                let Last::Within(x) = run_between(last, value, count, delta, low, high) else {
+                let Some(x) = run_between(last, value, count, delta, low, high) else {
                     return false;
                 };
                 last = x;
                 left -= count;
                 at = next;
             }
-            Item::Wrong => {
-                return false;
-            }
-            Item::End => {
-                return left == 0;
-            }
+            Item::Wrong => return false,
+            Item::End => return left == 0,
         }
     }
 }
 
 // Whether the results of a run lie between two numbers, where `sum` is the result before it.
-fn run_between(sum: i32, value: i32, count: usize, delta: bool, low: i32, high: i32) -> Last
+fn run_between(sum: i32, value: i32, count: usize, delta: bool, low: i32, high: i32) -> Option<i32>
     requires { 1 ≤ count }
     ensures { Reaches (between low high) (results_from delta sum (replicate count value)) (last_from delta sum (replicate count value)) result }
 {
@@ -253,28 +222,28 @@ fn run_between(sum: i32, value: i32, count: usize, delta: bool, low: i32, high: 
 }
 
 // Whether a result that stands there over and over lies between two numbers.
-fn same_between(res: i32, low: i32, high: i32) -> Last
+fn same_between(res: i32, low: i32, high: i32) -> Option<i32>
     ensures { (k : ℕ) → 1 ≤ k → Reaches (between low high) (replicate k res) res result }
 {
     if numbers::is_between(res, low, high) {
-        return Last::Within(res);
+        return Some(res);
     }
-    Last::Outside
+    None
 }
 
 // Whether the sums of a run lie between two numbers: the first and those that are left after it.
-fn sums_between(sum: i32, value: i32, count: usize, low: i32, high: i32) -> Last
+fn sums_between(sum: i32, value: i32, count: usize, low: i32, high: i32) -> Option<i32>
     requires { 1 ≤ count }
     ensures { Reaches (between low high) (results_from true sum (replicate count value)) (last_from true sum (replicate count value)) result }
 {
     let first = steps::add_delta(sum, value);
     if !numbers::is_between(first, low, high) {
-        return Last::Outside;
+        return None;
     }
     if !stays_between(first, value, count - 1, low, high) {
-        return Last::Outside;
+        return None;
     }
-    Last::Within(payloads::after_run(sum, value, count, true))
+    Some(payloads::after_run(sum, value, count, true))
 }
 
 // Whether `count` sums after one that lies between two numbers do too. A step, upwards or downwards, that is no longer than the way around
@@ -286,7 +255,7 @@ fn stays_between(sum: i32, value: i32, count: usize, low: i32, high: i32) -> boo
     let above = ahead(sum, high);
     let below = ahead(low, sum);
     let outside = 4294967295 - above - below;
-    let up = numbers::to_u32(value) as usize;
+    let up = value.cast_unsigned() as usize;
     let down = 4294967296 - up;
     if up <= outside {
         return has_room(count, up, above);
@@ -304,7 +273,7 @@ fn stays_between(sum: i32, value: i32, count: usize, low: i32, high: i32) -> boo
 fn ahead(from: i32, to: i32) -> usize
     ensures { result ≡ ahead_of from to }
 {
-    std::num::wrapping_sub_u32(numbers::to_u32(to), numbers::to_u32(from)) as usize
+    to.cast_unsigned().wrapping_sub(from.cast_unsigned()) as usize
 }
 
 // Whether there is room for so many steps.
@@ -312,13 +281,7 @@ fn has_room(count: usize, step: usize, room: usize) -> bool
     requires { (step ≤ 4294967296) × (room < 4294967296) }
     ensures { result ≡ nat_le (count * step) room }
 {
-    if step == 0 {
-        return true;
-    }
-    if room < count {
-        return false;
-    }
-    count * step <= room
+    step == 0 || count <= room && count * step <= room
 }
 
 // Whether sums by steps of 2^31, which are two numbers by turns, lie between two numbers, where the one before them does.
@@ -326,10 +289,7 @@ fn turns_between(sum: i32, value: i32, count: usize, low: i32, high: i32) -> boo
     requires { (of_z w32 value ≡ 2147483648) × (between low high sum ≡ true) }
     ensures { result ≡ all_between low high (results_from true sum (replicate count value)) }
 {
-    if count == 0 {
-        return true;
-    }
-    numbers::is_between(steps::add_delta(sum, value), low, high)
+    count == 0 || numbers::is_between(steps::add_delta(sum, value), low, high)
 }
 
 // Whether the sums of a run lie between two numbers, one after the other.
@@ -337,13 +297,11 @@ fn each_between(sum: i32, value: i32, count: usize, low: i32, high: i32) -> bool
     ensures { result ≡ all_between low high (results_from true sum (replicate count value)) }
 {
     let mut x = sum;
-    let mut left = count;
-    while 0 < left {
+    for _ in 0..count {
         x = steps::add_delta(x, value);
         if !numbers::is_between(x, low, high) {
             return false;
         }
-        left -= 1;
     }
     true
 }
@@ -361,28 +319,16 @@ fn to_come(n: usize) -> Tally
 }
 
 // The sums of a tally to which no cell is to come; none where one is.
-fn sums_in(tally: Tally) -> Sums
+fn sums_in(tally: Tally) -> Option<Sums>
     ensures { result ≡ sums_in tally }
 {
     if tally.left != 0 {
-        return no_sums();
+        return None;
     }
-    Sums {
-        inside: true,
+    Some(Sums {
         atoms: tally.atoms,
         bonds: tally.bonds,
-    }
-}
-
-// The answer where there are no sums.
-fn no_sums() -> Sums
-    ensures { result ≡ no_sums }
-{
-    Sums {
-        inside: false,
-        atoms: 0,
-        bonds: 0,
-    }
+    })
 }
 
 // The sums over the n results of a payload; plain numbers have a loop of their own.
@@ -394,19 +340,15 @@ fn sums_of(
     types: usize,
     atoms: &[u32],
     bonds: &[u32],
-) -> Sums
+) -> Option<Sums>
     requires { Hold types atoms.now bonds.now × (n ≤ length_limit) }
     ensures { result ≡ held_sums types atoms.now bonds.now n delta (read_in form payload.now) }
 {
-    if delta {
-        return sum_items(payload, form, delta, n, types, atoms, bonds);
-    }
     match form {
-        Form::Plain(size) => match size {
-            Size::One => sum_plain(payload, Size::One, n, types, atoms, bonds),
-            Size::Two => sum_plain(payload, Size::Two, n, types, atoms, bonds),
-            Size::Four => sum_plain(payload, Size::Four, n, types, atoms, bonds),
-        },
+        // An arm for each size, so that the compiler makes a loop for each.
+        Form::Plain(Size::One) if !delta => sum_plain(payload, Size::One, n, types, atoms, bonds),
+        Form::Plain(Size::Two) if !delta => sum_plain(payload, Size::Two, n, types, atoms, bonds),
+        Form::Plain(Size::Four) if !delta => sum_plain(payload, Size::Four, n, types, atoms, bonds),
         _ => sum_items(payload, form, delta, n, types, atoms, bonds),
     }
 }
@@ -419,19 +361,17 @@ fn sum_plain(
     types: usize,
     atoms: &[u32],
     bonds: &[u32],
-) -> Sums
+) -> Option<Sums>
     requires { Hold types atoms.now bonds.now × (n ≤ length_limit) }
     ensures { result ≡ held_sums types atoms.now bonds.now n false (read_in (Form.Plain size) payload.now) }
 {
     let k = steps::bytes(size);
     let mut at: usize = 0;
     let mut tally = to_come(n);
+    // A `while`, since the place goes on by a number's size.
     while k <= payload.len() - at {
         let number = steps::number_at(payload, at, size);
-        let Step::On(t) = add_cells(tally, number, 1, types, atoms, bonds) else {
-            return no_sums();
-        };
-        tally = t;
+        tally = add_cells(tally, number, 1, types, atoms, bonds)?;
         at += k;
     }
     sums_in(tally)
@@ -446,7 +386,7 @@ fn sum_items(
     types: usize,
     atoms: &[u32],
     bonds: &[u32],
-) -> Sums
+) -> Option<Sums>
     requires { Hold types atoms.now bonds.now × (n ≤ length_limit) }
     ensures { result ≡ held_sums types atoms.now bonds.now n delta (read_in form payload.now) }
 {
@@ -455,18 +395,11 @@ fn sum_items(
     loop {
         match payloads::item_at(payload, at, form) {
             Item::Run(value, count, next) => {
-                let Step::On(t) = add_run(tally, value, count, delta, types, atoms, bonds) else {
-                    return no_sums();
-                };
-                tally = t;
+                tally = add_run(tally, value, count, delta, types, atoms, bonds)?;
                 at = next;
             }
-            Item::Wrong => {
-                return no_sums();
-            }
-            Item::End => {
-                return sums_in(tally);
-            }
+            Item::Wrong => return None,
+            Item::End => return sums_in(tally),
         }
     }
 }
@@ -480,7 +413,7 @@ fn add_run(
     types: usize,
     atoms: &[u32],
     bonds: &[u32],
-) -> Step
+) -> Option<Tally>
     requires { (1 ≤ count) × Hold types atoms.now bonds.now × Sound tally }
     ensures { AddsRun types atoms.now bonds.now tally delta value count result }
 {
@@ -502,21 +435,16 @@ fn add_sums(
     types: usize,
     atoms: &[u32],
     bonds: &[u32],
-) -> Step
+) -> Option<Tally>
     requires { Hold types atoms.now bonds.now × Sound tally }
     ensures { AddsRun types atoms.now bonds.now tally true value count result }
 {
     let mut t = tally;
-    let mut left = count;
-    while 0 < left {
+    for _ in 0..count {
         let x = steps::add_delta(t.last, value);
-        let Step::On(u) = add_cells(t, x, 1, types, atoms, bonds) else {
-            return Step::Off;
-        };
-        t = u;
-        left -= 1;
+        t = add_cells(t, x, 1, types, atoms, bonds)?;
     }
-    Step::On(t)
+    Some(t)
 }
 
 // The tally with a cell more, so many times.
@@ -527,21 +455,18 @@ fn add_cells(
     types: usize,
     atoms: &[u32],
     bonds: &[u32],
-) -> Step
+) -> Option<Tally>
     requires { (1 ≤ count) × Hold types atoms.now bonds.now × Sound tally }
     ensures { Adds types atoms.now bonds.now tally (replicate count cell) cell result }
 {
     if cell < 0 {
-        return Step::Off;
+        return None;
     }
-    let i = numbers::to_u32(cell) as usize;
-    if types <= i {
-        return Step::Off;
+    let i = cell.cast_unsigned() as usize;
+    if types <= i || tally.left < count {
+        return None;
     }
-    if tally.left < count {
-        return Step::Off;
-    }
-    Step::On(Tally {
+    Some(Tally {
         left: tally.left - count,
         atoms: add_entry(tally.atoms, atoms[i], count, tally.left),
         bonds: add_entry(tally.bonds, bonds[i], count, tally.left),
@@ -554,5 +479,5 @@ fn add_entry(sum: u64, entry: u32, count: usize, left: usize) -> u64
     requires { (count ≤ left) × (sum + left * 4294967295 ≤ length_limit * 4294967295) }
     ensures { (result ≡ sum + entry * count) × (result + (left - count) * 4294967295 ≤ length_limit * 4294967295) }
 {
-    sum + (entry as u64) * (count as u64)
+    sum + u64::from(entry) * count as u64
 }

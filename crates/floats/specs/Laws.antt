@@ -2,3 +2,4 @@
 pub mod Table
 pub mod Quotient
 pub mod Calls
+pub mod Filled

@@ -1,5 +1,4 @@
--- The bits of a quotient, what a payload of real cells decodes to, and what may be divided: for the code inside. No lemma stands here.
--- Assumes nothing.
+-- The bits of a quotient, and what may be divided: for the code inside. No lemma stands here. Assumes nothing.
 use Rattle.std.specs.Prelude.{Bool, true, false, not, List, ℕ, ◌≤◌, ℤ, T, Float}
 use Rattle.std.specs.Float.{binary32}
 use Rattle.std.specs.Float.Ieee.{of_int, div, to_bits}
@@ -7,22 +6,11 @@ use Rattle.std.specs.Float.Ieee.Positive.{positive}
 use Rattle.steps.specs.declared.Size.TheVariants.{One, Two, Four}
 use Rattle.steps.specs.declared.Form.{Form}
 use Rattle.steps.specs.declared.Form.TheVariants.{Plain, Packed, Runs, Names}
-use Rattle.columns.specs.declared.Kind.TheVariants as kind
-use Rattle.columns.specs.declared.Header.TheVariants.{Good}
-use Rattle.columns.specs.Decode.{Decoding, judged_payload}
 use Rattle.payloads.specs.Results.{HasRoom, HasResults, ResultsExact}
-use Rattle.floats.specs.Calls.{exactly}
 
 -- the bits of a number by a divisor that is a float already
 abbrev pub bits_by : Float → ℤ → ℕ
 bits_by d x = to_bits binary32 (div binary32 (of_int binary32 x) d)
-
--- what a payload of codec 1 decodes to, and one of codecs 9 to 13
-abbrev pub kept_payload : ℕ → ℕ → List ℕ → Decoding
-kept_payload n m s = exactly (judged_payload (Good n m kind.Float32 (Plain Four) false) s)
-
-abbrev pub quotient_payload : ℕ → ℕ → Form → Bool → List ℕ → Decoding
-quotient_payload n m f d s = exactly (judged_payload (Good n m kind.FixedPoint f d) s)
 
 -- the forms that quotients are written of, those of codecs 9 to 13 among them
 abbrev pub is_divided : Form → Bool → Bool

@@ -3,32 +3,30 @@
 // beyond is unchanged; on refusal nothing has changed.
 #![tactic(auto)]
 
-ghost use Rattle.std.specs.Prelude.{◌≡◌, true, false, ◌&&◌, ◌+◌, ◌≤◌, length, pos, T};
+ghost use Rattle.std.specs.Prelude.{◌≡◌, Ok, true, false, ◌&&◌, ◌+◌, ◌≤◌, length, pos, T};
 ghost use Rattle.std.specs.Float.Ieee.Positive.{positive};
-ghost use Rattle.columns.specs.Decode.{decode};
+ghost use Rattle.refusal.specs.Outcome.{numbered};
+ghost use Rattle.columns.specs.Decode.{decode, judged_payload};
 ghost use Rattle.payloads.specs.Limits.{packed_size};
 ghost use Rattle.payloads.specs.Results.{HasResults, Covered, Wrote};
 ghost use Rattle.payloads.specs.Exact.{exact};
 ghost use Rattle.columns.specs.Buffer.{decoded_answer, decoded_buffer};
 ghost use Rattle.floats.specs.Calls.{kept, exactly, float_bits};
-ghost use Rattle.floats.specs.Steps.{bits_by, kept_payload, quotient_payload, is_divided, Divisible, DivisibleAlone};
+ghost use Rattle.floats.specs.Steps.{bits_by, is_divided, Divisible, DivisibleAlone};
 
 use columns::{HEADER_SIZE, Header, Kind, Wanted};
-use payloads::Outcome;
-use refusal::Answer;
+use refusal::Refusal;
 use steps::{Form, Range, Size};
 
 // The floats of a real column (codecs 1, 9 to 13), as their bits.
-pub fn decode_float32(column: &[u8], buffer: &mut [u32]) -> Answer
-    ensures answer { result ≡ decoded_answer (exactly (decode Wanted.Real column.now)) (length buffer.old) }
+pub fn decode_float32(column: &[u8], buffer: &mut [u32]) -> Result<usize, Refusal>
+    ensures answer { numbered result ≡ decoded_answer (exactly (decode Wanted.Real column.now)) (length buffer.old) }
     ensures buffer { buffer.new ≡ decoded_buffer float_bits (exactly (decode Wanted.Real column.now)) buffer.old }
 {
-    match columns::read_header(column, Wanted::Real) {
-        Header::Refused(r) => Answer::Refused(r),
-        Header::Good(n, m, kind, form, delta) => match kind {
-            Kind::FixedPoint => quotients_in(&column[HEADER_SIZE..], n, m, form, delta, buffer),
-            _ => kept_in(&column[HEADER_SIZE..], n, m, buffer),
-        },
+    let header = columns::read_header(column, Wanted::Real)?;
+    match header.kind {
+        Kind::FixedPoint => quotients_in(&column[HEADER_SIZE..], header, buffer),
+        _ => kept_in(&column[HEADER_SIZE..], header, buffer),
     }
 }
 
@@ -36,30 +34,26 @@ pub fn decode_float32(column: &[u8], buffer: &mut [u32]) -> Answer
 pub fn are_exact(cells: bool, divisor: u32) -> bool
     ensures { result ≡ (cells && exact (pos divisor)) }
 {
-    if cells {
-        return divisor <= (payloads::EXACT_LIMIT as u32);
-    }
-    false
+    cells && divisor <= payloads::EXACT_LIMIT as u32
 }
 
 // The floats of a payload of codec 1 whose header passed.
-fn kept_in(payload: &[u8], n: usize, m: u32, buffer: &mut [u32]) -> Answer
-    ensures answer { result ≡ decoded_answer (kept_payload n m payload.now) (length buffer.old) }
-    ensures buffer { buffer.new ≡ decoded_buffer float_bits (kept_payload n m payload.now) buffer.old }
+fn kept_in(payload: &[u8], header: Header, buffer: &mut [u32]) -> Result<usize, Refusal>
+    requires { (header.kind ≡ Kind.Float32) × (header.form ≡ Form.Plain Size.Four) × (header.delta ≡ false) }
+    ensures answer { numbered result ≡ decoded_answer (exactly (judged_payload (Ok header) payload.now)) (length buffer.old) }
+    ensures buffer { buffer.new ≡ decoded_buffer float_bits (exactly (judged_payload (Ok header) payload.now)) buffer.old }
 {
-    let refused = payloads::refusal_of(payload, Form::Plain(Size::Four), m as usize, n);
-    if refused != refusal::ACCEPTED {
-        return Answer::Refused(refused);
-    }
+    let n = header.length;
+    payloads::refusal_of(payload, header.form, header.parameter as usize, n)?;
     if buffer.len() < n {
-        return Answer::Refused(refusal::BUFFER_TOO_SMALL);
+        return Err(Refusal::BufferTooSmall);
     }
     write_kept(payload, n, buffer);
-    Answer::Count(n)
+    Ok(n)
 }
 
 // Writes the 32 bits of n numbers. Each is read from the part of the payload that it fills, so that no test of room is left, and the
-// processor does several at once.
+// processor does several at once. The loop counts by hand: it is in this form that its speed is measured.
 fn write_kept(payload: &[u8], n: usize, buffer: &mut [u32])
     requires { HasResults (Form.Plain Size.Four) payload.now n × (n ≤ length buffer.old) }
     ensures { Wrote kept (Form.Plain Size.Four) false payload.now buffer.old buffer.new }
@@ -73,32 +67,29 @@ fn write_kept(payload: &[u8], n: usize, buffer: &mut [u32])
 }
 
 // The floats of a payload of codecs 9 to 13 whose header passed.
-fn quotients_in(
-    payload: &[u8],
-    n: usize,
-    m: u32,
-    form: Form,
-    delta: bool,
-    buffer: &mut [u32],
-) -> Answer
-    requires { (is_divided form delta ≡ true) × (1 ≤ m) }
-    ensures answer { result ≡ decoded_answer (quotient_payload n m form delta payload.now) (length buffer.old) }
-    ensures buffer { buffer.new ≡ decoded_buffer float_bits (quotient_payload n m form delta payload.now) buffer.old }
+fn quotients_in(payload: &[u8], header: Header, buffer: &mut [u32]) -> Result<usize, Refusal>
+    requires { (header.kind ≡ Kind.FixedPoint) × (is_divided header.form header.delta ≡ true) × (1 ≤ header.parameter) }
+    ensures answer { numbered result ≡ decoded_answer (exactly (judged_payload (Ok header) payload.now)) (length buffer.old) }
+    ensures buffer { buffer.new ≡ decoded_buffer float_bits (exactly (judged_payload (Ok header) payload.now)) buffer.old }
 {
-    match payloads::scan(payload, form, m as usize, delta, n) {
-        Outcome::Refused(r) => Answer::Refused(r),
-        Outcome::Fine(exact) => {
-            let fine = are_exact(exact, m);
-            if !fine {
-                return Answer::Refused(refusal::NOT_EXACT);
-            }
-            if buffer.len() < n {
-                return Answer::Refused(refusal::BUFFER_TOO_SMALL);
-            }
-            put_quotients(payload, form, delta, m as f32, n, buffer);
-            Answer::Count(n)
-        }
+    let n = header.length;
+    let divisor = header.parameter;
+    let exact = payloads::scan(payload, header.form, divisor as usize, header.delta, n)?;
+    if !are_exact(exact, divisor) {
+        return Err(Refusal::NotExact);
     }
+    if buffer.len() < n {
+        return Err(Refusal::BufferTooSmall);
+    }
+    put_quotients(
+        payload,
+        header.form,
+        header.delta,
+        divisor as f32,
+        n,
+        buffer,
+    );
+    Ok(n)
 }
 
 // Writes the quotients of a payload, by a loop of its form's own.
@@ -116,13 +107,11 @@ fn put_quotients(
 {
     match form {
         Form::Plain(size) => put_plain(payload, size, divisor, n, buffer),
-        Form::Packed(size) => match size {
-            Size::One => write_packed(payload, false, delta, divisor, buffer),
-            Size::Two => write_packed(payload, true, delta, divisor, buffer),
-            Size::Four => {}
-        },
+        Form::Packed(Size::One) => write_packed(payload, false, delta, divisor, buffer),
+        Form::Packed(Size::Two) => write_packed(payload, true, delta, divisor, buffer),
         Form::Runs(range) => write_runs(payload, range, divisor, n, buffer),
-        Form::Names => {}
+        // Only columns of numbers have these, and none is divided.
+        Form::Packed(Size::Four) | Form::Names => {}
     }
 }
 
@@ -138,7 +127,8 @@ fn put_plain(payload: &[u8], size: Size, divisor: f32, n: usize, buffer: &mut [u
     }
 }
 
-// Writes the quotients of n plain numbers, each read from the part of the payload that it fills.
+// Writes the quotients of n plain numbers, each read from the part of the payload that it fills. The loop counts by hand: it is in this form
+// that its speed is measured.
 fn write_plain(payload: &[u8], size: Size, divisor: f32, n: usize, buffer: &mut [u32])
     requires { DivisibleAlone (Form.Plain size) payload.now n (length buffer.old) divisor }
     ensures { Wrote (bits_by divisor) (Form.Plain size) false payload.now buffer.old buffer.new }
@@ -186,7 +176,7 @@ fn write_runs(payload: &[u8], range: Range, divisor: f32, n: usize, buffer: &mut
     while 8 <= payload.len() - at {
         let run = &payload[at..];
         let bits = quotient_bits(numbers::read_i32(run, 0), divisor);
-        let count = numbers::to_u32(numbers::read_i32(run, 4));
+        let count = numbers::read_u32(run, 4);
         at += 8;
         write_run(buffer, o, count, bits, n - o);
         o += count as usize;
@@ -194,34 +184,18 @@ fn write_runs(payload: &[u8], range: Range, divisor: f32, n: usize, buffer: &mut
 }
 
 // Writes a run of floats from a place on. A short one is written as four, where so many are left: the next run is written over them. The
-// first test is of the 32 bits that were read, so that they are read at once.
+// first test is of the 32 bits that were read, so that they are read at once. `decoding` has the same for its own cells: as a public function
+// it would test once more that there is room, since every public call is total.
 fn write_run(buffer: &mut [u32], from: usize, count: u32, bits: u32, left: usize)
     requires { (count ≤ left) × (from + left ≤ length buffer.old) }
     ensures { Covered bits buffer.old from count left buffer.new }
 {
     if 4 < count {
-        fill_bits(buffer, from, count as usize, bits);
-        return;
-    }
-    if payloads::is_short(count as usize, left) {
-        buffer[from] = bits;
-        buffer[from + 1] = bits;
-        buffer[from + 2] = bits;
-        buffer[from + 3] = bits;
-        return;
-    }
-    fill_bits(buffer, from, count as usize, bits);
-}
-
-// Writes the same float many times.
-fn fill_bits(buffer: &mut [u32], from: usize, count: usize, bits: u32)
-    requires { from + count ≤ length buffer.old }
-    ensures { Covered bits buffer.old from count count buffer.new }
-{
-    let mut n: usize = 0;
-    while n < count {
-        buffer[from + n] = bits;
-        n += 1;
+        buffer[from..from + count as usize].fill(bits);
+    } else if payloads::is_short(count as usize, left) {
+        buffer[from..from + 4].fill(bits);
+    } else {
+        buffer[from..from + count as usize].fill(bits);
     }
 }
 

@@ -1,6 +1,6 @@
 -- Heads: a lead byte and the bytes of its number. How one is written, and what stands at a place of a file.
 -- No lemma stands here. Assumes nothing.
-use Rattle.std.specs.Prelude.{◌≡◌, cond, List, ◌∷◌, ℕ, zero, suc, ◌+◌, ◌-◌, ◌^◌, ◌<◌, ltb, length, get_or, take, drop}
+use Rattle.std.specs.Prelude.{◌≡◌, cond, Option, Some, None, List, ◌∷◌, ℕ, zero, suc, ◌+◌, ◌-◌, ◌^◌, ◌<◌, ltb, length, get_or, take, drop}
 use Rattle.numbers.specs.BigEndian.{number_of, bytes_of}
 use Rattle.heads.specs.Lead.{kind_of, more_of, held_by}
 use Rattle.heads.specs.declared.Kind.{Kind}
@@ -28,10 +28,14 @@ abbrev pub head_number : List ℕ → ℕ → ℕ → ℕ → ℕ
 head_number s b zero p = held_by b
 head_number s b (suc k) p = number_of (take (suc k) (drop p s))
 
--- a head with k bytes after its lead byte b, from the place p after that
-abbrev pub head_from : List ℕ → ℕ → ℕ → ℕ → Head
-head_from s b k p = cond (ltb (length s - p) k) Head.Cut (Head.At (head_number s b k p) (p + k))
+-- a head by its number and the place after it
+abbrev pub some_head : ℕ → ℕ → Option Head
+some_head n p = Some (record { number = n; end = p })
 
--- the number of the head at a place, and the place after the head
-unfoldable pub head_at : List ℕ → ℕ → Head
-head_at s at = cond (ltb at (length s)) (head_from s (get_or s at 0) (more_of (get_or s at 0)) (at + 1)) Head.Cut
+-- a head with k bytes after its lead byte b, from the place p after that
+abbrev pub head_from : List ℕ → ℕ → ℕ → ℕ → Option Head
+head_from s b k p = cond (ltb (length s - p) k) None (some_head (head_number s b k p) (p + k))
+
+-- the head at a place; none where it is cut short
+unfoldable pub head_at : List ℕ → ℕ → Option Head
+head_at s at = cond (ltb at (length s)) (head_from s (get_or s at 0) (more_of (get_or s at 0)) (at + 1)) None

@@ -1,9 +1,10 @@
 -- The tables of lead bytes: the kinds, the head sizes, and both in one table, which the code lends down; and what a kind and a head are by any
 -- table that is lent. No lemma stands here; that by the table of lead bytes they are those of the lead-byte rule is in Laws/Table.antt. Assumes
 -- nothing.
-use Rattle.std.specs.Prelude.{cond, List, [], ◌∷◌, ℕ, zero, suc, ◌+◌, ◌-◌, ◌*◌, ◌/◌, ◌%◌, ltb, eqb, length, get_or}
+use Rattle.std.specs.Prelude.{cond, Option, None, List, [], ◌∷◌, ℕ, zero, suc, ◌+◌, ◌-◌, ◌*◌, ◌/◌, ◌%◌, ltb, eqb, length, get_or}
 use Rattle.numbers.specs.BigEndian.{unsigned_at}
 use Rattle.heads.specs.Lead.{kind_of, more_of, held_by}
+use Rattle.heads.specs.Head.{some_head}
 use Rattle.heads.specs.declared.Kind.{Kind}
 use Rattle.heads.specs.declared.Head.{Head}
 
@@ -56,9 +57,9 @@ sized_number s b at size =
     (cond (eqb size 2) (unsigned_at 1 s (at + 1)) (cond (eqb size 3) (unsigned_at 2 s (at + 1)) (unsigned_at 4 s (at + 1))))
 
 -- a head of some size, whose lead byte b is at a place
-abbrev pub sized_head : List ℕ → ℕ → ℕ → ℕ → Head
-sized_head s b at size = cond (ltb (length s - at) size) Head.Cut (Head.At (sized_number s b at size) (at + size))
+abbrev pub sized_head : List ℕ → ℕ → ℕ → ℕ → Option Head
+sized_head s b at size = cond (ltb (length s - at) size) None (some_head (sized_number s b at size) (at + size))
 
 -- the head at a place by a table
-unfoldable pub head_by : List ℕ → List ℕ → ℕ → Head
-head_by table s at = cond (ltb at (length s)) (sized_head s (get_or s at 0) at (get_or table (get_or s at 0) 0 % 8)) Head.Cut
+unfoldable pub head_by : List ℕ → List ℕ → ℕ → Option Head
+head_by table s at = cond (ltb at (length s)) (sized_head s (get_or s at 0) at (get_or table (get_or s at 0) 0 % 8)) None

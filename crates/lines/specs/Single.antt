@@ -1,9 +1,8 @@
 -- Single values as text: a field of a file, and a string. Integers and floats have the texts of Texts.antt. No lemma stands here: the laws are
 -- in Laws/Single.antt. Assumes nothing.
-use Rattle.std.specs.Prelude.{Bool, cond, ◌||◌, List, [], ◌∷◌, ◌++◌, ℕ, eqb, ltb}
+use Rattle.std.specs.Prelude.{Option, Some, None, Bool, cond, ◌||◌, List, [], ◌∷◌, ◌++◌, ℕ, eqb, ltb}
 use Rattle.text.specs.Ascii.{ascii}
 use Rattle.text.specs.Decimal.{decimal}
-use Rattle.text.specs.declared.Number.{Number}
 use Rattle.lines.specs.Texts.{digits}
 use Rattle.lines.specs.declared.single.Sort.{Sort}
 
@@ -38,10 +37,10 @@ sort_text Sort.Column = ascii "\tcolumn"
 sort_text Sort.Binary = ascii "\tbinary"
 
 -- a tab and a number, or - where there is none
-abbrev pub count_text : Number → List ℕ
-count_text (Number.Is n) = ascii "\t" ++ decimal n
-count_text Number.None = ascii "\t-"
+abbrev pub count_text : Option ℕ → List ℕ
+count_text (Some n) = ascii "\t" ++ decimal n
+count_text None = ascii "\t-"
 
 -- the line of a field: its name, what it is, its codec and its length
-abbrev pub field_text : List ℕ → Sort → Number → Number → List ℕ
+abbrev pub field_text : List ℕ → Sort → Option ℕ → Option ℕ → List ℕ
 field_text name sort codec length = name_shown name ++ (sort_text sort ++ (count_text codec ++ (count_text length ++ ascii "\n")))

@@ -1,10 +1,8 @@
 -- The values of columns as text: numbers over a divisor, floats by their bits, names. No lemma stands here: the laws are in Laws/Texts.antt.
 -- Assumes nothing.
-use Rattle.std.specs.Prelude.{cond, List, [], ◌∷◌, ◌++◌, ℕ, zero, suc, ◌-◌, ◌*◌, ◌/◌, ◌%◌, ◌^◌, eqb, ltb, ℤ, pos, negsuc}
+use Rattle.std.specs.Prelude.{Option, Some, None, cond, List, [], ◌∷◌, ◌++◌, ℕ, zero, suc, ◌-◌, ◌*◌, ◌/◌, ◌%◌, ◌^◌, eqb, ltb, ℤ, pos, negsuc}
 use Rattle.text.specs.Decimal.{glyph, decimal}
 use Rattle.text.specs.Ascii.{ascii}
-use Rattle.lines.specs.declared.Places.{Places}
-use Rattle.lines.specs.declared.Places.TheVariants.{Exactly, Endless}
 
 -- the last k digits of a number in base b, the higher first
 unfoldable pub digits : ℕ → ℕ → ℕ → List ℕ
@@ -14,12 +12,12 @@ digits b (suc k) n = digits b k (n / b) ++ (glyph (n % b) ∷ [])
 -- Numbers over a divisor
 
 -- k places if d is the power 10 ^ k, for some k below the first number
-unfoldable pub places_below : ℕ → ℕ → Places
-places_below zero d = Endless
-places_below (suc k) d = cond (eqb d (10 ^ k)) (Exactly k) (places_below k d)
+unfoldable pub places_below : ℕ → ℕ → Option ℕ
+places_below zero d = None
+places_below (suc k) d = cond (eqb d (10 ^ k)) (Some k) (places_below k d)
 
 -- the decimal places of a divisor of 32 bits
-unfoldable pub places_of : ℕ → Places
+unfoldable pub places_of : ℕ → Option ℕ
 places_of d = places_below 10 d
 
 -- a point and the last k digits of n; nothing where there are none
@@ -28,9 +26,9 @@ fraction_text zero n = []
 fraction_text (suc k) n = ascii "." ++ digits 10 (suc k) n
 
 -- n / d with so many places, or as n, a slash and d
-abbrev pub quotient_text : Places → ℕ → ℕ → List ℕ
-quotient_text (Exactly k) d n = decimal (n / d) ++ fraction_text k n
-quotient_text Endless d n = decimal n ++ (ascii "/" ++ decimal d)
+abbrev pub quotient_text : Option ℕ → ℕ → ℕ → List ℕ
+quotient_text (Some k) d n = decimal (n / d) ++ fraction_text k n
+quotient_text None d n = decimal n ++ (ascii "/" ++ decimal d)
 
 abbrev pub magnitude_text : ℕ → ℕ → List ℕ
 magnitude_text d n = quotient_text (places_of d) d n

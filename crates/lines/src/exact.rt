@@ -51,10 +51,8 @@ fn write_power(row: &mut [u8], m: u32, factor: u32, count: usize)
     ensures { row.new ≡ figures (length row.old) (m * factor ^ count) }
 {
     times(row, 0, m);
-    let mut i: usize = 0;
-    while i < count {
+    for _ in 0..count {
         times(row, factor, 0);
-        i += 1;
     }
 }
 
@@ -65,12 +63,10 @@ fn times(row: &mut [u8], factor: u32, more: u32)
     ensures { row.new ≡ figures (length row.old) (value_of row.old * factor + more) }
 {
     let mut carry = more;
-    let mut i: usize = 0;
-    while i < row.len() {
-        let sum = numbers::u8_to_u32(row[i]) * factor + carry;
-        row[i] = (sum % 10) as u8;
+    for digit in row.iter_mut() {
+        let sum = u32::from(*digit) * factor + carry;
+        *digit = (sum % 10) as u8;
         carry = sum / 10;
-        i += 1;
     }
 }
 
@@ -92,14 +88,12 @@ fn whole_count(row: &[u8]) -> usize
     ensures text { (n : ℕ) → row.now ≡ figures (length row.now) n → n < 10 ^ length row.now
         → decimal_in (length row.now - 1) n ≡ glyphs (take result row.now) }
 {
-    let mut i = row.len();
-    while 1 < i {
-        if row[i - 1] != 0 {
-            return i;
+    for i in (1..row.len()).rev() {
+        if row[i] != 0 {
+            return i + 1;
         }
-        i -= 1;
     }
-    i
+    1
 }
 
 // Puts the digits after a point, without the zeros at their end.
@@ -119,14 +113,12 @@ fn zeros_of(row: &[u8]) -> usize
     ensures zeros { result ≡ length row.now → trimmed row.now ≡ 48 ∷ [] }
     ensures digits { result < length row.now → trimmed row.now ≡ glyphs (drop result row.now) }
 {
-    let mut i: usize = 0;
-    while i < row.len() {
-        if row[i] != 0 {
+    for (i, digit) in row.iter().enumerate() {
+        if *digit != 0 {
             return i;
         }
-        i += 1;
     }
-    i
+    row.len()
 }
 
 // Puts digits, the highest first.
@@ -134,10 +126,8 @@ fn put_row(buffer: &mut [u8], at: usize, row: &[u8]) -> usize
     ensures { Put buffer.old at (glyphs row.now) buffer.new result }
 {
     let mut next = at;
-    let mut i = row.len();
-    while 0 < i {
-        i -= 1;
-        next = text::put_byte(buffer, next, text::digit(numbers::u8_to_u32(row[i])));
+    for i in (0..row.len()).rev() {
+        next = text::put_byte(buffer, next, text::digit(u32::from(row[i])));
     }
     next
 }

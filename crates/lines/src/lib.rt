@@ -18,13 +18,6 @@ pub struct Gathered {
     pub bytes: usize,
 }
 
-// How many decimal places a divisor gives: so many if it is a power of ten, or none that end.
-#[derive(Clone, Copy)]
-pub enum Places {
-    Exactly(usize),
-    Endless,
-}
-
 // How a float is written: in exact decimal, or in the hexadecimal notation of C.
 #[derive(Clone, Copy)]
 pub enum Notation {
@@ -45,41 +38,38 @@ pub fn number_lines(values: &[i32], divisor: u32, buffer: &mut [u8]) -> Gathered
 {
     let places = places_of(divisor);
     let mut at: usize = 0;
-    let mut i: usize = 0;
-    while i < values.len() {
+    for (i, value) in values.iter().enumerate() {
         if buffer.len() - at < ROOM {
             return Gathered {
                 values: i,
                 bytes: at,
             };
         }
-        at = put_number(buffer, at, values[i], divisor, places);
-        i += 1;
+        at = put_number(buffer, at, *value, divisor, places);
     }
     Gathered {
-        values: i,
+        values: values.len(),
         bytes: at,
     }
 }
 
 // Floats of single precision by their bits, a line each, in a notation.
+// Its loop is that of `number_lines`: one for both would take the writer of a line as a closure, whose contract is longer than the loop.
 pub fn float_lines(values: &[u32], notation: Notation, buffer: &mut [u8]) -> Gathered
     ensures { Lines (float_in notation) 192 values.now buffer.old buffer.new result }
 {
     let mut at: usize = 0;
-    let mut i: usize = 0;
-    while i < values.len() {
+    for (i, value) in values.iter().enumerate() {
         if buffer.len() - at < FLOAT_ROOM {
             return Gathered {
                 values: i,
                 bytes: at,
             };
         }
-        at = put_in(buffer, at, values[i], notation);
-        i += 1;
+        at = put_in(buffer, at, *value, notation);
     }
     Gathered {
-        values: i,
+        values: values.len(),
         bytes: at,
     }
 }
@@ -97,6 +87,7 @@ pub fn name_lines(names: &[u8], size: usize, buffer: &mut [u8]) -> Gathered
             bytes: 0,
         };
     }
+    // A `while`, since the step is the size.
     while size <= names.len() - from {
         if buffer.len() - at <= size {
             return Gathered {
@@ -115,31 +106,37 @@ pub fn name_lines(names: &[u8], size: usize, buffer: &mut [u8]) -> Gathered
     }
 }
 
-// The decimal places of a divisor.
-fn places_of(divisor: u32) -> Places
+// How many decimal places a divisor gives: so many if it is a power of ten, and else none that end.
+fn places_of(divisor: u32) -> Option<usize>
     ensures { result ≡ places_of divisor }
 {
     match divisor {
-        1 => Places::Exactly(0),
-        10 => Places::Exactly(1),
-        100 => Places::Exactly(2),
-        1_000 => Places::Exactly(3),
-        10_000 => Places::Exactly(4),
-        100_000 => Places::Exactly(5),
-        1_000_000 => Places::Exactly(6),
-        10_000_000 => Places::Exactly(7),
-        100_000_000 => Places::Exactly(8),
-        1_000_000_000 => Places::Exactly(9),
-        _ => Places::Endless,
+        1 => Some(0),
+        10 => Some(1),
+        100 => Some(2),
+        1_000 => Some(3),
+        10_000 => Some(4),
+        100_000 => Some(5),
+        1_000_000 => Some(6),
+        10_000_000 => Some(7),
+        100_000_000 => Some(8),
+        1_000_000_000 => Some(9),
+        _ => None,
     }
 }
 
 // Puts the line of a number over a divisor.
-fn put_number(buffer: &mut [u8], at: usize, number: i32, divisor: u32, places: Places) -> usize
+fn put_number(
+    buffer: &mut [u8],
+    at: usize,
+    number: i32,
+    divisor: u32,
+    places: Option<usize>,
+) -> usize
     requires { places ≡ places_of divisor }
     ensures { Put buffer.old at (line (number_text divisor) number) buffer.new result }
 {
-    let bits = numbers::to_u32(number);
+    let bits = number.cast_unsigned();
     if bits < 0x8000_0000 {
         let end = put_magnitude(buffer, at, bits, divisor, places);
         return text::put_byte(buffer, end, b'\n');
@@ -150,16 +147,22 @@ fn put_number(buffer: &mut [u8], at: usize, number: i32, divisor: u32, places: P
 }
 
 // Puts a number that is not negative, over a divisor.
-fn put_magnitude(buffer: &mut [u8], at: usize, number: u32, divisor: u32, places: Places) -> usize
+fn put_magnitude(
+    buffer: &mut [u8],
+    at: usize,
+    number: u32,
+    divisor: u32,
+    places: Option<usize>,
+) -> usize
     requires { places ≡ places_of divisor }
     ensures { Put buffer.old at (magnitude_text divisor number) buffer.new result }
 {
     match places {
-        Places::Exactly(k) => {
+        Some(k) => {
             let point = text::put_decimal(buffer, at, number / divisor);
             put_fraction(buffer, point, number, k)
         }
-        Places::Endless => {
+        None => {
             let slash = text::put_decimal(buffer, at, number);
             let over = text::put_byte(buffer, slash, b'/');
             text::put_decimal(buffer, over, divisor)
@@ -302,12 +305,10 @@ fn text_length(name: &[u8]) -> usize
     ensures within { result ≤ length name.now }
     ensures text { take result name.now ≡ name_text name.now }
 {
-    let mut i: usize = 0;
-    while i < name.len() {
-        if name[i] == 0 {
+    for (i, byte) in name.iter().enumerate() {
+        if *byte == 0 {
             return i;
         }
-        i += 1;
     }
-    i
+    name.len()
 }

@@ -7,9 +7,6 @@ ghost use Rattle.lines.specs.Decimals.{float_text};
 ghost use Rattle.lines.specs.Lines.{line};
 ghost use Rattle.lines.specs.Single.{breaks, byte_text, escaped, sort_text, count_text, field_text, string_text};
 
-use crate::Places;
-use text::Number;
-
 // What a field is: a column is a binary with the header of a codec.
 #[derive(Clone, Copy)]
 pub enum Sort {
@@ -23,7 +20,7 @@ pub enum Sort {
 }
 
 // The byte that is put as \xNN in names beside those that break a line: the backslash, so that a name can be told from its text.
-const BACKSLASH: u8 = 92;
+const BACKSLASH: u8 = b'\\';
 
 const DELETE: u8 = 127;
 
@@ -33,8 +30,8 @@ pub fn put_field(
     at: usize,
     name: &[u8],
     sort: Sort,
-    codec: Number,
-    length: Number,
+    codec: Option<u32>,
+    length: Option<u32>,
 ) -> usize
     ensures { Put buffer.old at (field_text name.now sort codec length) buffer.new result }
 {
@@ -57,7 +54,7 @@ pub fn put_string(buffer: &mut [u8], at: usize, bytes: &[u8]) -> usize
 pub fn put_integer(buffer: &mut [u8], at: usize, value: i32) -> usize
     ensures { Put buffer.old at (line (number_text 1) value) buffer.new result }
 {
-    crate::put_number(buffer, at, value, 1, Places::Exactly(0))
+    crate::put_number(buffer, at, value, 1, Some(0))
 }
 
 // Puts the line of a float by its bits.
@@ -72,10 +69,8 @@ fn put_escaped(buffer: &mut [u8], at: usize, bytes: &[u8], mark: u8) -> usize
     ensures { Put buffer.old at (escaped mark bytes.now) buffer.new result }
 {
     let mut next = at;
-    let mut i: usize = 0;
-    while i < bytes.len() {
-        next = put_shown(buffer, next, bytes[i], mark);
-        i += 1;
+    for byte in bytes {
+        next = put_shown(buffer, next, *byte, mark);
     }
     next
 }
@@ -86,7 +81,7 @@ fn put_shown(buffer: &mut [u8], at: usize, byte: u8, mark: u8) -> usize
 {
     if breaks_line(byte, mark) {
         let digits = text::put(buffer, at, b"\\x");
-        return crate::put_digits(buffer, digits, byte as u32, 16, 2);
+        return crate::put_digits(buffer, digits, u32::from(byte), 16, 2);
     }
     text::put_byte(buffer, at, byte)
 }
@@ -95,13 +90,7 @@ fn put_shown(buffer: &mut [u8], at: usize, byte: u8, mark: u8) -> usize
 fn breaks_line(byte: u8, mark: u8) -> bool
     ensures { result ≡ breaks mark byte }
 {
-    if byte < 32 {
-        return true;
-    }
-    if byte == DELETE {
-        return true;
-    }
-    byte == mark
+    byte < 32 || byte == DELETE || byte == mark
 }
 
 // Puts a tab and what a field is.
@@ -120,14 +109,14 @@ fn put_sort(buffer: &mut [u8], at: usize, sort: Sort) -> usize
 }
 
 // Puts a tab and a number, or - where there is none.
-fn put_count(buffer: &mut [u8], at: usize, count: Number) -> usize
+fn put_count(buffer: &mut [u8], at: usize, count: Option<u32>) -> usize
     ensures { Put buffer.old at (count_text count) buffer.new result }
 {
     match count {
-        Number::Is(n) => {
+        Some(n) => {
             let first = text::put(buffer, at, b"\t");
             text::put_decimal(buffer, first, n)
         }
-        Number::None => text::put(buffer, at, b"\t-"),
+        None => text::put(buffer, at, b"\t-"),
     }
 }

@@ -1,11 +1,10 @@
 -- The meanings of the refusal numbers in words: the one list that every other place takes them from. A row for each number, in any order.
 -- No lemma stands here: the laws are in Laws/Meanings.antt. Assumes nothing.
-use Rattle.std.specs.Prelude.{Bool, false, cond, ◌||◌, List, [], ◌∷◌, ℕ, eqb, length}
+use Rattle.std.specs.Prelude.{Bool, false, cond, ◌||◌, Result, Ok, Err, List, [], ◌∷◌, ℕ, eqb, length}
 use Prim.Native.String as Text
 use Rattle.refusal.specs.Table.{accepted, file_over_limit, cut_short, lead_byte_unknown, unsigned_too_large, string_not_utf8, nested_too_deep, too_many_entries, key_not_string, key_repeated, outer_not_map, bytes_after, field_missing, field_type, column_short, codec_unknown, header_range, payload_size, number_not_allowed, length_differs, counts_disagree, index_outside, value_outside, too_many_group_types, version_not1, buffer_too_small, no_such_field, not_exact, no_such_entry, receipt_malformed, job_not_rising}
-use Rattle.refusal.specs.Answer.{answered, leaves}
-use Rattle.refusal.specs.declared.Answer.{Answer}
-use Rattle.refusal.specs.declared.Answer.TheVariants.{Refused}
+use Rattle.refusal.specs.Outcome.{answered}
+use Rattle.refusal.specs.Answer.{leaves}
 use Rattle.text.specs.Ascii.{ascii}
 
 -- a refusal number and what it means
@@ -74,8 +73,8 @@ abbrev pub meaning_limit : ℕ
 meaning_limit = 64
 
 -- what writing a meaning into a buffer of so many bytes answers: 28 for a number that the table does not have, then 25, else the number of bytes
-unfoldable pub meaning_answer : ℕ → ℕ → Answer
-meaning_answer n room = cond (has_meaning n) (answered (length (meaning_of n)) room) (Refused no_such_entry)
+unfoldable pub meaning_answer : ℕ → ℕ → Result ℕ ℕ
+meaning_answer n room = cond (has_meaning n) (answered (length (meaning_of n)) room) (Err no_such_entry)
 
 -- what the buffer holds afterwards: the meaning and then what was there; on refusal what was there
 unfoldable pub meaning_buffer : ℕ → List ℕ → List ℕ

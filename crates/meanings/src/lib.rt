@@ -3,30 +3,31 @@
 #![tactic(auto)]
 
 ghost use Rattle.std.specs.Prelude.{◌≡◌, length};
+ghost use Rattle.refusal.specs.Outcome.{numbered};
 ghost use Rattle.text.specs.Put.{Put};
 ghost use Rattle.meanings.specs.Meanings.{meaning_of, meaning_answer, meaning_buffer};
 ghost use Rattle.meanings.specs.Steps.{words_in, line_end};
 
-use refusal::Answer;
+use refusal::Refusal;
 
 // Room for the longest meaning.
 const ROOM: usize = 64;
 
 // Writes the meaning of a number into the buffer: 28 for a number that the table does not have, then 25.
-pub fn write(number: u8, buffer: &mut [u8]) -> Answer
-    ensures answer { result ≡ meaning_answer number (length buffer.old) }
+pub fn write(number: u8, buffer: &mut [u8]) -> Result<usize, Refusal>
+    ensures answer { numbered result ≡ meaning_answer number (length buffer.old) }
     ensures buffer { buffer.new ≡ meaning_buffer number buffer.old }
 {
     let mut page = [0u8; ROOM];
     let end = put_meaning(&mut page, 0, number);
     if end == 0 {
-        return Answer::Refused(refusal::NO_SUCH_ENTRY);
+        return Err(Refusal::NoSuchEntry);
     }
     if buffer.len() < end {
-        return Answer::Refused(refusal::BUFFER_TOO_SMALL);
+        return Err(Refusal::BufferTooSmall);
     }
     text::put(buffer, 0, &page[..end]);
-    Answer::Count(end)
+    Ok(end)
 }
 
 // Puts the meaning of a number at a place, and gives the place after it; nothing for a number that the table does not have. The table has for each

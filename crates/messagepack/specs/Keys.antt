@@ -1,16 +1,13 @@
 -- The tables of keys that the walk lends down: a row for each key of each map that is open, as many for each level as a map has entries at most.
 -- Contracts of functions inside this crate cite these; no public contract does. No lemma stands here. Assumes nothing.
-use Rattle.std.specs.Prelude.{◌≡◌, ℕ, zero, suc, ◌+◌, ◌-◌, ◌*◌, ◌%◌, ◌<◌, ◌≤◌, true, false, cond, List, [], ◌∷◌, length, take, drop, nat_le, slice_index, slice_index_or, slice_set}
+use Rattle.std.specs.Prelude.{◌≡◌, ℕ, zero, suc, ◌+◌, ◌-◌, ◌*◌, ◌%◌, ◌<◌, ◌≤◌, true, false, cond, List, [], ◌∷◌, length, take, drop, nat_le, slice_index, slice_index_or, slice_set, Result, Ok, Err}
 use Rattle.refusal.specs.Table.{key_repeated}
 use Rattle.numbers.specs.BigEndian.{unsigned_at}
-use Rattle.heads.specs.Table.{lead_table}
-use Rattle.heads.specs.Head.{kind_at, head_at}
+use Rattle.heads.specs.Head.{kind_at, head_at, some_head}
 use Rattle.heads.specs.declared.Kind.{Kind}
-use Rattle.heads.specs.declared.Head.{Head}
 use Rattle.messagepack.specs.Limits.{file_limit, nesting_limit, entry_limit}
-use Rattle.messagepack.specs.Walk.{key_at, among, many_at, entries_at, value_at}
+use Rattle.messagepack.specs.Walk.{key_at, among, many_at, entries_at, value_at, ok_text}
 use Rattle.messagepack.specs.Outer.{keys_from}
-use Rattle.messagepack.specs.declared.Walk.{Walk}
 use Rattle.messagepack.specs.declared.Text.{Text}
 
 -- the rows of the largest map for each level
@@ -26,9 +23,9 @@ unfoldable pub print_of : List ℕ → ℕ
 print_of k = (length k % 65536 * 65536 + ends_of k) % 4294967296
 
 -- the bytes of a key
-abbrev pub key_bytes : List ℕ → Text → List ℕ
-key_bytes s (Text.At a m) = take m (drop a s)
-key_bytes s (Text.Refused e) = []
+abbrev pub key_bytes : List ℕ → Result Text ℕ → List ℕ
+key_bytes s (Ok t) = take t.count (drop t.at s)
+key_bytes s (Err e) = []
 
 -- the bytes of the key at a place
 abbrev pub key_here : List ℕ → ℕ → List ℕ
@@ -47,7 +44,7 @@ keys_in s starts base end = keys_of s (drop base starts) (end - base)
 pub record KeyThere (s : List ℕ) (at : ℕ) : Type 0 where
   pub a : ℕ
   pub m : ℕ
-  pub is : key_at s at ≡ Text.At a m
+  pub is : key_at s at ≡ ok_text a m
 
 -- a row holds the place of a key, and its print
 pub record RowHolds (s starts prints : List ℕ) (i : ℕ) : Type 0 where
@@ -59,9 +56,8 @@ unfoldable pub Stored : List ℕ → List ℕ → List ℕ → ℕ → Type 0
 Stored s starts prints n = (i : ℕ) → i < n → RowHolds s starts prints i
 
 -- a walk with so many levels left may begin
-pub record Free (leads s : List ℕ) (depth : ℕ) (starts prints : List ℕ) : Type 0 where
+pub record Free (s : List ℕ) (depth : ℕ) (starts prints : List ℕ) : Type 0 where
   pub small : length s ≤ file_limit
-  pub table : leads ≡ lead_table
   pub levels : depth ≤ nesting_limit
   pub starts-long : length starts ≡ table_length
   pub prints-long : length prints ≡ table_length
@@ -72,19 +68,19 @@ pub record Kept (depth : ℕ) (old new : List ℕ) : Type 0 where
   pub same : drop (depth * entry_limit) new ≡ drop (depth * entry_limit) old
 
 -- a walk's answer, with the tables before and after
-pub record KeysWalked (expected : Walk) (depth : ℕ) (starts prints : List ℕ) (r : Walk) (starts' prints' : List ℕ) : Type 0 where
+pub record KeysWalked (expected : Result ℕ ℕ) (depth : ℕ) (starts prints : List ℕ) (r : Result ℕ ℕ) (starts' prints' : List ℕ) : Type 0 where
   pub answer : r ≡ expected
   pub starts-kept : Kept depth starts starts'
   pub prints-kept : Kept depth prints prints'
 
 -- the walk of the value at a place, of n values, and of n entries, each with so many levels left
-abbrev pub ValueWalked : List ℕ → ℕ → ℕ → List ℕ → List ℕ → Walk → List ℕ → List ℕ → Type 0
+abbrev pub ValueWalked : List ℕ → ℕ → ℕ → List ℕ → List ℕ → Result ℕ ℕ → List ℕ → List ℕ → Type 0
 ValueWalked s depth at starts prints r starts' prints' = KeysWalked (value_at s depth at) depth starts prints r starts' prints'
 
-abbrev pub ItemsWalked : List ℕ → ℕ → ℕ → ℕ → List ℕ → List ℕ → Walk → List ℕ → List ℕ → Type 0
+abbrev pub ItemsWalked : List ℕ → ℕ → ℕ → ℕ → List ℕ → List ℕ → Result ℕ ℕ → List ℕ → List ℕ → Type 0
 ItemsWalked s depth n at starts prints r starts' prints' = KeysWalked (many_at (value_at s depth) n at) depth starts prints r starts' prints'
 
-abbrev pub EntriesWalked : List ℕ → ℕ → ℕ → ℕ → List ℕ → List ℕ → Walk → List ℕ → List ℕ → Type 0
+abbrev pub EntriesWalked : List ℕ → ℕ → ℕ → ℕ → List ℕ → List ℕ → Result ℕ ℕ → List ℕ → List ℕ → Type 0
 EntriesWalked s depth n at starts prints r starts' prints' = KeysWalked (entries_at s (value_at s depth) n at) (depth + 1) starts prints r starts' prints'
 
 -- a map of n entries has been walked with so many levels left for its values: the rows of its level have the places of its keys
@@ -93,12 +89,12 @@ pub record MapNoted (s : List ℕ) (levels n at : ℕ) (starts : List ℕ) : Typ
   pub places : take n (drop (levels * entry_limit) starts) ≡ keys_from s levels n at
 
 -- if n entries end, the rows of their level have the places of their keys
-pub record EntriesNoted (s : List ℕ) (levels n at : ℕ) (r : Walk) (starts : List ℕ) : Type 0 where
-  pub says : (e : ℕ) → r ≡ Walk.End e → MapNoted s levels n at starts
+pub record EntriesNoted (s : List ℕ) (levels n at : ℕ) (r : Result ℕ ℕ) (starts : List ℕ) : Type 0 where
+  pub says : (e : ℕ) → r ≡ Ok e → MapNoted s levels n at starts
 
 -- if the value at a place is a map and ends, the rows of its level have the places of its keys
-pub record ValueNoted (s : List ℕ) (depth at : ℕ) (r : Walk) (starts : List ℕ) : Type 0 where
-  pub says : (n p e : ℕ) → kind_at s at ≡ Kind.Map → head_at s at ≡ Head.At n p → r ≡ Walk.End e → MapNoted s (depth - 1) n p starts
+pub record ValueNoted (s : List ℕ) (depth at : ℕ) (r : Result ℕ ℕ) (starts : List ℕ) : Type 0 where
+  pub says : (n p e : ℕ) → kind_at s at ≡ Kind.Map → head_at s at ≡ some_head n p → r ≡ Ok e → MapNoted s (depth - 1) n p starts
 
 -- the rows from base up to end hold keys, and there is a row after them
 pub record Rows (s : List ℕ) (base end : ℕ) (starts prints : List ℕ) : Type 0 where
@@ -116,7 +112,7 @@ pub record Sought (s : List ℕ) (base end : ℕ) (starts prints : List ℕ) (at
   pub is : print ≡ print_of (key_here s at)
 
 -- what comes of the key at a place: a refusal, with the tables as they were; or its end, and a row more
-pub data KeyNoted (s : List ℕ) (at base end : ℕ) (starts prints : List ℕ) : Walk → List ℕ → List ℕ → Type 0 where
-  refused : {e : ℕ} → key_at s at ≡ Text.Refused e → KeyNoted s at base end starts prints (Walk.Refused e) starts prints
-  repeated : {a m : ℕ} → key_at s at ≡ Text.At a m → among (key_here s at) (keys_in s starts base end) ≡ true → KeyNoted s at base end starts prints (Walk.Refused key_repeated) starts prints
-  noted : {a m print : ℕ} → key_at s at ≡ Text.At a m → Sought s base end starts prints at print → among (key_here s at) (keys_in s starts base end) ≡ false → KeyNoted s at base end starts prints (Walk.End (a + m)) (slice_set starts end at) (slice_set prints end print)
+pub data KeyNoted (s : List ℕ) (at base end : ℕ) (starts prints : List ℕ) : Result ℕ ℕ → List ℕ → List ℕ → Type 0 where
+  refused : {e : ℕ} → key_at s at ≡ Err e → KeyNoted s at base end starts prints (Err e) starts prints
+  repeated : {a m : ℕ} → key_at s at ≡ ok_text a m → among (key_here s at) (keys_in s starts base end) ≡ true → KeyNoted s at base end starts prints (Err key_repeated) starts prints
+  noted : {a m print : ℕ} → key_at s at ≡ ok_text a m → Sought s base end starts prints at print → among (key_here s at) (keys_in s starts base end) ≡ false → KeyNoted s at base end starts prints (Ok (a + m)) (slice_set starts end at) (slice_set prints end print)

@@ -1,6 +1,6 @@
 -- The document that bytes are a writing of, read back with no rule tested: what is asked of a file after its container is defined on it.
 -- That it is the document is `document_of-is` of Laws/Unique.antt. No file's acceptance is defined by it, and no lemma stands here. Assumes nothing.
-use Rattle.std.specs.Prelude.{ℕ, zero, suc, List, take, drop, pos, slice_index}
+use Rattle.std.specs.Prelude.{ℕ, zero, suc, List, take, drop, pos, slice_index, Option, Some, None}
 use Rattle.heads.specs.Lead.{more_of}
 use Rattle.heads.specs.Head.{kind_at, head_at}
 use Rattle.heads.specs.declared.Kind.{Kind}
@@ -19,9 +19,9 @@ then_read (read a r) f = f a r
 then_read fault f = fault
 
 -- what a head says, and the bytes after it
-abbrev pub read_head : {A : Type 0} → List ℕ → Head → (ℕ → List ℕ → Read A) → Read A
-read_head s (Head.At n p) f = f n (drop p s)
-read_head s Head.Cut f = fault
+abbrev pub read_head : {A : Type 0} → List ℕ → Option Head → (ℕ → List ℕ → Read A) → Read A
+read_head s (Some h) f = f h.number (drop h.end s)
+read_head s None f = fault
 
 -- n documents one after another, each by f
 unfoldable pub read_all : (List ℕ → Read Document) → ℕ → List ℕ → Read Documents

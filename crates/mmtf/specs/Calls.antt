@@ -1,16 +1,12 @@
 -- What a C call answers and leaves in its out parameters. No lemma stands here. Assumes nothing.
-use Rattle.std.specs.Prelude.{cond, List, ℕ, length, eqb, ℤ, pos, Float}
+use Rattle.std.specs.Prelude.{cond, Result, Ok, Err, List, ℕ, length, eqb, ℤ, pos, Float}
 use Rattle.std.specs.Int.{w32}
 use Rattle.std.proofs.Common.{of_z, to_z}
 use Rattle.refusal.specs.Table.{accepted}
-use Rattle.refusal.specs.Answer.{answer_number, answer_count}
-use Rattle.views.specs.declared.Place.{Place}
-use Rattle.views.specs.declared.Place.TheVariants as place
-use Rattle.opening.specs.declared.Opening.{Opening}
-use Rattle.opening.specs.declared.Opening.TheVariants as opening
+use Rattle.refusal.specs.Outcome.{answer_number, answer_count}
+use Rattle.values.specs.declared.Part.{Part}
 use Rattle.transforms.specs.Matrix.{matrix_number, matrix_of}
 use Rattle.columns.specs.declared.Header.{Header}
-use Rattle.columns.specs.declared.Header.TheVariants as header
 use Rattle.columns.specs.declared.Kind.{Kind}
 use Rattle.columns.specs.declared.Kind.TheVariants as kind
 use Rattle.columns.specs.declared.Wanted.{Wanted}
@@ -19,35 +15,32 @@ use Rattle.columns.specs.Decode.{decode}
 use Rattle.columns.specs.Buffer.{decoded_answer}
 use Rattle.decoding.specs.Calls.{fixed_answer}
 use Rattle.floats.specs.Calls.{exactly}
-use Rattle.decoding.specs.declared.Fixed.{Fixed}
-use Rattle.decoding.specs.declared.Fixed.TheVariants as fixed
 use Rattle.cells.specs.declared.Cell.{Cell}
 use Rattle.cells.specs.declared.Cell.TheVariants as cell
 use Rattle.meanings.specs.Meanings.{meaning_answer}
 use Rattle.encoding.specs.Demand.{Element, encoder_says, encoder_leaves}
+use Rattle.receipt.specs.declared.Receipt.{Receipt}
 use Rattle.receipt.specs.Receipt.{numbers_of}
 use Rattle.receipt.specs.File.{receipt_answer}
-use Rattle.receipt.specs.declared.Reading.{Reading}
 use Rattle.bill.specs.Answer.{bill_answer}
-use Rattle.receipt.specs.declared.Reading.TheVariants as reading
 
 -- a view: the start and the length of the part afterwards
-abbrev pub view_start : Place → ℕ → ℕ
-view_start (place.At start n) old = start
-view_start (place.Refused r) old = old
+abbrev pub view_start : Result Part ℕ → ℕ → ℕ
+view_start (Ok part) old = part.at
+view_start (Err r) old = old
 
-abbrev pub view_length : Place → ℕ → ℕ
-view_length (place.At start n) old = n
-view_length (place.Refused r) old = old
+abbrev pub view_length : Result Part ℕ → ℕ → ℕ
+view_length (Ok part) old = part.count
+view_length (Err r) old = old
 
 -- a file opened, with room for so many elements in each buffer: its number, and the set of its named fields afterwards
-abbrev pub opened_number : Opening → ℕ
-opened_number (opening.Presence set) = accepted
-opened_number (opening.Refused r) = r
+abbrev pub opened_number : Result ℕ ℕ → ℕ
+opened_number (Ok set) = accepted
+opened_number (Err r) = r
 
-abbrev pub opened_presence : Opening → ℕ → ℕ
-opened_presence (opening.Presence set) old = set
-opened_presence (opening.Refused r) old = old
+abbrev pub opened_presence : Result ℕ ℕ → ℕ → ℕ
+opened_presence (Ok set) old = set
+opened_presence (Err r) old = old
 
 -- a matrix: the rows afterwards, as they were on refusal
 abbrev pub matrix_rows : List ℕ → ℕ → ℕ → List (List Float) → List (List Float)
@@ -68,60 +61,60 @@ abbrev pub floats_count : List ℕ → List ℕ → ℕ → ℕ
 floats_count s buffer old = answer_count (decoded_answer (exactly (decode Real s)) (length buffer)) old
 
 -- the answer of the decoder of integers and divisor
-abbrev pub fixed_of : List ℕ → List ℤ → Fixed
+abbrev pub fixed_of : List ℕ → List ℤ → Result (ℕ × ℤ) ℕ
 fixed_of s buffer = fixed_answer (decode (Only kind.FixedPoint) s) (length buffer)
 
 -- the decoder of integers and divisor: its number, and its count and its divisor afterwards
-abbrev pub fixed_number : Fixed → ℕ
-fixed_number (fixed.Column n d) = accepted
-fixed_number (fixed.Refused r) = r
+abbrev pub fixed_number : Result (ℕ × ℤ) ℕ → ℕ
+fixed_number (Ok r) = accepted
+fixed_number (Err r) = r
 
-abbrev pub fixed_count : Fixed → ℕ → ℕ
-fixed_count (fixed.Column n d) old = n
-fixed_count (fixed.Refused r) old = old
+abbrev pub fixed_count : Result (ℕ × ℤ) ℕ → ℕ → ℕ
+fixed_count (Ok r) old = r.0
+fixed_count (Err r) old = old
 
-abbrev pub fixed_divisor : Fixed → ℤ → ℤ
-fixed_divisor (fixed.Column n d) old = d
-fixed_divisor (fixed.Refused r) old = old
+abbrev pub fixed_divisor : Result (ℕ × ℤ) ℕ → ℤ → ℤ
+fixed_divisor (Ok r) old = r.1
+fixed_divisor (Err r) old = old
 
 -- a header as it is judged: its number; a field of it afterwards, which is a number where the header passes; and the parameter afterwards, 0
 -- where the codec uses none
-abbrev pub header_number : Header → ℕ
-header_number (header.Good n m k f d) = accepted
-header_number (header.Refused r) = r
+abbrev pub header_number : Result Header ℕ → ℕ
+header_number (Ok h) = accepted
+header_number (Err r) = r
 
-abbrev pub header_now : Header → ℤ → ℤ → ℤ
-header_now (header.Good n m k f d) z old = z
-header_now (header.Refused r) z old = old
+abbrev pub header_now : Result Header ℕ → ℤ → ℤ → ℤ
+header_now (Ok h) z old = z
+header_now (Err r) z old = old
 
-abbrev pub header_parameter : Header → ℤ → ℤ
-header_parameter (header.Good n m k f d) old = to_z w32 m
-header_parameter (header.Refused r) old = old
+abbrev pub header_parameter : Result Header ℕ → ℤ → ℤ
+header_parameter (Ok h) old = to_z w32 h.parameter
+header_parameter (Err r) old = old
 
 -- a cell: its number; and kind (1 an integer, 2 a character, 3 a float), integer and float afterwards
-abbrev pub cell_number : Cell → ℕ
-cell_number (cell.Int x) = accepted
-cell_number (cell.Char b) = accepted
-cell_number (cell.Float f) = accepted
-cell_number (cell.Refused r) = r
+abbrev pub cell_number : Result Cell ℕ → ℕ
+cell_number (Ok (cell.Int x)) = accepted
+cell_number (Ok (cell.Char b)) = accepted
+cell_number (Ok (cell.Float f)) = accepted
+cell_number (Err r) = r
 
-abbrev pub cell_kind : Cell → ℕ → ℕ
-cell_kind (cell.Int x) old = 1
-cell_kind (cell.Char b) old = 2
-cell_kind (cell.Float f) old = 3
-cell_kind (cell.Refused r) old = old
+abbrev pub cell_kind : Result Cell ℕ → ℕ → ℕ
+cell_kind (Ok (cell.Int x)) old = 1
+cell_kind (Ok (cell.Char b)) old = 2
+cell_kind (Ok (cell.Float f)) old = 3
+cell_kind (Err r) old = old
 
-abbrev pub cell_integer : Cell → ℤ → ℤ
-cell_integer (cell.Int x) old = x
-cell_integer (cell.Char b) old = pos b
-cell_integer (cell.Float f) old = old
-cell_integer (cell.Refused r) old = old
+abbrev pub cell_integer : Result Cell ℕ → ℤ → ℤ
+cell_integer (Ok (cell.Int x)) old = x
+cell_integer (Ok (cell.Char b)) old = pos b
+cell_integer (Ok (cell.Float f)) old = old
+cell_integer (Err r) old = old
 
-abbrev pub cell_real : Cell → Float → Float
-cell_real (cell.Int x) old = old
-cell_real (cell.Char b) old = old
-cell_real (cell.Float f) old = f
-cell_real (cell.Refused r) old = old
+abbrev pub cell_real : Result Cell ℕ → Float → Float
+cell_real (Ok (cell.Int x)) old = old
+cell_real (Ok (cell.Char b)) old = old
+cell_real (Ok (cell.Float f)) old = f
+cell_real (Err r) old = old
 
 -- an encoder of a kind, by its codec, its parameter (0 where the call takes none) and the elements: its number, and the bytes written and the buffer afterwards
 abbrev pub encoded_number : (k : Kind) → ℤ → ℤ → List (Element k) → List ℕ → ℕ
@@ -155,10 +148,10 @@ abbrev pub meaning_count : ℕ → List ℕ → ℕ → ℕ
 meaning_count n buffer old = answer_count (meaning_answer n (length buffer)) old
 
 -- a receipt read: its number, and the numbers of its lines in their order afterwards
-abbrev pub read_number : Reading → ℕ
-read_number (reading.Numbers r) = accepted
-read_number (reading.Refused n) = n
+abbrev pub read_number : Result Receipt ℕ → ℕ
+read_number (Ok r) = accepted
+read_number (Err n) = n
 
-abbrev pub read_numbers : Reading → List ℕ → List ℕ
-read_numbers (reading.Numbers r) old = numbers_of r
-read_numbers (reading.Refused n) old = old
+abbrev pub read_numbers : Result Receipt ℕ → List ℕ → List ℕ
+read_numbers (Ok r) old = numbers_of r
+read_numbers (Err n) old = old

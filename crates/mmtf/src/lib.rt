@@ -1,10 +1,11 @@
 // The C boundary: each call thin over a library's, with its contract. include/mmtf.h declares them for C.
-// On refusal no out parameter changes.
+// On refusal no out parameter changes. A call answers the number of its refusal, or 0: the C interface. So calls that differ only in a kind stay
+// apart: each has a name in C.
 #![tactic(auto)]
 
 ghost use Rattle.std.specs.Prelude.{◌≡◌, ◌↔◌, length, take, pos};
 ghost use Rattle.std.specs.Int.{w32};
-ghost use Rattle.refusal.specs.Answer.{answer_number, answer_count};
+ghost use Rattle.refusal.specs.Outcome.{answer_number, answer_count, numbered};
 ghost use Rattle.messagepack.specs.Rules.{Container};
 ghost use Rattle.messagepack.specs.Walk.{container_number};
 ghost use Rattle.structure.specs.Accepted.{Accepted, verdict_of};
@@ -33,12 +34,9 @@ ghost use Rattle.mmtf.specs.Calls.{cell_number, cell_kind, cell_integer, cell_re
 ghost use Rattle.mmtf.specs.Calls.{receipt_number, receipt_count, read_number, read_numbers, billed_number, billed_count};
 
 use cells::Cell;
-use columns::{Header, Kind, Wanted};
-use decoding::Fixed;
-use opening::Opening;
-use receipt::{Reading, Receipt};
-use refusal::Answer;
-use views::Place;
+use columns::{Kind, Wanted};
+use receipt::Receipt;
+use refusal::Refusal;
 
 // The version, as in specs/Version.antt.
 const MAJOR: u32 = 0;
@@ -53,7 +51,7 @@ pub extern "C" fn mmtf_container(file: &[u8]) -> u8
     ensures number { result ≡ container_number file.now }
     ensures exactly { (result ≡ 0) ↔ Container file.now }
 {
-    messagepack::container(file)
+    refusal::number(messagepack::container(file))
 }
 
 // The verdict on a file: 0 if it is accepted, else its refusal, 1 to 24.
@@ -62,7 +60,7 @@ pub extern "C" fn mmtf_verdict(file: &[u8]) -> u8
     ensures number { result ≡ verdict_of file.now }
     ensures exactly { (result ≡ 0) ↔ Accepted file.now }
 {
-    structure::verdict(file)
+    refusal::number(structure::verdict(file))
 }
 
 // Opens a file: the set of its named fields, and the start and the length of each one's part; or the refusal, 1 to 24, or 25. C lends one room for
@@ -81,8 +79,8 @@ pub extern "C" fn mmtf_fields(
     ensures lengths { lengths.new ≡ opened_buffer (opening_of file.now field_count (length lengths.old)) (lengths_of file.now) lengths.old }
 {
     match opening::fields_of(file, starts, lengths) {
-        Opening::Refused(n) => n,
-        Opening::Presence(set) => {
+        Err(file_refusal) => file_refusal.number(),
+        Ok(set) => {
             *presence = set;
             refusal::ACCEPTED
         }
@@ -98,10 +96,10 @@ pub extern "C" fn mmtf_view(file: &[u8], name: &[u8], start: &mut u64, length: &
     ensures length { length.new ≡ view_length (place_of file.now name.now) length.old }
 {
     match views::find(file, name) {
-        Place::Refused(n) => n,
-        Place::At(at, size) => {
-            *start = at as u64;
-            *length = size as u64;
+        Err(view_refusal) => view_refusal.number(),
+        Ok(part) => {
+            *start = part.at as u64;
+            *length = part.count as u64;
             refusal::ACCEPTED
         }
     }
@@ -118,13 +116,13 @@ pub extern "C" fn mmtf_matrix(
     ensures answer { result ≡ matrix_number file.now assembly transform }
     ensures rows { rows.new ≡ matrix_rows file.now assembly transform rows.old }
 {
-    let found = transforms::find(file, assembly, transform);
-    if found.refusal != refusal::ACCEPTED {
-        return found.refusal;
+    match transforms::find(file, assembly, transform) {
+        Err(matrix_refusal) => matrix_refusal.number(),
+        Ok(floats) => {
+            *rows = transforms::rows(floats);
+            refusal::ACCEPTED
+        }
     }
-    let floats = found.floats;
-    *rows = transforms::rows(floats);
-    refusal::ACCEPTED
 }
 
 // The integers of an int32 column (codecs 4, 7, 8, 14, 15).
@@ -191,8 +189,8 @@ pub extern "C" fn mmtf_decode_fixed_point(
     ensures buffer { buffer.new ≡ number_buffer (decode (Wanted.Only Kind.FixedPoint) column.now) buffer.old }
 {
     match decoding::decode_fixed_point(column, buffer) {
-        Fixed::Refused(r) => r,
-        Fixed::Column(n, d) => {
+        Err(column_refusal) => column_refusal.number(),
+        Ok((n, d)) => {
             *count = n as u64;
             *divisor = d;
             refusal::ACCEPTED
@@ -224,11 +222,11 @@ pub extern "C" fn mmtf_header(
     ensures parameter { parameter.new ≡ header_parameter (header_of Wanted.Any column.now) parameter.old }
 {
     match columns::read_header(column, Wanted::Any) {
-        Header::Refused(r) => r,
-        Header::Good(_, used, _, _, _) => {
+        Err(header_refusal) => header_refusal.number(),
+        Ok(header) => {
             *codec = numbers::read_i32(column, 0);
             *length = numbers::read_i32(column, 4);
-            *parameter = numbers::to_i32(used);
+            *parameter = header.parameter.cast_signed();
             refusal::ACCEPTED
         }
     }
@@ -249,18 +247,18 @@ pub extern "C" fn mmtf_cell(
     ensures real { real.new ≡ cell_real (cell_of (decode Wanted.Any column.now) index) real.old }
 {
     match cells::cell_at(column, index as usize) {
-        Cell::Refused(r) => r,
-        Cell::Int(x) => {
+        Err(cell_refusal) => cell_refusal.number(),
+        Ok(Cell::Int(x)) => {
             *kind = 1;
             *integer = x;
             refusal::ACCEPTED
         }
-        Cell::Char(b) => {
+        Ok(Cell::Char(b)) => {
             *kind = 2;
-            *integer = b as i32;
+            *integer = i32::from(b);
             refusal::ACCEPTED
         }
-        Cell::Float(x) => {
+        Ok(Cell::Float(x)) => {
             *kind = 3;
             *real = x;
             refusal::ACCEPTED
@@ -397,8 +395,8 @@ pub extern "C" fn mmtf_write_receipt(
     ensures receipt { result ≡ 0 → Receipted station job file.now (take written.new buffer.new) }
 {
     match receipt::write(station, job, file, buffer) {
-        Answer::Refused(number) => number,
-        Answer::Count(size) => {
+        Err(receipt_refusal) => receipt_refusal.number(),
+        Ok(size) => {
             *written = size as u64;
             refusal::ACCEPTED
         }
@@ -412,8 +410,8 @@ pub extern "C" fn mmtf_read_receipt(bytes: &[u8], numbers: &mut [u32; 10]) -> u8
     ensures numbers { numbers.new ≡ read_numbers (reading_of bytes.now) numbers.old }
 {
     match receipt::read(bytes) {
-        Reading::Refused(r) => r,
-        Reading::Numbers(receipt) => {
+        Err(reading_refusal) => reading_refusal.number(),
+        Ok(receipt) => {
             *numbers = in_order(receipt);
             refusal::ACCEPTED
         }
@@ -447,8 +445,8 @@ pub extern "C" fn mmtf_bill(receipts: &[u8], buffer: &mut [u8], written: &mut u6
     ensures bill { result ≡ 0 → Billed receipts.now (take written.new buffer.new) }
 {
     match bill::bill(receipts, buffer) {
-        Answer::Refused(number) => number,
-        Answer::Count(bytes) => {
+        Err(bill_refusal) => bill_refusal.number(),
+        Ok(bytes) => {
             *written = bytes as u64;
             refusal::ACCEPTED
         }
@@ -474,13 +472,13 @@ pub extern "C" fn mmtf_version() -> u32
 }
 
 // Hands on the answer of a call that fills a buffer: the count where it succeeded.
-fn hand_count(answer: Answer, count: &mut u64) -> u8
-    ensures number { result ≡ answer_number answer }
-    ensures count { count.new ≡ answer_count answer count.old }
+fn hand_count(answer: Result<usize, Refusal>, count: &mut u64) -> u8
+    ensures number { result ≡ answer_number (numbered answer) }
+    ensures count { count.new ≡ answer_count (numbered answer) count.old }
 {
     match answer {
-        Answer::Refused(r) => r,
-        Answer::Count(n) => {
+        Err(refusal) => refusal.number(),
+        Ok(n) => {
             *count = n as u64;
             refusal::ACCEPTED
         }

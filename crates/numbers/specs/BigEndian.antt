@@ -34,6 +34,10 @@ bytes_in w = bits w / 8
 unfoldable pub signed_at : Width → List ℕ → ℕ → ℤ
 signed_at w s at = to_z w (unsigned_at (bytes_in w) s at)
 
+-- s with k bytes in those that start at `at`; s itself where they are not all inside
+abbrev pub placed_at : ℕ → List ℕ → ℕ → List ℕ → List ℕ
+placed_at k s at bytes = cond (inside k s at) (take at s ++ bytes ++ drop (at + k) s) s
+
 -- s with n in the k bytes that start at `at`; s itself where they are not all inside
 unfoldable pub written_at : ℕ → List ℕ → ℕ → ℕ → List ℕ
-written_at k s at n = cond (inside k s at) (take at s ++ bytes_of k n ++ drop (at + k) s) s
+written_at k s at n = placed_at k s at (bytes_of k n)

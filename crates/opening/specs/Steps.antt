@@ -1,12 +1,11 @@
 -- What the functions inside this crate say of the named fields of a walked file. No lemma stands here. Assumes nothing.
-use Rattle.std.specs.Prelude.{◌≡◌, cond, List, [], ℕ, ◌-◌, ◌<◌, eqb, get_or}
+use Rattle.std.specs.Prelude.{◌≡◌, Err, cond, List, [], ℕ, ◌-◌, ◌<◌, eqb, get_or}
 use Rattle.refusal.specs.Table.{accepted, no_such_field}
 use Rattle.heads.specs.Head.{kind_at, head_at}
 use Rattle.messagepack.specs.Rules.{Container}
 use Rattle.messagepack.specs.Walk.{container_number}
 use Rattle.values.specs.declared.Part.{Part}
-use Rattle.views.specs.declared.Place.{Place}
-use Rattle.views.specs.Place.{is_text, body_place, place_of}
+use Rattle.views.specs.Place.{Place, some_part, is_text, body_place, place_of}
 use Rattle.fields.specs.Table.{field_count}
 use Rattle.fields.specs.Fields.{field_names}
 use Rattle.fields.specs.Noted.{Noted}
@@ -17,7 +16,7 @@ use Rattle.opening.specs.Opening.{part_start, part_length}
 -- place 0, where no field's value stands, there is none
 abbrev pub span_place : List ℕ → ℕ → ℕ → Place
 span_place file at end =
-    cond (eqb at 0) (Place.Refused no_such_field) (cond (is_text (kind_at file at)) (body_place (head_at file at)) (Place.At at (end - at)))
+    cond (eqb at 0) (Err no_such_field) (cond (is_text (kind_at file at)) (body_place (head_at file at)) (some_part at (end - at)))
 
 -- a place as a part
 abbrev pub as_part : Place → Part

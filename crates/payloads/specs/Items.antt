@@ -1,6 +1,6 @@
 -- A payload read in items, each a run of equal values: what the contracts inside this crate and those above it cite. No lemma stands
 -- here: the laws are in Laws/. Assumes nothing.
-use Rattle.std.specs.Prelude.{ℕ, ◌+◌, Bool, true, false, cond, List, [], ◌∷◌, drop, ℤ, pos, ◌+ℤ◌, int_lt, unsigned_abs}
+use Rattle.std.specs.Prelude.{Result, Ok, Err, ℕ, ◌+◌, Bool, true, false, cond, List, [], ◌∷◌, drop, ℤ, pos, ◌+ℤ◌, int_lt, unsigned_abs}
 use Rattle.refusal.specs.Table.{accepted}
 use Rattle.steps.specs.declared.Size.{Size}
 use Rattle.steps.specs.declared.Range.TheVariants.{Ascii}
@@ -12,8 +12,6 @@ use Rattle.steps.specs.Packing.{is_limit, in32}
 use Rattle.steps.specs.Payload.{number_size, in_range}
 use Rattle.payloads.specs.declared.Item.{Item}
 use Rattle.payloads.specs.declared.Item.TheVariants.{Run, Wrong, End}
-use Rattle.payloads.specs.declared.Outcome.{Outcome}
-use Rattle.payloads.specs.declared.Outcome.TheVariants.{Fine, Refused}
 
 -- One packed result of the numbers from a place on, and where it ends: limits are added, and then the first number that is no limit. `sum`
 -- is the sum so far, and `begun` says that the result has begun. An unfinished result is wrong, and so is a sum outside 32 bits.
@@ -40,6 +38,6 @@ unfoldable pub item_at : Form → List ℕ → ℕ → Item
 item_at f s at = item_of f at (numbers_in (number_size f) (drop at s))
 
 -- the refusal that a scan answers, or 0
-abbrev pub outcome_refusal : Outcome → ℕ
-outcome_refusal (Fine e) = accepted
-outcome_refusal (Refused r) = r
+abbrev pub outcome_refusal : Result Bool ℕ → ℕ
+outcome_refusal (Ok e) = accepted
+outcome_refusal (Err r) = r

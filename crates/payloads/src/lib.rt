@@ -2,10 +2,11 @@
 // are exact in single precision. A run of any length costs one turn, so that time is linear in the bytes.
 #![tactic(auto)]
 
-ghost use Rattle.std.specs.Prelude.{◌≡◌, ◌+◌, ◌-◌, ◌*◌, ◌/◌, ◌<◌, ◌≤◌, true, false, not, ◌&&◌, ◌||◌, length, pos, if◌then◌else◌, ◌==◌, nat_le};
+ghost use Rattle.std.specs.Prelude.{◌≡◌, Ok, Err, ◌+◌, ◌*◌, ◌/◌, ◌<◌, ◌≤◌, true, false, not, ◌&&◌, ◌||◌, length, pos, if◌then◌else◌, ◌==◌, nat_le};
 ghost use Rattle.std.specs.Int.{w8};
 ghost use Rattle.std.proofs.Common.{to_z};
 ghost use Rattle.refusal.specs.Table.{length_differs};
+ghost use Rattle.refusal.specs.Outcome.{number_of, numbered};
 ghost use Rattle.steps.specs.Delta.{advance, plus_times, after_run};
 ghost use Rattle.steps.specs.Width.{size_of};
 ghost use Rattle.steps.specs.Packing.{is_limit};
@@ -18,19 +19,14 @@ ghost use Rattle.payloads.specs.Limits.{packed_size, limit_at, limits_in, ends_a
 ghost use Rattle.payloads.specs.Blocks.{count_in};
 ghost use Rattle.payloads.specs.Items.{item_at, outcome_refusal};
 
+use refusal::Refusal;
 use steps::{Form, Range, Size, Turn};
 
 // The largest whole number up to which all are exact in single precision.
 pub const EXACT_LIMIT: i32 = 16_777_216;
 
-// What a scan answers: whether the results are of a form that is judged, and exact; or the refusal.
-#[derive(Clone, Copy)]
-pub enum Outcome {
-    Fine(bool),
-    Refused(u8),
-}
-
-// A value, how many times it stands there, and where the rest starts.
+// What stands at a place: a value, how many times it stands there, and where the rest starts; what is not allowed; or nothing more. An enum,
+// since these are three.
 #[derive(Clone, Copy)]
 pub enum Item {
     Run(i32, usize, usize),
@@ -38,33 +34,41 @@ pub enum Item {
     End,
 }
 
-// Scans a payload that should have `length` results. Names have `size` bytes each; other forms have no use for it.
-pub fn scan(payload: &[u8], form: Form, size: usize, delta: bool, length: usize) -> Outcome
-    ensures { result ≡ scan_of form delta (elements form length size) (held_in form size payload.now) }
+// Scans a payload that should have `length` results: whether they are of a form that is judged, and exact; or the refusal. Names have `size`
+// bytes each; other forms have no use for it.
+pub fn scan(
+    payload: &[u8],
+    form: Form,
+    size: usize,
+    delta: bool,
+    length: usize,
+) -> Result<bool, Refusal>
+    ensures { numbered result ≡ scan_of form delta (elements form length size) (held_in form size payload.now) }
 {
     match form {
         Form::Plain(width) => scan_plain(payload, width, delta, length),
-        Form::Packed(width) => match width {
-            Size::One => scan_totals(payload, false, delta, length),
-            Size::Two => scan_totals(payload, true, delta, length),
-            Size::Four => scan_packed(payload, Size::Four, delta, length),
-        },
+        Form::Packed(Size::One) => scan_totals(payload, false, delta, length),
+        Form::Packed(Size::Two) => scan_totals(payload, true, delta, length),
+        Form::Packed(Size::Four) => scan_packed(payload, Size::Four, delta, length),
         Form::Runs(range) => scan_ranged(payload, range, delta, length),
         Form::Names => scan_names(payload, size, length),
     }
 }
 
-// The refusal of a payload that should have `length` results, or 0. Names have `size` bytes each; other forms have no use for it. Calls get
-// the part that is all of the payload: a slice that is handed on as it stands is copied through memory first, for every form.
-pub fn refusal_of(payload: &[u8], form: Form, size: usize, length: usize) -> u8
-    ensures { result ≡ refusal_of (elements form length size) (held_in form size payload.now) }
+// The refusal of a payload that should have `length` results, where it has one. Names have `size` bytes each; other forms have no use for it.
+// Calls get the part that is all of the payload: a slice that is handed on as it stands is copied through memory first, for every form.
+pub fn refusal_of(payload: &[u8], form: Form, size: usize, length: usize) -> Result<(), Refusal>
+    ensures { number_of result ≡ refusal_of (elements form length size) (held_in form size payload.now) }
 {
     match form {
-        Form::Packed(width) => match width {
-            Size::One => count_packed(&payload[0..], false, length),
-            Size::Two => count_packed(&payload[0..], true, length),
-            Size::Four => refusal_in(scan_packed(&payload[0..], Size::Four, false, length)),
-        },
+        Form::Packed(Size::One) => count_packed(&payload[0..], false, length),
+        Form::Packed(Size::Two) => count_packed(&payload[0..], true, length),
+        Form::Packed(Size::Four) => refusal_in(scan_packed(
+            &payload[0..],
+            Size::Four,
+            false,
+            length,
+        )),
         Form::Runs(range) => runs_refusal(payload, range, length),
         Form::Plain(width) => refusal_in(scan_plain(payload, width, false, length)),
         Form::Names => names_refusal(&payload[0..], size, length),
@@ -75,10 +79,7 @@ pub fn refusal_of(payload: &[u8], form: Form, size: usize, length: usize) -> u8
 pub fn is_exact(number: i32) -> bool
     ensures { result ≡ exact number }
 {
-    if number < -EXACT_LIMIT {
-        return false;
-    }
-    number <= EXACT_LIMIT
+    -EXACT_LIMIT <= number && number <= EXACT_LIMIT
 }
 
 // The result after `sum`, by a value.
@@ -86,9 +87,10 @@ pub fn next_result(sum: i32, value: i32, delta: bool) -> i32
     ensures { result ≡ advance delta sum value }
 {
     if delta {
-        return steps::add_delta(sum, value);
+        steps::add_delta(sum, value)
+    } else {
+        value
     }
-    value
 }
 
 // The result after `count` values, where `sum` was the one before.
@@ -96,19 +98,20 @@ pub fn after_run(sum: i32, value: i32, count: usize, delta: bool) -> i32
     ensures { result ≡ after_run delta sum value count }
 {
     if delta {
-        return add_times(sum, value, count);
+        add_times(sum, value, count)
+    } else {
+        value
     }
-    value
 }
 
 // sum + count * value, modulo 2^32 into the signed range.
 fn add_times(sum: i32, value: i32, count: usize) -> i32
     ensures { result ≡ plus_times sum value count }
 {
-    let a = numbers::to_u32(sum) as u64;
-    let d = numbers::to_u32(value) as u64;
+    let a = u64::from(sum.cast_unsigned());
+    let d = u64::from(value.cast_unsigned());
     let k = (count % 4294967296) as u64;
-    numbers::to_i32(((a + k * d) % 4294967296) as u32)
+    (((a + k * d) % 4294967296) as u32).cast_signed()
 }
 
 // The item at a place of a payload.
@@ -127,30 +130,27 @@ pub fn item_at(payload: &[u8], at: usize, form: Form) -> Item
 }
 
 // Scans plain numbers: their count is the payload's size.
-fn scan_plain(payload: &[u8], size: Size, delta: bool, length: usize) -> Outcome
-    ensures { result ≡ scan_of (Form.Plain size) delta length (read_in (Form.Plain size) payload.now) }
+fn scan_plain(payload: &[u8], size: Size, delta: bool, length: usize) -> Result<bool, Refusal>
+    ensures { numbered result ≡ scan_of (Form.Plain size) delta length (read_in (Form.Plain size) payload.now) }
 {
     let k = steps::bytes(size);
     if payload.len() / k != length {
-        return Outcome::Refused(refusal::LENGTH_DIFFERS);
+        return Err(Refusal::LengthDiffers);
     }
-    Outcome::Fine(judges_exact(Form::Plain(size), delta))
+    Ok(judges_exact(Form::Plain(size), delta))
 }
 
 // Scans names, which are never judged to be exact.
-fn scan_names(payload: &[u8], size: usize, length: usize) -> Outcome
-    ensures { result ≡ scan_of Form.Names false (elements Form.Names length size) (held_in Form.Names size payload.now) }
+fn scan_names(payload: &[u8], size: usize, length: usize) -> Result<bool, Refusal>
+    ensures { numbered result ≡ scan_of Form.Names false (elements Form.Names length size) (held_in Form.Names size payload.now) }
 {
-    let number = names_refusal(payload, size, length);
-    if number != refusal::ACCEPTED {
-        return Outcome::Refused(number);
-    }
-    Outcome::Fine(false)
+    names_refusal(payload, size, length)?;
+    Ok(false)
 }
 
-// Scans packed numbers, number by number.
-fn scan_packed(payload: &[u8], size: Size, delta: bool, length: usize) -> Outcome
-    ensures { result ≡ scan_of (Form.Packed size) delta length (read_in (Form.Packed size) payload.now) }
+// Scans packed numbers, number by number. A `while`, since the place moves by a number's size.
+fn scan_packed(payload: &[u8], size: Size, delta: bool, length: usize) -> Result<bool, Refusal>
+    ensures { numbered result ≡ scan_of (Form.Packed size) delta length (read_in (Form.Packed size) payload.now) }
 {
     let k = steps::bytes(size);
     let mut i: usize = 0;
@@ -169,43 +169,38 @@ fn scan_packed(payload: &[u8], size: Size, delta: bool, length: usize) -> Outcom
             }
             Turn::Done(s) => {
                 sum = next_result(sum, s, delta);
-                exact = numbers::both(exact, is_exact(sum));
+                exact &= is_exact(sum);
                 count += 1;
                 part = 0;
                 begun = false;
             }
             Turn::Wrong => {
-                return Outcome::Refused(refusal::NUMBER_NOT_ALLOWED);
+                return Err(Refusal::NumberNotAllowed);
             }
         }
     }
     if begun {
-        return Outcome::Refused(refusal::NUMBER_NOT_ALLOWED);
+        return Err(Refusal::NumberNotAllowed);
     }
     if count != length {
-        return Outcome::Refused(refusal::LENGTH_DIFFERS);
+        return Err(Refusal::LengthDiffers);
     }
-    Outcome::Fine(exact)
+    Ok(exact)
 }
 
 // Scans packed numbers of one or two bytes: their refusal first, and then whether their results are exact, as all are without delta where the
-// limits stand in short rows.
-fn scan_totals(payload: &[u8], two: bool, delta: bool, length: usize) -> Outcome
-    ensures { result ≡ scan_of (Form.Packed (packed_size two)) delta length (read_in (Form.Packed (packed_size two)) payload.now) }
+// limits stand in short rows. Each size is a constant there, so that it has a loop of its own.
+fn scan_totals(payload: &[u8], two: bool, delta: bool, length: usize) -> Result<bool, Refusal>
+    ensures { numbered result ≡ scan_of (Form.Packed (packed_size two)) delta length (read_in (Form.Packed (packed_size two)) payload.now) }
 {
-    let refused = count_packed(payload, two, length);
-    if refused != refusal::ACCEPTED {
-        return Outcome::Refused(refused);
-    }
-    if !delta {
-        if has_short_rows(payload, two, length) {
-            return Outcome::Fine(true);
-        }
+    count_packed(payload, two, length)?;
+    if !delta && has_short_rows(payload, two, length) {
+        return Ok(true);
     }
     if two {
-        return Outcome::Fine(are_exact(payload, true, delta));
+        return Ok(are_exact(payload, true, delta));
     }
-    Outcome::Fine(are_exact(payload, false, delta))
+    Ok(are_exact(payload, false, delta))
 }
 
 // Whether it is known that each result without delta is exact: there are few limits, or none of them stand in a long row. A number that is no
@@ -214,13 +209,11 @@ fn has_short_rows(payload: &[u8], two: bool, length: usize) -> bool
     ensures { result ≡ true → 0 ≡ refusal_of length (read_in (Form.Packed (packed_size two)) payload.now) → ResultsJudged (packed_size two) false payload.now true }
 {
     let count = count_of(payload.len(), two);
-    if less(count, length) <= exact_limits(two) {
-        return true;
-    }
-    !has_row(payload, two, count)
+    count.saturating_sub(length) <= exact_limits(two) || !has_row(payload, two, count)
 }
 
-// Whether the results of packed numbers are exact, by one total: of the result that has begun, and with delta of those before it too.
+// Whether the results of packed numbers are exact, by one total: of the result that has begun, and with delta of those before it too. A
+// `while`, since the place moves by a number's size; `|`, since it has no branch.
 fn are_exact(payload: &[u8], two: bool, delta: bool) -> bool
     ensures { ResultsJudged (packed_size two) delta payload.now result }
 {
@@ -234,33 +227,31 @@ fn are_exact(payload: &[u8], two: bool, delta: bool) -> bool
         i += k;
         let sum = steps::add_delta(total, number);
         let limit = steps::is_limit(number, size);
-        exact = exact & (limit | is_exact(sum));
+        exact &= limit | is_exact(sum);
         total = total_after(sum, limit, delta);
     }
     exact
 }
 
-// The refusal that a scan answers, or 0.
-fn refusal_in(outcome: Outcome) -> u8
-    ensures { result ≡ outcome_refusal outcome }
+// What a scan refuses, without what it says of results that it does not refuse.
+fn refusal_in(scanned: Result<bool, Refusal>) -> Result<(), Refusal>
+    ensures { number_of result ≡ outcome_refusal (numbered scanned) }
 {
-    match outcome {
-        Outcome::Refused(r) => r,
-        Outcome::Fine(_) => refusal::ACCEPTED,
-    }
+    scanned?;
+    Ok(())
 }
 
-// The refusal of a payload of `length` names of a size each, or 0, in one pass.
-fn names_refusal(payload: &[u8], size: usize, length: usize) -> u8
-    ensures { result ≡ refusal_of (elements Form.Names length size) (held_in Form.Names size payload.now) }
+// The refusal of a payload of `length` names of a size each, in one pass.
+fn names_refusal(payload: &[u8], size: usize, length: usize) -> Result<(), Refusal>
+    ensures { number_of result ≡ refusal_of (elements Form.Names length size) (held_in Form.Names size payload.now) }
 {
     if !steps::are_names(payload, size) {
-        return refusal::NUMBER_NOT_ALLOWED;
+        return Err(Refusal::NumberNotAllowed);
     }
     if !is_product(payload.len(), length, size) {
-        return refusal::LENGTH_DIFFERS;
+        return Err(Refusal::LengthDiffers);
     }
-    refusal::ACCEPTED
+    Ok(())
 }
 
 // Whether a length is n times a size; the product itself may be too large.
@@ -270,15 +261,12 @@ fn is_product(length: usize, n: usize, size: usize) -> bool
     if size == 0 {
         return length == 0;
     }
-    if length % size != 0 {
-        return false;
-    }
-    length / size == n
+    length % size == 0 && length / size == n
 }
 
-// The refusal of packed numbers of one or two bytes, or 0.
-fn count_packed(payload: &[u8], two: bool, length: usize) -> u8
-    ensures { result ≡ refusal_of length (read_in (Form.Packed (packed_size two)) payload.now) }
+// The refusal of packed numbers of one or two bytes.
+fn count_packed(payload: &[u8], two: bool, length: usize) -> Result<(), Refusal>
+    ensures { number_of result ≡ refusal_of length (read_in (Form.Packed (packed_size two)) payload.now) }
 {
     let count = count_of(payload.len(), two);
     let limits = count_limits(payload, two, count);
@@ -286,12 +274,12 @@ fn count_packed(payload: &[u8], two: bool, length: usize) -> u8
         return refusal_in(scan_packed(payload, packed_size(two), false, length));
     }
     if ends_at_limit(payload, two, count) {
-        return refusal::NUMBER_NOT_ALLOWED;
+        return Err(Refusal::NumberNotAllowed);
     }
     if count - limits != length {
-        return refusal::LENGTH_DIFFERS;
+        return Err(Refusal::LengthDiffers);
     }
-    refusal::ACCEPTED
+    Ok(())
 }
 
 // Whether it is known that no sum leaves 32 bits: there are few limits, or none of them stand in a long row.
@@ -299,13 +287,10 @@ fn sums_fit(payload: &[u8], two: bool, count: usize, limits: usize) -> bool
     requires { (size_of (packed_size two) * count ≤ length payload.now) × (limits ≡ limits_in (packed_size two) payload.now 0 count) }
     ensures { result ≡ true → RowsWithin (most_limits two) two payload.now count }
 {
-    if limits <= most_limits(two) {
-        return true;
-    }
-    !has_row(payload, two, count)
+    limits <= most_limits(two) || !has_row(payload, two, count)
 }
 
-// Whether one of the blocks is all limits. If none is, a row of limits is shorter than two blocks.
+// Whether one of the blocks is all limits. If none is, a row of limits is shorter than two blocks. A `while`, since it goes by blocks.
 fn has_row(payload: &[u8], two: bool, count: usize) -> bool
     requires { size_of (packed_size two) * count ≤ length payload.now }
     ensures { result ≡ false → RowsWithin block_row two payload.now count }
@@ -342,7 +327,7 @@ pub fn limits_of(packed: &[u8], two: bool) -> usize
     count_limits(packed, two, count_of(packed.len(), two))
 }
 
-// How many of `count` numbers are limits: in blocks, and in the rest.
+// How many of `count` numbers are limits: in blocks, and in the rest. A `while`, since the place after the last block is asked for.
 fn count_limits(payload: &[u8], two: bool, count: usize) -> usize
     requires { size_of (packed_size two) * count ≤ length payload.now }
     ensures { result ≡ limits_in (packed_size two) payload.now 0 count }
@@ -372,11 +357,9 @@ fn add_limits(payload: &[u8], two: bool, at: usize, count: usize) -> u16
     requires { (at + size_of (packed_size two) * count ≤ length payload.now) × (count ≤ 256) }
     ensures { result ≡ limits_in (packed_size two) payload.now at count }
 {
-    let mut k: usize = 0;
     let mut limits: u16 = 0;
-    while k < count {
+    for k in 0..count {
         limits += limit_at(payload, two, at + place_of(two, k));
-        k += 1;
     }
     limits
 }
@@ -393,13 +376,14 @@ fn limit_at(payload: &[u8], two: bool, at: usize) -> u16
 }
 
 // 1 where a number of two bytes is a limit, else 0. Its bytes are taken as the processor loads them, the lower first; the sum is there
-// because only bits with a single use are loaded at once.
+// because only bits with a single use are loaded at once. Here and for a byte the two tests stand apart, since the loop that counts
+// many numbers at once was measured in this shape.
 fn two_at_limit(payload: &[u8], at: usize) -> u16
     requires { at + 2 ≤ length payload.now }
     ensures { result ≡ limit_at Size.Two payload.now at }
 {
-    let bits = numbers::u8_to_u16(payload[at + 1]) * 256 + numbers::u8_to_u16(payload[at]);
-    let moved = std::num::wrapping_add_u16(bits, 129);
+    let bits = u16::from(payload[at + 1]) * 256 + u16::from(payload[at]);
+    let moved = bits.wrapping_add(129);
     if moved == 0 {
         return 1;
     }
@@ -416,7 +400,7 @@ fn byte_at_limit(bits: u8) -> u16
     if bits == 128 { 1 } else { 0 }
 }
 
-// The size of packed numbers: two bytes, or one.
+// The size of packed numbers: two bytes, or one. A flag and not a `Size` says which, since numbers of four bytes take another way.
 pub fn packed_size(two: bool) -> Size
     ensures { result ≡ packed_size two }
 {
@@ -452,7 +436,7 @@ fn exact_limits(two: bool) -> usize
     if two { 510 } else { 131070 }
 }
 
-// The total after a number: after a limit, and with delta, it goes on.
+// The total after a number: after a limit, and with delta, it goes on. `|`, since it has no branch.
 pub fn total_after(total: i32, limit: bool, delta: bool) -> i32
     ensures { result ≡ (if limit || delta then total else pos 0) }
 {
@@ -470,15 +454,12 @@ pub fn ended_at(limit: bool) -> usize
 pub fn is_short(count: usize, left: usize) -> bool
     ensures { result ≡ (nat_le count 4 && nat_le 4 left) }
 {
-    if count <= 4 {
-        return 4 <= left;
-    }
-    false
+    count <= 4 && 4 <= left
 }
 
 // Scans runs, by a loop of their range's own.
-fn scan_ranged(payload: &[u8], range: Range, delta: bool, length: usize) -> Outcome
-    ensures { result ≡ scan_of (Form.Runs range) delta length (read_in (Form.Runs range) payload.now) }
+fn scan_ranged(payload: &[u8], range: Range, delta: bool, length: usize) -> Result<bool, Refusal>
+    ensures { numbered result ≡ scan_of (Form.Runs range) delta length (read_in (Form.Runs range) payload.now) }
 {
     match range {
         Range::Int8 => scan_runs(payload, Range::Int8, delta, length),
@@ -488,9 +469,9 @@ fn scan_ranged(payload: &[u8], range: Range, delta: bool, length: usize) -> Outc
     }
 }
 
-// Scans runs.
-fn scan_runs(payload: &[u8], range: Range, delta: bool, length: usize) -> Outcome
-    ensures { result ≡ scan_of (Form.Runs range) delta length (read_in (Form.Runs range) payload.now) }
+// Scans runs. A `loop`, since each item says where the next stands.
+fn scan_runs(payload: &[u8], range: Range, delta: bool, length: usize) -> Result<bool, Refusal>
+    ensures { numbered result ≡ scan_of (Form.Runs range) delta length (read_in (Form.Runs range) payload.now) }
 {
     let mut at: usize = 0;
     let mut left = length;
@@ -499,13 +480,13 @@ fn scan_runs(payload: &[u8], range: Range, delta: bool, length: usize) -> Outcom
     loop {
         match run_item(payload, at, range) {
             Item::Run(value, count, next) => {
-                over = either(over, left < count);
-                left = less(left, count);
-                exact = numbers::both(exact, is_exact(value));
+                over |= left < count;
+                left = left.saturating_sub(count);
+                exact &= is_exact(value);
                 at = next;
             }
             Item::Wrong => {
-                return Outcome::Refused(refusal::NUMBER_NOT_ALLOWED);
+                return Err(Refusal::NumberNotAllowed);
             }
             Item::End => {
                 return judged(over, left, exact);
@@ -514,9 +495,9 @@ fn scan_runs(payload: &[u8], range: Range, delta: bool, length: usize) -> Outcom
     }
 }
 
-// The refusal of runs, or 0, by a loop of their range's own.
-fn runs_refusal(payload: &[u8], range: Range, length: usize) -> u8
-    ensures { result ≡ refusal_of length (read_in (Form.Runs range) payload.now) }
+// The refusal of runs, by a loop of their range's own.
+fn runs_refusal(payload: &[u8], range: Range, length: usize) -> Result<(), Refusal>
+    ensures { number_of result ≡ refusal_of length (read_in (Form.Runs range) payload.now) }
 {
     match range {
         Range::Int8 => count_runs(payload, Range::Int8, length),
@@ -526,9 +507,9 @@ fn runs_refusal(payload: &[u8], range: Range, length: usize) -> u8
     }
 }
 
-// The refusal of runs, or 0.
-fn count_runs(payload: &[u8], range: Range, length: usize) -> u8
-    ensures { result ≡ refusal_of length (read_in (Form.Runs range) payload.now) }
+// The refusal of runs: a scan that says nothing of the results, and so has less to do for each run.
+fn count_runs(payload: &[u8], range: Range, length: usize) -> Result<(), Refusal>
+    ensures { number_of result ≡ refusal_of length (read_in (Form.Runs range) payload.now) }
 {
     let mut at: usize = 0;
     let mut left = length;
@@ -536,31 +517,24 @@ fn count_runs(payload: &[u8], range: Range, length: usize) -> u8
     loop {
         match run_item(payload, at, range) {
             Item::Run(_, count, next) => {
-                over = either(over, left < count);
-                left = less(left, count);
+                over |= left < count;
+                left = left.saturating_sub(count);
                 at = next;
             }
-            Item::Wrong => {
-                return refusal::NUMBER_NOT_ALLOWED;
-            }
-            Item::End => {
-                return refusal_in(judged(over, left, false));
-            }
+            Item::Wrong => return Err(Refusal::NumberNotAllowed),
+            Item::End => return refusal_in(judged(over, left, false)),
         }
     }
 }
 
 // What is left of the results and whether there were too many, at the payload's end.
-fn judged(over: bool, left: usize, exact: bool) -> Outcome
-    ensures { result ≡ (if over || not (left == 0) then Outcome.Refused length_differs else Outcome.Fine exact) }
+fn judged(over: bool, left: usize, exact: bool) -> Result<bool, Refusal>
+    ensures { numbered result ≡ (if over || not (left == 0) then Err length_differs else Ok exact) }
 {
-    if over {
-        return Outcome::Refused(refusal::LENGTH_DIFFERS);
+    if over || left != 0 {
+        return Err(Refusal::LengthDiffers);
     }
-    if left != 0 {
-        return Outcome::Refused(refusal::LENGTH_DIFFERS);
-    }
-    Outcome::Fine(exact)
+    Ok(exact)
 }
 
 // The forms whose results are judged to be exact.
@@ -568,14 +542,9 @@ fn judges_exact(form: Form, delta: bool) -> bool
     ensures { result ≡ judges_exact form delta }
 {
     match form {
-        Form::Plain(size) => match size {
-            Size::One => !delta,
-            Size::Two => !delta,
-            Size::Four => false,
-        },
+        Form::Plain(Size::One | Size::Two) | Form::Runs(_) => !delta,
+        Form::Plain(Size::Four) | Form::Names => false,
         Form::Packed(_) => true,
-        Form::Runs(_) => !delta,
-        Form::Names => false,
     }
 }
 
@@ -603,7 +572,7 @@ fn name_item(payload: &[u8], at: usize) -> Item
     Item::Wrong
 }
 
-// One packed result.
+// One packed result. A `while`, since the place moves by a number's size.
 fn packed_item(payload: &[u8], at: usize, size: Size) -> Item
     requires { at ≤ length payload.now }
     ensures { result ≡ item_at (Form.Packed size) payload.now at }
@@ -648,20 +617,7 @@ fn run_item(payload: &[u8], at: usize, range: Range) -> Item
         return Item::Wrong;
     }
     if steps::is_in(value, range) {
-        return Item::Run(value, numbers::to_u32(count) as usize, at + 8);
+        return Item::Run(value, count.cast_unsigned() as usize, at + 8);
     }
     Item::Wrong
-}
-
-// a - b, and 0 where b is larger.
-fn less(a: usize, b: usize) -> usize
-    ensures { result ≡ a - b }
-{
-    if a < b { 0 } else { a - b }
-}
-
-fn either(a: bool, b: bool) -> bool
-    ensures { result ≡ (a || b) }
-{
-    if a { true } else { b }
 }

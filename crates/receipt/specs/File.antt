@@ -2,12 +2,11 @@
 -- file check (`receipt_by`). `ReceiptOf` states the receipt of an accepted file outwards from its document; that of a refused file shows the file's
 -- own number, `verdict_of`, which is defined by the order of the refusals. Then what writing a receipt answers, and what it leaves in the buffer.
 -- No lemma stands here: the laws are in Laws/File.antt. Assumes nothing.
-use Rattle.std.specs.Prelude.{cond, List, ℕ, eqb, length}
+use Rattle.std.specs.Prelude.{cond, Result, Err, List, ℕ, eqb, length}
 use Rattle.std.specs.Int.Count.{ones}
 use Rattle.refusal.specs.Table.{accepted, receipt_malformed}
-use Rattle.refusal.specs.Answer.{answered, leaves}
-use Rattle.refusal.specs.declared.Answer.{Answer}
-use Rattle.refusal.specs.declared.Answer.TheVariants.{Refused}
+use Rattle.refusal.specs.Outcome.{answered}
+use Rattle.refusal.specs.Answer.{leaves}
 use Rattle.structure.specs.Accepted.{Accepted, verdict_of}
 use Rattle.structure.specs.Summary.{accepted_summary, refused, summary_of}
 use Rattle.structure.specs.declared.Summary.{Summary}
@@ -51,8 +50,8 @@ unfoldable pub receipt_text : ℕ → ℕ → List ℕ → List ℕ
 receipt_text station job file = written (receipt_by station job (summary_of file))
 
 -- what writing answers for a buffer of n bytes: 29 for a station or a job out of range, then 25, else the number of bytes
-unfoldable pub receipt_answer : ℕ → ℕ → List ℕ → ℕ → Answer
-receipt_answer station job file n = cond (numbered station job) (answered (length (receipt_text station job file)) n) (Refused receipt_malformed)
+unfoldable pub receipt_answer : ℕ → ℕ → List ℕ → ℕ → Result ℕ ℕ
+receipt_answer station job file n = cond (numbered station job) (answered (length (receipt_text station job file)) n) (Err receipt_malformed)
 
 -- what the buffer holds afterwards: the receipt and then what was there; on refusal what was there
 unfoldable pub receipt_buffer : ℕ → ℕ → List ℕ → List ℕ → List ℕ

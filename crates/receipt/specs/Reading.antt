@@ -1,16 +1,13 @@
 -- What bytes are read as, by a definition: the numbers at the ends of the lines, if they keep the rules and their text is the bytes; else 29. So
 -- nothing but a receipt is read, whatever numbers are tried; that every receipt is read is `reading_of-is` of Laws/Reading.antt. Then the receipt
 -- that stands at a place, whatever follows it. No lemma stands here. Assumes nothing.
-use Rattle.std.specs.Prelude.{Bool, cond, ◌&&◌, List, [], ◌∷◌, ℕ, ◌+◌, ◌-◌, eqb, length, get_or, drop}
+use Rattle.std.specs.Prelude.{Option, Some, None, Result, Ok, Err, Bool, cond, ◌&&◌, List, [], ◌∷◌, ℕ, ◌+◌, ◌-◌, eqb, length, get_or, drop}
 use Rattle.refusal.specs.Table.{receipt_malformed}
 use Rattle.text.specs.Equal.{equal, begins}
 use Rattle.text.specs.Decimal.{is_digit, with_digit}
 use Rattle.receipt.specs.Receipt.{written, rules_kept}
 use Rattle.receipt.specs.declared.Receipt.{Receipt}
-use Rattle.receipt.specs.declared.Reading.{Reading}
-use Rattle.receipt.specs.declared.Reading.TheVariants.{Numbers, Refused}
 use Rattle.receipt.specs.declared.Found.{Found}
-use Rattle.receipt.specs.declared.Found.TheVariants.{At, None}
 
 -- a number with one digit more; as it was where the byte is no digit
 abbrev pub with_byte : ℕ → ℕ → ℕ
@@ -41,15 +38,19 @@ unfoldable pub read_from : List ℕ → Receipt
 read_from bytes = receipt_from (line_numbers bytes 0)
 
 -- the numbers at the ends of the lines, if they keep the rules and their text is the bytes; else 29
-unfoldable pub reading_of : List ℕ → Reading
+unfoldable pub reading_of : List ℕ → Result Receipt ℕ
 reading_of bytes =
-    cond (rules_kept (read_from bytes) && equal (written (read_from bytes)) bytes) (Numbers (read_from bytes)) (Refused receipt_malformed)
+    cond (rules_kept (read_from bytes) && equal (written (read_from bytes)) bytes) (Ok (read_from bytes)) (Err receipt_malformed)
 
 -- whether a receipt stands at the front of the bytes, whatever follows it
 unfoldable pub has_front : List ℕ → Bool
 has_front bytes = rules_kept (read_from bytes) && begins (written (read_from bytes)) bytes
 
+-- a receipt that was found, and where it ends
+abbrev pub At : Receipt → ℕ → Option Found
+At r end = Some (record { receipt = r; end = end })
+
 -- the receipt that stands at a place, and where it ends
-unfoldable pub found_at : List ℕ → ℕ → Found
+unfoldable pub found_at : List ℕ → ℕ → Option Found
 found_at bytes at =
     cond (has_front (drop at bytes)) (At (read_from (drop at bytes)) (at + length (written (read_from (drop at bytes))))) None

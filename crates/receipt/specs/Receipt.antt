@@ -1,6 +1,6 @@
 -- Receipts (paper 01, "Views and the receipt"): their numbers, the rules that these keep, their bytes, and which bytes are a receipt. No reader
 -- and no lemma stands here: the laws are in Laws/Reading.antt. Assumes nothing.
-use Rattle.std.specs.Prelude.{◌≡◌, Bool, true, cond, ◌&&◌, List, [], ◌∷◌, ◌++◌, ℕ, eqb, leb}
+use Rattle.std.specs.Prelude.{◌≡◌, Result, Ok, Err, Bool, true, cond, ◌&&◌, List, [], ◌∷◌, ◌++◌, ℕ, eqb, leb}
 use Prim.Native.String as Text
 use Rattle.refusal.specs.Table.{accepted, version_not1, receipt_malformed}
 use Rattle.numbers.specs.Ranges.{within}
@@ -9,8 +9,6 @@ use Rattle.counts.specs.Counts.{count_limit}
 use Rattle.text.specs.Decimal.{decimal}
 use Rattle.text.specs.Ascii.{ascii}
 use Rattle.receipt.specs.declared.Receipt.{Receipt}
-use Rattle.receipt.specs.declared.Reading.{Reading}
-use Rattle.receipt.specs.declared.Reading.TheVariants.{Numbers, Refused}
 
 -- the last station and job
 abbrev pub station_limit : ℕ
@@ -91,6 +89,6 @@ pub record IsReceipt (bytes : List ℕ) (r : Receipt) : Type 0 where
   pub text : bytes ≡ written r
 
 -- what reading answers: the numbers of the receipt that the bytes are; 29 where they are none
-pub data Reads (bytes : List ℕ) : Reading → Type 0 where
-  is : {r : Receipt} → IsReceipt bytes r → Reads bytes (Numbers r)
-  none : ((r : Receipt) → IsReceipt bytes r → ⊥) → Reads bytes (Refused receipt_malformed)
+pub data Reads (bytes : List ℕ) : Result Receipt ℕ → Type 0 where
+  is : {r : Receipt} → IsReceipt bytes r → Reads bytes (Ok r)
+  none : ((r : Receipt) → IsReceipt bytes r → ⊥) → Reads bytes (Err receipt_malformed)

@@ -1,5 +1,5 @@
 -- For the code inside: a receipt's lines in parts as they are put, and one after another as they are read. No lemma stands here. Assumes nothing.
-use Rattle.std.specs.Prelude.{Bool, cond, ◌&&◌, List, [], ◌∷◌, ◌++◌, ℕ, suc, ◌+◌, ◌*◌, ◌-◌, eqb, length, drop}
+use Rattle.std.specs.Prelude.{Option, Some, None, Bool, cond, ◌&&◌, List, [], ◌∷◌, ◌++◌, ℕ, suc, ◌+◌, ◌*◌, ◌-◌, eqb, length, drop}
 use Rattle.numbers.specs.Ranges.{within}
 use Rattle.text.specs.Ascii.{ascii}
 use Rattle.text.specs.Equal.{begins}
@@ -28,6 +28,11 @@ last_lines r = named_line "fields" r.fields ++ named_line "units" r.units
 -- what stands for a line that is not there: a number that no receipt has
 abbrev pub no_line : Line
 no_line = record { number = 4294967295; end = 0 }
+
+-- a line, or what stands for one that is not there
+abbrev pub line_or_none : Option Line → Line
+line_or_none (Some l) = l
+line_or_none None = no_line
 
 -- whether a byte is a digit that can follow those of a number: not after a leading zero, and not after nine digits
 abbrev pub takes_digit : ℕ → ℕ → Bool

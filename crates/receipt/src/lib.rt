@@ -2,7 +2,8 @@
 // read back from bytes that are a receipt by the rules of paper 01, or found at a place of bytes that go on.
 #![tactic(auto)]
 
-ghost use Rattle.std.specs.Prelude.{◌≡◌, ℕ, length, take, drop};
+ghost use Rattle.std.specs.Prelude.{◌≡◌, Ok, ℕ, length, take, drop};
+ghost use Rattle.refusal.specs.Outcome.{numbered as with_number};
 ghost use Rattle.numbers.specs.Ranges.{within};
 ghost use Rattle.text.specs.Put.{Put};
 ghost use Rattle.receipt.specs.Receipt.{page_room, numbered, accepted_right, refused_right, line, written, rules_kept};
@@ -10,9 +11,9 @@ ghost use Rattle.structure.specs.Summary.{summary_of};
 ghost use Rattle.receipt.specs.File.{units_of, receipt_by, Receipted, receipt_answer, receipt_buffer};
 ghost use Rattle.text.specs.Decimal.{is_digit};
 ghost use Rattle.receipt.specs.Reading.{reading_of, found_at};
-ghost use Rattle.receipt.specs.Steps.{counts_lines, first_lines, last_lines, no_line, takes_digit, digits_at, number_at, line_at};
+ghost use Rattle.receipt.specs.Steps.{counts_lines, first_lines, last_lines, line_or_none, takes_digit, digits_at, number_at, line_at};
 
-use refusal::Answer;
+use refusal::Refusal;
 
 // The last station and job.
 pub const STATION_LIMIT: u32 = 99;
@@ -20,7 +21,7 @@ pub const STATION_LIMIT: u32 = 99;
 pub const JOB_LIMIT: u32 = 999_999;
 
 // The last verdict on a file, the most of each count, and the fewest and the most fields.
-const VERDICT_LIMIT: u32 = refusal::VERSION_NOT_1 as u32;
+const VERDICT_LIMIT: u32 = Refusal::VersionNot1 as u32;
 
 const COUNT_LIMIT: u32 = counts::COUNT_LIMIT as u32;
 
@@ -49,18 +50,11 @@ pub struct Receipt {
     pub units: u32,
 }
 
-// What bytes are read as: a receipt's numbers, or the refusal.
+// A receipt that stands at a place of bytes, and where it ends.
 #[derive(Clone, Copy)]
-pub enum Reading {
-    Numbers(Receipt),
-    Refused(u8),
-}
-
-// What stands at a place of bytes: a receipt, and where it ends; or none.
-#[derive(Clone, Copy)]
-pub enum Found {
-    At(Receipt, usize),
-    None,
+pub struct Found {
+    pub receipt: Receipt,
+    pub end: usize,
 }
 
 // A line of a receipt: its number, and the place after it.
@@ -71,21 +65,21 @@ pub struct Line {
 }
 
 // Writes the receipt of a file into the buffer: 29 for a station or a job out of range, then 25. A refused file gets its receipt too.
-pub fn write(station: u32, job: u32, file: &[u8], buffer: &mut [u8]) -> Answer
-    ensures answer { result ≡ receipt_answer station job file.now (length buffer.old) }
+pub fn write(station: u32, job: u32, file: &[u8], buffer: &mut [u8]) -> Result<usize, Refusal>
+    ensures answer { with_number result ≡ receipt_answer station job file.now (length buffer.old) }
     ensures buffer { buffer.new ≡ receipt_buffer station job file.now buffer.old }
-    ensures receipt { (n : ℕ) → result ≡ Answer.Count n → Receipted station job file.now (take n buffer.new) }
+    ensures receipt { (n : ℕ) → result ≡ Ok n → Receipted station job file.now (take n buffer.new) }
 {
     if !is_numbered(station, job) {
-        return Answer::Refused(refusal::RECEIPT_MALFORMED);
+        return Err(Refusal::ReceiptMalformed);
     }
     let mut page = blank();
     let end = put_receipt(&mut page, receipt_of(station, job, file));
     if buffer.len() < end {
-        return Answer::Refused(refusal::BUFFER_TOO_SMALL);
+        return Err(Refusal::BufferTooSmall);
     }
     text::put(buffer, 0, &page[..end]);
-    Answer::Count(end)
+    Ok(end)
 }
 
 // The numbers of the receipt of a file.
@@ -96,7 +90,7 @@ fn receipt_of(station: u32, job: u32, file: &[u8]) -> Receipt
     Receipt {
         station,
         job,
-        verdict: numbers::u8_to_u32(summary.verdict),
+        verdict: u32::from(summary.verdict),
         models: summary.models,
         chains: summary.chains,
         groups: summary.groups,
@@ -111,39 +105,33 @@ fn receipt_of(station: u32, job: u32, file: &[u8]) -> Receipt
 fn units_of(verdict: u8) -> u32
     ensures { result ≡ units_of verdict }
 {
-    if verdict == refusal::ACCEPTED {
-        return 1;
-    }
-    0
+    if verdict == refusal::ACCEPTED { 1 } else { 0 }
 }
 
 // Reads a receipt: its numbers exactly when the bytes are a receipt, else 29.
-pub fn read(bytes: &[u8]) -> Reading
-    ensures { result ≡ reading_of bytes.now }
+pub fn read(bytes: &[u8]) -> Result<Receipt, Refusal>
+    ensures { with_number result ≡ reading_of bytes.now }
 {
-    let Found::At(receipt, end) = find(bytes, 0) else {
-        return Reading::Refused(refusal::RECEIPT_MALFORMED);
-    };
-    if end != bytes.len() {
-        return Reading::Refused(refusal::RECEIPT_MALFORMED);
+    match find(bytes, 0) {
+        Some(found) if found.end == bytes.len() => Ok(found.receipt),
+        _ => Err(Refusal::ReceiptMalformed),
     }
-    Reading::Numbers(receipt)
 }
 
 // The receipt that stands at a place, whatever follows it, and where it ends; none where no receipt stands there.
-pub fn find(bytes: &[u8], at: usize) -> Found
+pub fn find(bytes: &[u8], at: usize) -> Option<Found>
     ensures { result ≡ found_at bytes.now at }
 {
-    let station = line_at(bytes, at, b"station=");
-    let job = line_at(bytes, station.end, b"job=");
-    let verdict = line_at(bytes, job.end, b"verdict=");
-    let models = line_at(bytes, verdict.end, b"models=");
-    let chains = line_at(bytes, models.end, b"chains=");
-    let groups = line_at(bytes, chains.end, b"groups=");
-    let atoms = line_at(bytes, groups.end, b"atoms=");
-    let bonds = line_at(bytes, atoms.end, b"bonds=");
-    let fields = line_at(bytes, bonds.end, b"fields=");
-    let units = line_at(bytes, fields.end, b"units=");
+    let station = line_at(bytes, at, b"station=")?;
+    let job = line_at(bytes, station.end, b"job=")?;
+    let verdict = line_at(bytes, job.end, b"verdict=")?;
+    let models = line_at(bytes, verdict.end, b"models=")?;
+    let chains = line_at(bytes, models.end, b"chains=")?;
+    let groups = line_at(bytes, chains.end, b"groups=")?;
+    let atoms = line_at(bytes, groups.end, b"atoms=")?;
+    let bonds = line_at(bytes, atoms.end, b"bonds=")?;
+    let fields = line_at(bytes, bonds.end, b"fields=")?;
+    let units = line_at(bytes, fields.end, b"units=")?;
     let receipt = Receipt {
         station: station.number,
         job: job.number,
@@ -157,81 +145,72 @@ pub fn find(bytes: &[u8], at: usize) -> Found
         units: units.number,
     };
     if !is_allowed(receipt) {
-        return Found::None;
+        return None;
     }
-    Found::At(receipt, units.end)
+    Some(Found {
+        receipt,
+        end: units.end,
+    })
 }
 
-// The line at a place that begins with a word: its number, and the place after it. Where there is no such line, the number is one that no receipt has.
-fn line_at(bytes: &[u8], at: usize, word: &[u8]) -> Line
-    ensures { result ≡ line_at word.now bytes.now at }
+// The line at a place that begins with a word: its number, and the place after it.
+fn line_at(bytes: &[u8], at: usize, word: &[u8]) -> Option<Line>
+    ensures { line_or_none result ≡ line_at word.now bytes.now at }
 {
     if !text::stands_at(bytes, at, word) {
-        return no_line();
+        return None;
     }
     number_at(bytes, at + word.len())
 }
 
 // The number in decimal at a place with a line feed after it, and the place after that.
-fn number_at(bytes: &[u8], at: usize) -> Line
-    ensures { result ≡ number_at (drop at bytes.now) at }
+fn number_at(bytes: &[u8], at: usize) -> Option<Line>
+    ensures { line_or_none result ≡ number_at (drop at bytes.now) at }
 {
     if bytes.len() <= at {
-        return no_line();
+        return None;
     }
     let byte = bytes[at];
     if !is_digit(byte) {
-        return no_line();
+        return None;
     }
-    digits_at(bytes, at + 1, numbers::u8_to_u32(byte - b'0'))
+    digits_at(bytes, at + 1, u32::from(byte - b'0'))
 }
 
 // The number that goes on at a place after digits that say `number`: further digits up to a line feed. There is none after a leading zero, and none
 // of more than nine digits.
-fn digits_at(bytes: &[u8], at: usize, number: u32) -> Line
-    ensures { result ≡ digits_at (drop at bytes.now) number at }
+fn digits_at(bytes: &[u8], at: usize, number: u32) -> Option<Line>
+    ensures { line_or_none result ≡ digits_at (drop at bytes.now) number at }
 {
     let mut said = number;
-    let mut i = at;
-    while i < bytes.len() {
+    for i in at..bytes.len() {
         let byte = bytes[i];
         if byte == b'\n' {
-            return Line {
+            return Some(Line {
                 number: said,
                 end: i + 1,
-            };
+            });
         }
         if !takes_digit(said, byte) {
-            return no_line();
+            return None;
         }
-        said = said * 10 + numbers::u8_to_u32(byte - b'0');
-        i += 1;
+        said = said * 10 + u32::from(byte - b'0');
     }
-    no_line()
-}
-
-// What stands for a line that is not there.
-fn no_line() -> Line
-    ensures { result ≡ no_line }
-{
-    Line {
-        number: u32::MAX,
-        end: 0,
-    }
+    None
 }
 
 // Whether a byte is a digit that can follow those of a number.
 fn takes_digit(number: u32, byte: u8) -> bool
     ensures { result ≡ takes_digit number byte }
 {
-    numbers::both(is_digit(byte), is_within(1, 99_999_999, number))
+    is_digit(byte) && is_within(1, 99_999_999, number)
 }
 
 // Whether a byte is a decimal digit.
 fn is_digit(byte: u8) -> bool
     ensures { result ≡ is_digit byte }
 {
-    numbers::both(b'0' <= byte, byte <= b'9')
+    byte.is_ascii_digit()
 }
 
 // Whether the numbers are those of a receipt.
@@ -254,43 +233,40 @@ fn is_allowed(receipt: Receipt) -> bool
 fn is_numbered(station: u32, job: u32) -> bool
     ensures { result ≡ numbered station job }
 {
-    numbers::both(
-        is_within(1, STATION_LIMIT, station),
-        is_within(1, JOB_LIMIT, job),
-    )
+    is_within(1, STATION_LIMIT, station) && is_within(1, JOB_LIMIT, job)
 }
 
 // Whether the seven lines after a verdict 0 are right: counts, fields and one unit.
 fn is_accepted(receipt: Receipt) -> bool
     ensures { result ≡ accepted_right receipt }
 {
-    let inner = numbers::both(receipt.atoms <= COUNT_LIMIT, receipt.bonds <= COUNT_LIMIT);
-    let middle = numbers::both(receipt.groups <= COUNT_LIMIT, inner);
-    let outer = numbers::both(receipt.chains <= COUNT_LIMIT, middle);
-    let counts = numbers::both(receipt.models <= COUNT_LIMIT, outer);
-    let fields = is_within(FIELDS_LEAST, FIELDS_MOST, receipt.fields);
-    numbers::both(counts, numbers::both(fields, receipt.units == 1))
+    receipt.models <= COUNT_LIMIT
+        && receipt.chains <= COUNT_LIMIT
+        && receipt.groups <= COUNT_LIMIT
+        && receipt.atoms <= COUNT_LIMIT
+        && receipt.bonds <= COUNT_LIMIT
+        && is_within(FIELDS_LEAST, FIELDS_MOST, receipt.fields)
+        && receipt.units == 1
 }
 
 // Whether the seven lines after another verdict are right: all 0.
 fn is_refused(receipt: Receipt) -> bool
     ensures { result ≡ refused_right receipt }
 {
-    let inner = numbers::both(receipt.atoms == 0, receipt.bonds == 0);
-    let middle = numbers::both(receipt.groups == 0, inner);
-    let outer = numbers::both(receipt.chains == 0, middle);
-    let counts = numbers::both(receipt.models == 0, outer);
-    numbers::both(
-        counts,
-        numbers::both(receipt.fields == 0, receipt.units == 0),
-    )
+    receipt.models == 0
+        && receipt.chains == 0
+        && receipt.groups == 0
+        && receipt.atoms == 0
+        && receipt.bonds == 0
+        && receipt.fields == 0
+        && receipt.units == 0
 }
 
 // Whether a number is between two others, these included.
 fn is_within(low: u32, high: u32, number: u32) -> bool
     ensures { result ≡ within low high number }
 {
-    numbers::both(low <= number, number <= high)
+    low <= number && number <= high
 }
 
 // A page with nothing on it.

@@ -3,7 +3,7 @@
 -- Laws/Table.antt. Assumes nothing.
 use Rattle.std.specs.Prelude.{ℕ}
 use Rattle.refusal.specs.declared.Refusal.{Refusal}
-use Rattle.refusal.specs.declared.Refusal.TheVariants.{Accepted, FileOverLimit, CutShort, LeadByteUnknown, UnsignedTooLarge, StringNotUtf8, NestedTooDeep, TooManyEntries, KeyNotString, KeyRepeated, OuterNotMap, BytesAfter, FieldMissing, FieldType, ColumnShort, CodecUnknown, HeaderRange, PayloadSize, NumberNotAllowed, LengthDiffers, CountsDisagree, IndexOutside, ValueOutside, TooManyGroupTypes, VersionNot1, BufferTooSmall, NoSuchField, NotExact, NoSuchEntry, ReceiptMalformed, JobNotRising}
+use Rattle.refusal.specs.declared.Refusal.TheVariants.{FileOverLimit, CutShort, LeadByteUnknown, UnsignedTooLarge, StringNotUtf8, NestedTooDeep, TooManyEntries, KeyNotString, KeyRepeated, OuterNotMap, BytesAfter, FieldMissing, FieldType, ColumnShort, CodecUnknown, HeaderRange, PayloadSize, NumberNotAllowed, LengthDiffers, CountsDisagree, IndexOutside, ValueOutside, TooManyGroupTypes, VersionNot1, BufferTooSmall, NoSuchField, NotExact, NoSuchEntry, ReceiptMalformed, JobNotRising}
 
 -- accepted
 abbrev pub accepted : ℕ
@@ -131,7 +131,6 @@ job_not_rising = 30
 
 -- the number of a meaning
 abbrev pub refusal_number : Refusal → ℕ
-refusal_number Accepted = accepted
 refusal_number FileOverLimit = file_over_limit
 refusal_number CutShort = cut_short
 refusal_number LeadByteUnknown = lead_byte_unknown

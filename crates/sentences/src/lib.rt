@@ -3,18 +3,19 @@
 #![tactic(auto)]
 
 ghost use Rattle.std.specs.Prelude.{◌≡◌};
+ghost use Rattle.refusal.specs.Table.{refusal_number};
 ghost use Rattle.text.specs.Put.{Put};
 ghost use Rattle.text.specs.Ascii.{ascii};
-ghost use Rattle.meanings.specs.Meanings.{text_in};
 ghost use Rattle.sentences.specs.Shown.{replaced, printing, shown_byte, shown, file_name};
 ghost use Rattle.sentences.specs.Reasons.{error_text, reason_text};
-ghost use Rattle.sentences.specs.Sentences.{is_gzip, advice_of, refusal_of, reason_of, receipt_of, mark_text, sentence_text};
-ghost use Rattle.sentences.specs.Steps.{forms, verdict_row, bill_row, row_of};
+ghost use Rattle.sentences.specs.Sentences.{is_gzip, advice_of, refusal_of, reason_of, receipt_of, form_of, mark_of, sentence_text};
+ghost use Rattle.sentences.specs.Steps.{verdict_row, bill_row, row_of};
+
+use refusal::Refusal;
 
 // What a person can do about a refused file.
 #[derive(Clone, Copy)]
 pub enum Advice {
-    None,
     Floats,
     Gzip,
 }
@@ -26,7 +27,7 @@ pub enum OfFile {
     Unreadable(u32),
 }
 
-// What is said of a part of a file. A refusal has its number.
+// What is said of a part of a file.
 #[derive(Clone, Copy)]
 pub enum OfPart {
     NoField,
@@ -34,7 +35,7 @@ pub enum OfPart {
     NotShown,
     Nested,
     IsBinary,
-    Refused(u8),
+    Refused(Refusal),
 }
 
 // What is said of a word.
@@ -46,49 +47,42 @@ pub enum OfWord {
 }
 
 // A sentence: the verdict on a file; what else is said of a file, of a part of it or of a word; the refusal of receipts, with the number in its file
-// of the one at fault; or why the output was not written.
+// of the one at fault; or why the output was not written. A verdict is a number and no `Refusal`, since it may come from a receipt's text.
 #[derive(Clone, Copy)]
 pub enum Sentence {
-    Verdict(u8, Advice),
+    Verdict(u8, Option<Advice>),
     File(OfFile),
     Part(OfPart),
     Word(OfWord),
-    Bill(u8, u32),
+    Bill(Refusal, u32),
     Unwritten(u32),
 }
 
 // What to do about a file with a refusal number.
-pub fn advice_of(file: &[u8], number: u8) -> Advice
+pub fn advice_of(file: &[u8], number: u8) -> Option<Advice>
     ensures { result ≡ advice_of file.now number }
 {
     if is_gzip(file) {
-        return Advice::Gzip;
+        Some(Advice::Gzip)
+    } else if number == Refusal::LeadByteUnknown.number() {
+        Some(Advice::Floats)
+    } else {
+        None
     }
-    if number == refusal::LEAD_BYTE_UNKNOWN {
-        return Advice::Floats;
-    }
-    Advice::None
 }
 
 // Whether a file begins as gzip writes it.
 fn is_gzip(file: &[u8]) -> bool
     ensures { result ≡ is_gzip file.now }
 {
-    if file.len() < 2 {
-        return false;
-    }
-    text::same_bytes(&file[..2], b"\x1f\x8b")
+    file.starts_with(b"\x1f\x8b")
 }
 
 // Puts a sentence about a subject, a file or a word, at the start of a buffer, and gives its end. A part of a file has a name.
 pub fn put_sentence(buffer: &mut [u8], subject: &[u8], name: &[u8], sentence: Sentence) -> usize
     ensures { Put buffer.old 0 (sentence_text subject.now name.now sentence) buffer.new result }
 {
-    let row = row_of(sentence);
-    let refusal = refusal_of(sentence);
-    let reason = reason_of(sentence);
-    let receipt = receipt_of(sentence);
-    let end = put_form(buffer, subject, name, row, refusal, reason, receipt);
+    let end = put_form(buffer, subject, name, sentence);
     text::put_byte(buffer, end, b'\n')
 }
 
@@ -98,53 +92,45 @@ fn row_of(sentence: Sentence) -> u32
 {
     match sentence {
         Sentence::Verdict(number, advice) => verdict_row(number, advice),
-        Sentence::File(said) => match said {
-            OfFile::TooLong => 5,
-            OfFile::Unreadable(_) => 6,
-        },
-        Sentence::Part(said) => match said {
-            OfPart::NoField => 7,
-            OfPart::NoColumn => 8,
-            OfPart::NotShown => 9,
-            OfPart::Nested => 10,
-            OfPart::IsBinary => 11,
-            OfPart::Refused(_) => 12,
-        },
-        Sentence::Word(said) => match said {
-            OfWord::NoCommand => 13,
-            OfWord::NoStation => 14,
-            OfWord::NoJob => 15,
-        },
-        Sentence::Bill(number, _) => bill_row(number),
+        Sentence::File(OfFile::TooLong) => 5,
+        Sentence::File(OfFile::Unreadable(_)) => 6,
+        Sentence::Part(OfPart::NoField) => 7,
+        Sentence::Part(OfPart::NoColumn) => 8,
+        Sentence::Part(OfPart::NotShown) => 9,
+        Sentence::Part(OfPart::Nested) => 10,
+        Sentence::Part(OfPart::IsBinary) => 11,
+        Sentence::Part(OfPart::Refused(_)) => 12,
+        Sentence::Word(OfWord::NoCommand) => 13,
+        Sentence::Word(OfWord::NoStation) => 14,
+        Sentence::Word(OfWord::NoJob) => 15,
+        Sentence::Bill(refusal, _) => bill_row(refusal),
         Sentence::Unwritten(_) => 19,
     }
 }
 
 // The row of the verdict on a file.
-fn verdict_row(number: u8, advice: Advice) -> u32
+fn verdict_row(number: u8, advice: Option<Advice>) -> u32
     ensures { result ≡ verdict_row number advice }
 {
     if number == refusal::ACCEPTED {
         return 1;
     }
     match advice {
-        Advice::None => 2,
-        Advice::Floats => 3,
-        Advice::Gzip => 4,
+        None => 2,
+        Some(Advice::Floats) => 3,
+        Some(Advice::Gzip) => 4,
     }
 }
 
 // The row of receipts that are refused.
-fn bill_row(number: u8) -> u32
-    ensures { result ≡ bill_row number }
+fn bill_row(refusal: Refusal) -> u32
+    ensures { result ≡ bill_row (refusal_number refusal) }
 {
-    if number == refusal::FILE_OVER_LIMIT {
-        return 16;
+    match refusal {
+        Refusal::FileOverLimit => 16,
+        Refusal::JobNotRising => 17,
+        _ => 18,
     }
-    if number == refusal::JOB_NOT_RISING {
-        return 17;
-    }
-    18
 }
 
 // The number of the refusal that a sentence says, or 0.
@@ -153,18 +139,8 @@ fn refusal_of(sentence: Sentence) -> u8
 {
     match sentence {
         Sentence::Verdict(number, _) => number,
-        Sentence::File(_) => 0,
-        Sentence::Part(said) => match said {
-            OfPart::NoField => 0,
-            OfPart::NoColumn => 0,
-            OfPart::NotShown => 0,
-            OfPart::Nested => 0,
-            OfPart::IsBinary => 0,
-            OfPart::Refused(number) => number,
-        },
-        Sentence::Word(_) => 0,
-        Sentence::Bill(number, _) => number,
-        Sentence::Unwritten(_) => 0,
+        Sentence::Part(OfPart::Refused(refusal)) | Sentence::Bill(refusal, _) => refusal.number(),
+        _ => refusal::ACCEPTED,
     }
 }
 
@@ -173,15 +149,8 @@ fn reason_of(sentence: Sentence) -> u32
     ensures { result ≡ reason_of sentence }
 {
     match sentence {
-        Sentence::Verdict(_, _) => 0,
-        Sentence::File(said) => match said {
-            OfFile::TooLong => 0,
-            OfFile::Unreadable(reason) => reason,
-        },
-        Sentence::Part(_) => 0,
-        Sentence::Word(_) => 0,
-        Sentence::Bill(_, _) => 0,
-        Sentence::Unwritten(reason) => reason,
+        Sentence::File(OfFile::Unreadable(reason)) | Sentence::Unwritten(reason) => reason,
+        _ => 0,
     }
 }
 
@@ -190,27 +159,14 @@ fn receipt_of(sentence: Sentence) -> u32
     ensures { result ≡ receipt_of sentence }
 {
     match sentence {
-        Sentence::Verdict(_, _) => 0,
-        Sentence::File(_) => 0,
-        Sentence::Part(_) => 0,
-        Sentence::Word(_) => 0,
         Sentence::Bill(_, receipt) => receipt,
-        Sentence::Unwritten(_) => 0,
+        _ => 0,
     }
 }
 
-// Puts the form in a row of the table at the start of a buffer, each mark replaced. The table has for each form a byte with its row, the form, and a
-// line feed.
-fn put_form(
-    buffer: &mut [u8],
-    subject: &[u8],
-    name: &[u8],
-    row: u32,
-    refusal: u8,
-    reason: u32,
-    receipt: u32,
-) -> usize
-    ensures { Put buffer.old 0 (replaced (mark_text subject.now name.now refusal reason receipt) (text_in forms row)) buffer.new result }
+// Puts the form of a sentence at the start of a buffer, each mark replaced. The table has for each form a byte with its row, the form, and a line feed.
+fn put_form(buffer: &mut [u8], subject: &[u8], name: &[u8], sentence: Sentence) -> usize
+    ensures { Put buffer.old 0 (replaced (mark_of subject.now name.now sentence) (form_of sentence)) buffer.new result }
 {
     let form = meanings::words_in(
         b"\x01@ is accepted.\n\
@@ -232,9 +188,9 @@ fn put_form(
         \x11Receipt ~ of & is refused with #: *. Put the receipts of each station in the order of their jobs.\n\
         \x12Receipt ~ of & is refused with #: *. Receipts stand one directly after another, each as \"station receipt\" writes it.\n\
         \x13The output was not written whole: !.\n",
-        row,
+        row_of(sentence),
     );
-    put_replaced(buffer, form, subject, name, refusal, reason, receipt)
+    put_replaced(buffer, form, subject, name, sentence)
 }
 
 // Puts a form at the start of a buffer, each mark replaced.
@@ -243,19 +199,13 @@ fn put_replaced(
     form: &[u8],
     subject: &[u8],
     name: &[u8],
-    refusal: u8,
-    reason: u32,
-    receipt: u32,
+    sentence: Sentence,
 ) -> usize
-    ensures { Put buffer.old 0 (replaced (mark_text subject.now name.now refusal reason receipt) form.now) buffer.new result }
+    ensures { Put buffer.old 0 (replaced (mark_of subject.now name.now sentence) form.now) buffer.new result }
 {
     let mut next: usize = 0;
-    let mut i: usize = 0;
-    while i < form.len() {
-        next = put_mark(
-            buffer, next, form[i], subject, name, refusal, reason, receipt,
-        );
-        i += 1;
+    for mark in form {
+        next = put_mark(buffer, next, *mark, subject, name, sentence);
     }
     next
 }
@@ -267,21 +217,19 @@ fn put_mark(
     mark: u8,
     subject: &[u8],
     name: &[u8],
-    refusal: u8,
-    reason: u32,
-    receipt: u32,
+    sentence: Sentence,
 ) -> usize
-    ensures { Put buffer.old at (mark_text subject.now name.now refusal reason receipt mark) buffer.new result }
+    ensures { Put buffer.old at (mark_of subject.now name.now sentence mark) buffer.new result }
 {
     match mark {
         b'@' => put_name(buffer, at, subject, b"Standard input"),
         b'&' => put_name(buffer, at, subject, b"standard input"),
         b'$' => put_shown(buffer, at, name),
         b'%' => put_shown(buffer, at, subject),
-        b'#' => text::put_decimal(buffer, at, refusal as u32),
-        b'*' => meanings::put_meaning(buffer, at, refusal),
-        b'!' => put_reason(buffer, at, reason),
-        b'~' => text::put_decimal(buffer, at, receipt),
+        b'#' => text::put_decimal(buffer, at, u32::from(refusal_of(sentence))),
+        b'*' => meanings::put_meaning(buffer, at, refusal_of(sentence)),
+        b'!' => put_reason(buffer, at, reason_of(sentence)),
+        b'~' => text::put_decimal(buffer, at, receipt_of(sentence)),
         _ => text::put_byte(buffer, at, mark),
     }
 }
@@ -313,7 +261,7 @@ fn put_reason(buffer: &mut [u8], at: usize, reason: u32) -> usize
         \x7aDisk quota exceeded\n",
         reason,
     );
-    if words.len() == 0 {
+    if words.is_empty() {
         return put_error(buffer, at, reason);
     }
     text::put(buffer, at, words)
@@ -334,7 +282,7 @@ fn put_name(buffer: &mut [u8], at: usize, file: &[u8], input: &[u8]) -> usize
     if text::same_bytes(file, b"-") {
         return text::put(buffer, at, input);
     }
-    if file.len() == 0 {
+    if file.is_empty() {
         return text::put(buffer, at, b"\"\"");
     }
     put_shown(buffer, at, file)
@@ -345,10 +293,8 @@ fn put_shown(buffer: &mut [u8], at: usize, word: &[u8]) -> usize
     ensures { Put buffer.old at (shown word.now) buffer.new result }
 {
     let mut next = at;
-    let mut i: usize = 0;
-    while i < word.len() {
-        next = put_shown_byte(buffer, next, word[i]);
-        i += 1;
+    for byte in word {
+        next = put_shown_byte(buffer, next, *byte);
     }
     next
 }
@@ -360,8 +306,8 @@ fn put_shown_byte(buffer: &mut [u8], at: usize, byte: u8) -> usize
     if prints(byte) {
         return text::put_byte(buffer, at, byte);
     }
-    let high = text::digit((byte / 16) as u32);
-    let low = text::digit((byte % 16) as u32);
+    let high = text::digit(u32::from(byte / 16));
+    let low = text::digit(u32::from(byte % 16));
     text::put(buffer, at, &[b'\\', b'x', high, low])
 }
 
@@ -369,11 +315,5 @@ fn put_shown_byte(buffer: &mut [u8], at: usize, byte: u8) -> usize
 fn prints(byte: u8) -> bool
     ensures { result ≡ printing byte }
 {
-    if byte < 32 {
-        return false;
-    }
-    if byte == 127 {
-        return false;
-    }
-    true
+    32 <= byte && byte != 127
 }

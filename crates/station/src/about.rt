@@ -1,11 +1,12 @@
 // What the program says of itself.
 use crate::system::Stream;
-use crate::{output, say};
+use crate::{output, say, system};
 use commands::words::Command;
+use std::io::Result;
 
 // Writes how the program is used.
-pub(crate) fn write_usage(rt: HostRuntime, stream: Stream) -> bool {
-    output::write_to(
+pub(crate) fn write_usage(rt: HostRuntime, stream: Stream) -> Result<()> {
+    system::write_all(
         rt,
         stream,
         b"station check FILE...              says of each file whether it is accepted, or why it is refused\n\
@@ -30,33 +31,28 @@ pub(crate) fn write_usage(rt: HostRuntime, stream: Stream) -> bool {
 }
 
 // Writes the version of the program.
-pub(crate) fn write_version(rt: HostRuntime) -> bool {
+pub(crate) fn write_version(rt: HostRuntime) -> Result<()> {
     output::write(rt, b"station 0.10.0\n")
 }
 
-// Says which words a command takes.
+// Says which words a command takes; nothing of a word that is no command.
 pub(crate) fn say_usage_of(rt: HostRuntime, command: Command) {
+    say::say_bytes(rt, usage_of(command));
+}
+
+// The sentence that says which words a command takes.
+fn usage_of(command: Command) -> &'static [u8] {
     match command {
-        Command::Check => say::say_bytes(rt, b"Usage: station check FILE...\n"),
-        Command::Receipt => say::say_bytes(rt, b"Usage: station receipt STATION JOB FILE\n"),
-        Command::Bill => say::say_bytes(rt, b"Usage: station bill FILE...\n"),
-        Command::Fields => say::say_bytes(rt, b"Usage: station fields FILE\n"),
-        Command::View => say_view_usage(rt),
-        Command::RawView => say_view_usage(rt),
-        Command::Column => say_column_usage(rt),
-        Command::RawColumn => say_column_usage(rt),
-        Command::Help => say::say_bytes(rt, b"Usage: station help\n"),
-        Command::Version => say::say_bytes(rt, b"Usage: station --version\n"),
-        _ => {}
+        Command::Check => b"Usage: station check FILE...\n",
+        Command::Receipt => b"Usage: station receipt STATION JOB FILE\n",
+        Command::Bill => b"Usage: station bill FILE...\n",
+        Command::Fields => b"Usage: station fields FILE\n",
+        Command::View { .. } => b"Usage: station view [--raw] FILE NAME\n",
+        Command::Column { .. } => b"Usage: station column [--raw] FILE NAME\n",
+        Command::Help => b"Usage: station help\n",
+        Command::Version => b"Usage: station --version\n",
+        Command::Unknown => b"",
     }
-}
-
-fn say_view_usage(rt: HostRuntime) {
-    say::say_bytes(rt, b"Usage: station view [--raw] FILE NAME\n");
-}
-
-fn say_column_usage(rt: HostRuntime) {
-    say::say_bytes(rt, b"Usage: station column [--raw] FILE NAME\n");
 }
 
 // Says that the program is started by the command.

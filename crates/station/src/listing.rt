@@ -5,31 +5,28 @@ ghost use Rattle.messagepack.specs.Limits.{entry_limit};
 ghost use Rattle.commands.specs.Listing.{field_line};
 
 use crate::output;
-use refusal::Answer;
+use commands::status::Status;
+use std::io::Result;
 
 // Writes the fields of a file that is accepted, in the file's order.
-pub(crate) fn write_fields(rt: HostRuntime, file: &[u8]) -> bool {
+pub(crate) fn write_fields(rt: HostRuntime, file: &[u8]) -> Status {
     let mut places = no_places();
     match messagepack::keys(file, &mut places) {
-        Answer::Refused(_) => false,
-        Answer::Count(n) => write_lines(rt, file, &places[..n]),
+        Ok(n) => output::status_of(rt, write_lines(rt, file, &places[..n])),
+        Err(_) => Status::Nothing,
     }
 }
 
 // Writes the fields whose keys stand at places.
-fn write_lines(rt: HostRuntime, file: &[u8], places: &[u32]) -> bool {
+fn write_lines(rt: HostRuntime, file: &[u8], places: &[u32]) -> Result<()> {
     let mut buffer = output::room();
     let mut at: usize = 0;
-    let mut i: usize = 0;
-    while i < places.len() {
+    for key in places {
         if output::is_full(at) {
-            if !output::write_first(rt, &buffer, at) {
-                return false;
-            }
+            output::write_first(rt, &buffer, at)?;
             at = 0;
         }
-        at = put_field(&mut buffer, at, file, numbers::u32_to_usize(places[i]));
-        i += 1;
+        at = put_field(&mut buffer, at, file, *key as usize);
     }
     output::write_first(rt, &buffer, at)
 }
@@ -40,10 +37,7 @@ fn put_field(buffer: &mut [u8], at: usize, file: &[u8], key: usize) -> usize
 {
     let what = commands::listing::what_at(file, views::plain::text_end(file, key));
     let name = views::plain::text_at(file, key);
-    let sort = what.sort;
-    let codec = what.codec;
-    let length = what.length;
-    lines::single::put_field(buffer, at, name, sort, codec, length)
+    lines::single::put_field(buffer, at, name, what.sort, what.codec, what.length)
 }
 
 // Room for the places of the outer keys.

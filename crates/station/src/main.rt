@@ -14,15 +14,13 @@ mod shown;
 mod system;
 mod texts;
 
-use commands::status::{Descriptor, Status};
+use commands::status::Status;
 use commands::texts::Way;
-use commands::words::{Asked, Command};
+use commands::words::Command;
 use commands::{status, words};
-use files::Contents;
 use lines::Notation;
-use receipts::Made;
+use refusal::Refusal;
 use sentences::{OfPart, OfWord, Sentence};
-use shown::Shown;
 use std::env::Env;
 use system::Stream;
 
@@ -30,20 +28,18 @@ use system::Stream;
 #[derive(Clone, Copy)]
 pub enum Task {
     Check,
-    Receipt(u32, u32),
+    Receipt { station: u32, job: u32 },
     Fields,
-    View,
-    RawView,
-    Column,
-    RawColumn,
+    View { raw: bool },
+    Column { raw: bool },
 }
 
 fn main(rt: HostRuntime) {
     let mut word = io::buffer();
     let n = system::word(rt, 1, &mut word);
     match status::descriptor_of(&word[..n]) {
-        Descriptor::At(descriptor) => write_status(descriptor, start(rt)),
-        Descriptor::None => about::say_bare(rt),
+        Some(descriptor) => write_status(descriptor, start(rt)),
+        None => about::say_bare(rt),
     }
 }
 
@@ -55,7 +51,7 @@ fn write_status(descriptor: i32, ended: Status) {
 // Obeys the command that the second word names.
 fn start(rt: HostRuntime) -> Status {
     if system::word_count(rt) < 3 {
-        about::write_usage(rt, Stream::Error);
+        output::status_of(rt, about::write_usage(rt, Stream::Error));
         return Status::Nothing;
     }
     let mut word = io::buffer();
@@ -76,17 +72,16 @@ fn obey(rt: HostRuntime, command: Command, word: &[u8]) -> Status {
         about::say_usage_of(rt, command);
         return Status::Nothing;
     }
+    let place = words::file_place(command);
     match command {
         Command::Check => check_all(rt, system::word_count(rt)),
         Command::Receipt => receipt_of(rt),
         Command::Bill => bills::bill(rt, system::word_count(rt)),
-        Command::Fields => with_file(rt, Task::Fields, words::file_place(command)),
-        Command::View => with_file(rt, Task::View, words::file_place(command)),
-        Command::RawView => with_file(rt, Task::RawView, words::file_place(command)),
-        Command::Column => with_file(rt, Task::Column, words::file_place(command)),
-        Command::RawColumn => with_file(rt, Task::RawColumn, words::file_place(command)),
-        Command::Help => status::of_written(about::write_usage(rt, Stream::Output)),
-        Command::Version => status::of_written(about::write_version(rt)),
+        Command::Fields => with_file(rt, Task::Fields, place),
+        Command::View { raw } => with_file(rt, Task::View { raw }, place),
+        Command::Column { raw } => with_file(rt, Task::Column { raw }, place),
+        Command::Help => output::status_of(rt, about::write_usage(rt, Stream::Output)),
+        Command::Version => output::status_of(rt, about::write_version(rt)),
         Command::Unknown => {
             say::say(rt, word, b"", Sentence::Word(OfWord::NoCommand));
             Status::Nothing
@@ -97,42 +92,39 @@ fn obey(rt: HostRuntime, command: Command, word: &[u8]) -> Status {
 // Says the verdict on each file that is named, and answers the worst status.
 fn check_all(rt: HostRuntime, count: usize) -> Status {
     let mut worst = Status::Done;
-    let mut place = words::file_place(Command::Check);
-    while place < count {
+    for place in words::file_place(Command::Check)..count {
         worst = status::worst_of(worst, with_file(rt, Task::Check, place));
-        place += 1;
     }
     worst
 }
 
 // Writes the receipt of a file, if station and job are in range.
 fn receipt_of(rt: HostRuntime) -> Status {
-    let Asked::Is(station) = number_at(rt, 3, receipt::STATION_LIMIT, OfWord::NoStation) else {
+    let Some(station) = number_at(rt, 3, receipt::STATION_LIMIT, OfWord::NoStation) else {
         return Status::Nothing;
     };
-    let Asked::Is(job) = number_at(rt, 4, receipt::JOB_LIMIT, OfWord::NoJob) else {
+    let Some(job) = number_at(rt, 4, receipt::JOB_LIMIT, OfWord::NoJob) else {
         return Status::Nothing;
     };
     with_file(
         rt,
-        Task::Receipt(station, job),
+        Task::Receipt { station, job },
         words::file_place(Command::Receipt),
     )
 }
 
 // The number that a word says, if it is 1 to a limit; else says what it must be.
-fn number_at(rt: HostRuntime, place: usize, limit: u32, other: OfWord) -> Asked {
+fn number_at(rt: HostRuntime, place: usize, limit: u32, other: OfWord) -> Option<u32> {
     let mut word = io::buffer();
     let Ok(n) = rt.arg(place, &mut word) else {
         say::say_long_word(rt);
-        return Asked::None;
+        return None;
     };
-    let asked = words::number_in(&word[..n], limit);
-    match asked {
-        Asked::Is(_) => {}
-        Asked::None => say::say(rt, &word[..n], b"", Sentence::Word(other)),
+    let number = words::number_in(&word[..n], limit);
+    if number.is_none() {
+        say::say(rt, &word[..n], b"", Sentence::Word(other));
     }
-    asked
+    number
 }
 
 // Reads the file that a word names, and does a task with it.
@@ -144,8 +136,11 @@ fn with_file(rt: HostRuntime, task: Task, place: usize) -> Status {
     };
     let mut file = io::large_buffer();
     match files::read(rt, &path[..n], &mut file) {
-        Contents::Bytes(m) => answer(rt, task, &path[..n], &file[..m]),
-        Contents::None => Status::Nothing,
+        Ok(m) => answer(rt, task, &path[..n], &file[..m]),
+        Err(said) => {
+            say::say(rt, &path[..n], b"", Sentence::File(said));
+            Status::Nothing
+        }
     }
 }
 
@@ -153,30 +148,16 @@ fn with_file(rt: HostRuntime, task: Task, place: usize) -> Status {
 fn answer(rt: HostRuntime, task: Task, path: &[u8], file: &[u8]) -> Status {
     match task {
         Task::Check => check(rt, path, file),
-        Task::Receipt(station, job) => write_receipt(rt, path, file, station, job),
+        Task::Receipt { station, job } => write_receipt(rt, path, file, station, job),
         Task::Fields => fields(rt, path, file),
-        Task::View => view(rt, path, file, words::name_place(Command::View), false),
-        Task::RawView => view(rt, path, file, words::name_place(Command::RawView), true),
-        Task::Column => column(
-            rt,
-            path,
-            file,
-            words::name_place(Command::Column),
-            Notation::Decimal,
-        ),
-        Task::RawColumn => column(
-            rt,
-            path,
-            file,
-            words::name_place(Command::RawColumn),
-            Notation::Hexadecimal,
-        ),
+        Task::View { raw } => view(rt, path, file, raw),
+        Task::Column { raw } => column(rt, path, file, raw),
     }
 }
 
 // Writes the verdict on a file to standard output.
 fn check(rt: HostRuntime, path: &[u8], file: &[u8]) -> Status {
-    let verdict = structure::verdict(file);
+    let verdict = refusal::number(structure::verdict(file));
     if let Err(error) = say::write_verdict(rt, Stream::Output, path, file, verdict) {
         say::say_unwritten(rt, error);
         return Status::Nothing;
@@ -187,44 +168,47 @@ fn check(rt: HostRuntime, path: &[u8], file: &[u8]) -> Status {
 // Writes the receipt of a file, and then says the verdict that it has.
 fn write_receipt(rt: HostRuntime, path: &[u8], file: &[u8], station: u32, job: u32) -> Status {
     let mut buffer = io::buffer();
-    match receipts::make(station, job, file, &mut buffer) {
-        Made::Refused(number) => {
-            say::say_verdict(rt, path, file, number);
-            Status::Nothing
+    let made = match receipts::make(station, job, file, &mut buffer) {
+        Ok(made) => made,
+        Err(refusal) => {
+            say::say_verdict(rt, path, file, refusal.number());
+            return Status::Nothing;
         }
-        Made::Receipt(n, verdict) => {
-            if !output::write(rt, &buffer[..n]) {
-                return Status::Nothing;
-            }
-            say::say_verdict(rt, path, file, verdict);
-            status::of_verdict(verdict)
-        }
+    };
+    if let Err(error) = output::write(rt, &buffer[..made.bytes]) {
+        say::say_unwritten(rt, error);
+        return Status::Nothing;
     }
+    say::say_verdict(rt, path, file, made.verdict);
+    status::of_verdict(made.verdict)
 }
 
 // Writes the fields of an accepted file.
 fn fields(rt: HostRuntime, path: &[u8], file: &[u8]) -> Status {
-    let verdict = structure::verdict(file);
-    if verdict != refusal::ACCEPTED {
-        say::say_verdict(rt, path, file, verdict);
-        return status::of_verdict(verdict);
+    match structure::verdict(file) {
+        Ok(()) => listing::write_fields(rt, file),
+        Err(refusal) => refused(rt, path, file, refusal),
     }
-    status::of_written(listing::write_fields(rt, file))
+}
+
+// Says that a file is refused.
+fn refused(rt: HostRuntime, path: &[u8], file: &[u8], refusal: Refusal) -> Status {
+    say::say_verdict(rt, path, file, refusal.number());
+    Status::Refused
 }
 
 // Writes the value of the field under a name, as text or as it is.
-fn view(rt: HostRuntime, path: &[u8], file: &[u8], place: usize, raw: bool) -> Status {
+fn view(rt: HostRuntime, path: &[u8], file: &[u8], raw: bool) -> Status {
     let mut name = io::buffer();
-    let Ok(n) = rt.arg(place, &mut name) else {
+    let Ok(n) = rt.arg(words::name_place(Command::View { raw }), &mut name) else {
         say::say_long_word(rt);
         return Status::Nothing;
     };
-    let number = views::view_refusal(file, &name[..n]);
-    if number != refusal::ACCEPTED {
-        return no_view(rt, path, file, &name[..n], number);
+    if let Err(refusal) = views::view_refusal(file, &name[..n]) {
+        return no_view(rt, path, file, &name[..n], refusal);
     }
     if raw {
-        return status::of_written(output::write(rt, views::view(file, &name[..n])));
+        return output::status_of(rt, output::write(rt, views::view(file, &name[..n])));
     }
     show(rt, path, file, &name[..n])
 }
@@ -233,40 +217,43 @@ fn view(rt: HostRuntime, path: &[u8], file: &[u8], place: usize, raw: bool) -> S
 fn show(rt: HostRuntime, path: &[u8], file: &[u8], name: &[u8]) -> Status {
     let value = views::view(file, name);
     match commands::texts::way_of(views::shapes::shape_of(file, name)) {
-        Way::One => status::of_written(texts::write_item(rt, value)),
-        Way::Text => status::of_written(texts::write_string(rt, value)),
-        Way::Each => status::of_written(texts::write_items(rt, value)),
+        Way::One => output::status_of(rt, texts::write_item(rt, value)),
+        Way::Text => output::status_of(rt, texts::write_string(rt, value)),
+        Way::Each => output::status_of(rt, texts::write_items(rt, value)),
         Way::Not(said) => no_part(rt, path, name, said),
     }
 }
 
-// Writes the values of the column under a name of a file, floats in a notation.
-fn column(rt: HostRuntime, path: &[u8], file: &[u8], place: usize, notation: Notation) -> Status {
+// Writes the values of the column under a name of a file; raw floats in the hexadecimal notation of C.
+fn column(rt: HostRuntime, path: &[u8], file: &[u8], raw: bool) -> Status {
     let mut name = io::buffer();
-    let Ok(n) = rt.arg(place, &mut name) else {
+    let Ok(n) = rt.arg(words::name_place(Command::Column { raw }), &mut name) else {
         say::say_long_word(rt);
         return Status::Nothing;
     };
-    let number = views::view_refusal(file, &name[..n]);
-    if number != refusal::ACCEPTED {
-        return no_view(rt, path, file, &name[..n], number);
+    if let Err(refusal) = views::view_refusal(file, &name[..n]) {
+        return no_view(rt, path, file, &name[..n], refusal);
     }
     if !views::is_binary(file, &name[..n]) {
         return no_part(rt, path, &name[..n], OfPart::NoColumn);
     }
+    let notation = if raw {
+        Notation::Hexadecimal
+    } else {
+        Notation::Decimal
+    };
     match shown::write_column(rt, views::view(file, &name[..n]), notation) {
-        Shown::Written(whole) => status::of_written(whole),
-        Shown::Refused(refused) => no_part(rt, path, &name[..n], words::part_of(refused)),
+        Ok(ended) => ended,
+        Err(refusal) => no_part(rt, path, &name[..n], words::part_of(refusal)),
     }
 }
 
 // Says why there is no view: the file is refused, or has no such field.
-fn no_view(rt: HostRuntime, path: &[u8], file: &[u8], name: &[u8], number: u8) -> Status {
-    if number == refusal::NO_SUCH_FIELD {
-        return no_part(rt, path, name, OfPart::NoField);
+fn no_view(rt: HostRuntime, path: &[u8], file: &[u8], name: &[u8], refusal: Refusal) -> Status {
+    match refusal {
+        Refusal::NoSuchField => no_part(rt, path, name, OfPart::NoField),
+        _ => refused(rt, path, file, refusal),
     }
-    say::say_verdict(rt, path, file, number);
-    status::of_verdict(number)
 }
 
 // Says why a part of a file was not written.

@@ -1,9 +1,12 @@
-// Data on standard output, in large pieces. Each function answers whether all was written, and says why where it was not.
+// Data on standard output, in large pieces.
 ghost use Rattle.std.specs.Prelude.{◌≡◌, length};
 
 use crate::system::Stream;
 use crate::{say, system};
+use commands::status;
+use commands::status::Status;
 use lines::Notation;
+use std::io::Result;
 
 // Room for lines, and how much of it the longest line takes: a file's bytes as four each, and the words after them.
 pub(crate) const ROOM: usize = 327_680;
@@ -22,75 +25,62 @@ pub(crate) fn is_full(at: usize) -> bool {
     ROOM - LINE < at
 }
 
-// Writes the first n bytes of a buffer to standard output, or all of it if it has fewer.
-pub(crate) fn write_first(rt: HostRuntime, buffer: &[u8], n: usize) -> bool {
-    if n < buffer.len() {
-        return write(rt, &buffer[..n]);
+// The status of data that were to be written; says why where they were not written whole.
+pub(crate) fn status_of(rt: HostRuntime, written: Result<()>) -> Status {
+    let whole = written.is_ok();
+    if let Err(error) = written {
+        say::say_unwritten(rt, error);
     }
-    write(rt, buffer)
+    status::of_written(whole)
+}
+
+// Writes the first n bytes of a buffer to standard output, or all of it if it has fewer.
+pub(crate) fn write_first(rt: HostRuntime, buffer: &[u8], n: usize) -> Result<()> {
+    write(rt, &buffer[..n.min(buffer.len())])
 }
 
 // Writes bytes to standard output.
-pub(crate) fn write(rt: HostRuntime, bytes: &[u8]) -> bool {
-    write_to(rt, Stream::Output, bytes)
+pub(crate) fn write(rt: HostRuntime, bytes: &[u8]) -> Result<()> {
+    system::write_all(rt, Stream::Output, bytes)
 }
 
-// Writes bytes to a stream.
-pub(crate) fn write_to(rt: HostRuntime, stream: Stream, bytes: &[u8]) -> bool {
-    match system::write_all(rt, stream, bytes) {
-        Ok(()) => true,
-        Err(error) => {
-            say::say_unwritten(rt, error);
-            false
-        }
-    }
-}
-
-// Writes numbers over a divisor, a line each.
-pub(crate) fn write_numbers(rt: HostRuntime, values: &[i32], divisor: u32) -> bool {
+// Writes numbers over a divisor, a line each. One function for this and the next two would be no plainer: a turn's end is promised by the call that
+// gathers the lines, and would have to be stated of a closure.
+pub(crate) fn write_numbers(rt: HostRuntime, values: &[i32], divisor: u32) -> Result<()> {
     let mut buffer = io::large_buffer();
     let mut from: usize = 0;
     while from < values.len() {
         let part = lines::number_lines(&values[from..], divisor, &mut buffer);
-        let n = part.bytes;
-        if !write(rt, &buffer[..n]) {
-            return false;
-        }
+        write(rt, &buffer[..part.bytes])?;
         from += part.values;
     }
-    true
+    Ok(())
 }
 
 // Writes floats in a notation, a line each.
-pub(crate) fn write_floats(rt: HostRuntime, values: &[u32], notation: Notation) -> bool {
+pub(crate) fn write_floats(rt: HostRuntime, values: &[u32], notation: Notation) -> Result<()> {
     let mut buffer = io::large_buffer();
     let mut from: usize = 0;
     while from < values.len() {
         let part = lines::float_lines(&values[from..], notation, &mut buffer);
-        let n = part.bytes;
-        if !write(rt, &buffer[..n]) {
-            return false;
-        }
+        write(rt, &buffer[..part.bytes])?;
         from += part.values;
     }
-    true
+    Ok(())
 }
 
 // Writes names of a size, a line each.
-pub(crate) fn write_names(rt: HostRuntime, names: &[u8], size: usize) -> bool {
+pub(crate) fn write_names(rt: HostRuntime, names: &[u8], size: usize) -> Result<()> {
     let mut buffer = io::large_buffer();
     let mut from: usize = 0;
     while from < names.len() {
         let part = lines::name_lines(&names[from..], size, &mut buffer);
-        let n = part.bytes;
         let step = part.values * size;
         if step == 0 {
-            return true;
+            return Ok(());
         }
-        if !write(rt, &buffer[..n]) {
-            return false;
-        }
+        write(rt, &buffer[..part.bytes])?;
         from += step;
     }
-    true
+    Ok(())
 }

@@ -1,94 +1,71 @@
 // A column's values on standard output, by its own codec.
 ghost use Rattle.std.specs.Prelude.{◌≡◌, length};
-ghost use Rattle.station.specs.Reading.{whole_of, FixedWithin, AnswerWithin};
+ghost use Rattle.station.specs.Reading.{Within, FixedWithin};
 
 use crate::output;
-use columns::{Header, Kind, Wanted};
-use decoding::Fixed;
+use columns::{Kind, Wanted};
+use commands::status::Status;
 use lines::Notation;
-use refusal::Answer;
+use refusal::Refusal;
 
 // The most values that are shown, and the most floats that a file of 65,536 bytes can hold.
 const VALUES: usize = 65536;
 
 const FLOATS: usize = 16384;
 
-// What became of a column: whether its values were written whole, or the number of the refusal.
-#[derive(Clone, Copy)]
-pub enum Shown {
-    Written(bool),
-    Refused(u8),
-}
-
-// Writes the values of a column, floats in a notation.
-pub(crate) fn write_column(rt: HostRuntime, column: &[u8], notation: Notation) -> Shown {
-    match columns::read_header(column, Wanted::Any) {
-        Header::Refused(r) => Shown::Refused(r),
-        Header::Good(_, size, kind, _, _) => match kind {
-            Kind::Float32 => show_floats(rt, column, notation),
-            Kind::Strings => show_bytes(rt, column, kind, size as usize),
-            Kind::Chars => show_bytes(rt, column, kind, 1),
-            _ => show_numbers(rt, column, kind),
-        },
+// Writes the values of a column, floats in a notation, and gives the status of that.
+pub(crate) fn write_column(
+    rt: HostRuntime,
+    column: &[u8],
+    notation: Notation,
+) -> Result<Status, Refusal> {
+    let header = columns::read_header(column, Wanted::Any)?;
+    match header.kind {
+        Kind::Float32 => show_floats(rt, column, notation),
+        Kind::Strings => show_bytes(rt, column, header.kind, header.parameter as usize),
+        Kind::Chars => show_bytes(rt, column, header.kind, 1),
+        _ => show_numbers(rt, column, header.kind),
     }
 }
 
 // Writes the values of a column of integers or fixed point.
-fn show_numbers(rt: HostRuntime, column: &[u8], kind: Kind) -> Shown {
+fn show_numbers(rt: HostRuntime, column: &[u8], kind: Kind) -> Result<Status, Refusal> {
     let mut buffer = no_numbers();
-    match decode_numbers(column, kind, &mut buffer) {
-        Fixed::Refused(r) => Shown::Refused(r),
-        Fixed::Column(n, divisor) => Shown::Written(output::write_numbers(
-            rt,
-            &buffer[..n],
-            numbers::to_u32(divisor),
-        )),
-    }
+    let (n, divisor) = decode_numbers(column, kind, &mut buffer)?;
+    let written = output::write_numbers(rt, &buffer[..n], divisor.cast_unsigned());
+    Ok(output::status_of(rt, written))
 }
 
 // Decodes a column of integers or fixed point; integers have the divisor 1.
-fn decode_numbers(column: &[u8], kind: Kind, buffer: &mut [i32]) -> Fixed
+fn decode_numbers(column: &[u8], kind: Kind, buffer: &mut [i32]) -> Result<(usize, i32), Refusal>
     ensures { FixedWithin result (length buffer.new) }
 {
-    match kind {
-        Kind::FixedPoint => decoding::decode_fixed_point(column, buffer),
-        Kind::Int8 => whole(decoding::decode_int8(column, buffer)),
-        Kind::Int16 => whole(decoding::decode_int16(column, buffer)),
-        _ => whole(decoding::decode_int32(column, buffer)),
-    }
-}
-
-// An answer about integers, with the divisor 1.
-fn whole(answer: Answer) -> Fixed
-    ensures { result ≡ whole_of answer }
-{
-    match answer {
-        Answer::Count(n) => Fixed::Column(n, 1),
-        Answer::Refused(r) => Fixed::Refused(r),
-    }
+    let n = match kind {
+        Kind::FixedPoint => return decoding::decode_fixed_point(column, buffer),
+        Kind::Int8 => decoding::decode_int8(column, buffer)?,
+        Kind::Int16 => decoding::decode_int16(column, buffer)?,
+        _ => decoding::decode_int32(column, buffer)?,
+    };
+    Ok((n, 1))
 }
 
 // Writes the floats of a column in a notation.
-fn show_floats(rt: HostRuntime, column: &[u8], notation: Notation) -> Shown {
+fn show_floats(rt: HostRuntime, column: &[u8], notation: Notation) -> Result<Status, Refusal> {
     let mut buffer = no_floats();
-    match floats::decode_float32(column, &mut buffer) {
-        Answer::Refused(r) => Shown::Refused(r),
-        Answer::Count(n) => Shown::Written(output::write_floats(rt, &buffer[..n], notation)),
-    }
+    let n = floats::decode_float32(column, &mut buffer)?;
+    Ok(output::status_of(rt, output::write_floats(rt, &buffer[..n], notation)))
 }
 
 // Writes the characters or the strings of a column.
-fn show_bytes(rt: HostRuntime, column: &[u8], kind: Kind, size: usize) -> Shown {
+fn show_bytes(rt: HostRuntime, column: &[u8], kind: Kind, size: usize) -> Result<Status, Refusal> {
     let mut buffer = io::large_buffer();
-    match decode_bytes(column, kind, &mut buffer) {
-        Answer::Refused(r) => Shown::Refused(r),
-        Answer::Count(n) => Shown::Written(output::write_names(rt, &buffer[..n], size)),
-    }
+    let n = decode_bytes(column, kind, &mut buffer)?;
+    Ok(output::status_of(rt, output::write_names(rt, &buffer[..n], size)))
 }
 
 // Decodes a column of characters or strings.
-fn decode_bytes(column: &[u8], kind: Kind, buffer: &mut [u8]) -> Answer
-    ensures { AnswerWithin result (length buffer.new) }
+fn decode_bytes(column: &[u8], kind: Kind, buffer: &mut [u8]) -> Result<usize, Refusal>
+    ensures { Within result (length buffer.new) }
 {
     match kind {
         Kind::Strings => decoding::decode_strings(column, buffer),

@@ -49,21 +49,14 @@ pub(crate) fn word_count(rt: HostRuntime) -> usize {
 
 // Whether there is no word at a place.
 fn is_missing(rt: HostRuntime, place: usize) -> bool {
-    match rt.arg(place, &mut []) {
-        Ok(_) => false,
-        Err(FillError::TooLong) => false,
-        Err(FillError::NotPresent) => true,
-    }
+    matches!(rt.arg(place, &mut []), Err(FillError::NotPresent))
 }
 
 // Puts the word at a place at the start of a buffer, and gives its length: 0 where it is missing or longer than the buffer.
 pub(crate) fn word(rt: HostRuntime, place: usize, buffer: &mut [u8]) -> usize
     ensures { result ≤ length buffer.new }
 {
-    match rt.arg(place, buffer) {
-        Ok(n) => n,
-        Err(_) => 0,
-    }
+    rt.arg(place, buffer).unwrap_or(0)
 }
 
 // Opens the file of a name for reading. A name that is not text in UTF-8 opens no file.
@@ -74,7 +67,8 @@ pub(crate) fn open(rt: HostRuntime, path: &[u8]) -> io::Result<File> {
     }
 }
 
-// Reads until the buffer is full, the input ends or a read fails, and gives how many bytes it put at the buffer's start.
+// Reads until the buffer is full, the input ends or a read fails, and gives how many bytes it put at the buffer's start. A `for` is no plainer: a read
+// decides how far a turn goes.
 pub(crate) fn read_full<R: Read>(reader: &mut R, buffer: &mut [u8]) -> usize
     ensures inside { result ≤ length buffer.new }
     ensures bytes { Consumes (R.remaining reader.old) (R.remaining reader.new) (take result buffer.new) }
@@ -119,8 +113,5 @@ fn write_whole<W: Write>(writer: &mut W, bytes: &[u8]) -> io::Result<()>
 pub(crate) fn number_of(error: Error) -> u32
     ensures { result ≡ number_in (raw_os_error error) }
 {
-    match error.raw_os_error() {
-        Some(number) => numbers::to_u32(number),
-        None => numbers::to_u32(INPUT_OUTPUT),
-    }
+    error.raw_os_error().unwrap_or(INPUT_OUTPUT).cast_unsigned()
 }

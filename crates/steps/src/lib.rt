@@ -39,7 +39,7 @@ pub enum Form {
     Names,
 }
 
-// What one packed number does to a result: the sum goes on, or is done, or is outside 32 bits.
+// What one packed number does to a result: the sum goes on, or is done, or is outside 32 bits. An enum, since these are three.
 #[derive(Clone, Copy)]
 pub enum Turn {
     More(i32),
@@ -63,8 +63,8 @@ pub fn number_at(payload: &[u8], at: usize, size: Size) -> i32
     ensures { result ≡ signed_at (width_of size) payload.now at }
 {
     match size {
-        Size::One => numbers::i8_to_i32(read_i8(payload, at)),
-        Size::Two => numbers::i16_to_i32(numbers::read_i16(payload, at)),
+        Size::One => i32::from(read_i8(payload, at)),
+        Size::Two => i32::from(numbers::read_i16(payload, at)),
         Size::Four => numbers::read_i32(payload, at),
     }
 }
@@ -73,35 +73,29 @@ pub fn number_at(payload: &[u8], at: usize, size: Size) -> i32
 pub fn is_in(value: i32, range: Range) -> bool
     ensures { result ≡ in_range range value }
 {
-    if value < least(range) {
-        return false;
-    }
-    value <= most(range)
+    least(range) <= value && value <= most(range)
 }
 
 // a + d, modulo 2^32 into the signed range.
 pub fn add_delta(a: i32, d: i32) -> i32
     ensures { result ≡ plus_delta a d }
 {
-    numbers::to_i32(std::num::wrapping_add_u32(numbers::to_u32(a), numbers::to_u32(d)))
+    a.wrapping_add(d)
 }
 
 // x - a, modulo 2^32 into the signed range.
 pub fn delta_of(x: i32, a: i32) -> i32
     ensures { result ≡ minus_delta x a }
 {
-    numbers::to_i32(std::num::wrapping_sub_u32(numbers::to_u32(x), numbers::to_u32(a)))
+    x.wrapping_sub(a)
 }
 
 // One packed number more on top of the sum so far.
 pub fn unpack_one(sum: i32, number: i32, size: Size) -> Turn
     ensures { result ≡ turn_of size sum number }
 {
-    let t = numbers::i32_to_i64(sum) + numbers::i32_to_i64(number);
-    if t < -2147483648 {
-        return Turn::Wrong;
-    }
-    if 2147483647 < t {
+    let t = i64::from(sum) + i64::from(number);
+    if t < -2147483648 || 2147483647 < t {
         return Turn::Wrong;
     }
     if is_limit(number, size) {
@@ -115,24 +109,9 @@ pub fn is_limit(number: i32, size: Size) -> bool
     ensures { result ≡ is_limit (upper size) (lower size) number }
 {
     match size {
-        Size::One => {
-            if number == 127 {
-                return true;
-            }
-            number == -128
-        }
-        Size::Two => {
-            if number == 32767 {
-                return true;
-            }
-            number == -32768
-        }
-        Size::Four => {
-            if number == 2147483647 {
-                return true;
-            }
-            number == -2147483648
-        }
+        Size::One => number == 127 || number == -128,
+        Size::Two => number == 32767 || number == -32768,
+        Size::Four => number == 2147483647 || number == -2147483648,
     }
 }
 
@@ -161,10 +140,8 @@ fn are_ascii(bytes: &[u8]) -> bool
 {
     let half = bytes.len() / 2;
     let mut highest: u8 = 0;
-    let mut i: usize = 0;
-    while i < half {
+    for i in 0..half {
         highest = higher(highest, higher(bytes[i], bytes[half + i]));
-        i += 1;
     }
     let last = half + half;
     if last < bytes.len() {
@@ -180,20 +157,17 @@ fn higher(a: u8, b: u8) -> u8
     if a < b { b } else { a }
 }
 
-// Whether names of a size are padded: each whole one, and what is left after them.
+// Whether names of a size are padded: each whole one, and what is left after them. `&`, here and below, since it has no branch.
 fn are_padded(names: &[u8], size: usize) -> bool
     requires { (0 < size) × (all_in Range.Ascii (map pos names.now) ≡ true) }
     ensures { result ≡ padded_from size 0 (pos 0) (map pos names.now) }
 {
     let n = names.len() / size;
     let mut ok = true;
-    let mut i: usize = 0;
-    while i < n {
-        ok = ok & is_name(names, i * size, size);
-        i += 1;
+    for i in 0..n {
+        ok &= is_name(names, i * size, size);
     }
-    let at = n * size;
-    ok & is_padded(&names[at..])
+    ok & is_padded(&names[n * size..])
 }
 
 // Whether the name at a place is padded. One of four bytes is tested as one number.
@@ -203,10 +177,7 @@ fn is_name(names: &[u8], at: usize, size: usize) -> bool
 {
     match size {
         4 => zeros_last(word_of(names[at], names[at + 1], names[at + 2], names[at + 3])),
-        _ => {
-            let end = at + size;
-            is_padded(&names[at..end])
-        }
+        _ => is_padded(&names[at..at + size]),
     }
 }
 
@@ -215,27 +186,24 @@ fn is_padded(name: &[u8]) -> bool
     ensures { result ≡ one_name name.now }
 {
     let mut ok = true;
-    let mut i: usize = 1;
-    while i < name.len() {
-        ok = ok & ((name[i - 1] != 0) | (name[i] == 0));
-        i += 1;
+    for i in 1..name.len() {
+        ok &= (name[i - 1] != 0) | (name[i] == 0);
     }
     ok
 }
 
-// Four bytes as one number, the first byte the lowest.
+// Four bytes as one number, the first byte the lowest: the sum that the definition says.
 fn word_of(a: u8, b: u8, c: u8, d: u8) -> u32
     ensures { result ≡ word_of a b c d }
 {
-    let low = numbers::u8_to_u32(a) + numbers::u8_to_u32(b) * 256;
-    low + numbers::u8_to_u32(c) * 65536 + numbers::u8_to_u32(d) * 16777216
+    u32::from(a) + u32::from(b) * 256 + u32::from(c) * 65536 + u32::from(d) * 16777216
 }
 
 // Whether the bytes of a word that are 0 are its last. A byte below 128 that is not 0 has its highest bit set once 127 is added.
 fn zeros_last(word: u32) -> bool
     ensures { result ≡ zeros_last word }
 {
-    let marks = std::num::wrapping_add_u32(word, 0x7f7f_7f7f) & 0x8080_8080;
+    let marks = word.wrapping_add(0x7f7f_7f7f) & 0x8080_8080;
     (marks == 0)
         | (marks == 0x80)
         | (marks == 0x8080)
@@ -269,18 +237,8 @@ fn read_i8(payload: &[u8], at: usize) -> i8
     ensures { result ≡ signed_at w8 payload.now at }
 {
     if at < payload.len() {
-        to_i8(payload[at])
+        payload[at].cast_signed()
     } else {
         0
-    }
-}
-
-fn to_i8(bits: u8) -> i8
-    ensures { result ≡ to_z w8 bits }
-{
-    if bits < 0x80 {
-        bits as i8
-    } else {
-        !((u8::MAX - bits) as i8)
     }
 }

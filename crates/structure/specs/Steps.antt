@@ -9,8 +9,8 @@ use Rattle.counts.specs.declared.Counts.{Counts}
 use Rattle.structure.specs.declared.Summary.{Summary}
 
 -- a promise on a walked file within the limit by its entries, of which the named fields are noted
-abbrev pub WalkedNotes : List ℕ → List ℕ → Fields → (Entries → Type 0) → Type 0
-WalkedNotes leads file noted P = Short file → WalkedBy leads (λ es. Noted file es noted) P
+abbrev pub WalkedNotes : List ℕ → Fields → (Entries → Type 0) → Type 0
+WalkedNotes file noted P = Short file → WalkedBy (λ es. Noted file es noted) P
 
 -- what is said of an accepted file with these counts and this set of fields
 abbrev pub accepted_with : Counts → ℕ → Summary

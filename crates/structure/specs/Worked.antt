@@ -1,10 +1,9 @@
 -- The worked lines of paper 01 that are marked P, in its order: what each line says, and the paper's table. That every line holds is `worked` in
 -- Laws/Worked.antt. No lemma stands here. Assumes nothing.
-use Rattle.std.specs.Prelude.{◌≡◌, true, List, [], ◌∷◌, ◌++◌, ℕ, length, ℤ, pos, neg_ℤ}
+use Rattle.std.specs.Prelude.{◌≡◌, Err, true, List, [], ◌∷◌, ◌++◌, ℕ, length, ℤ, pos, neg_ℤ}
 use Rattle.refusal.specs.Table.{cut_short, unsigned_too_large, field_missing, number_not_allowed}
 use Rattle.messagepack.specs.Limits.{nesting_limit}
 use Rattle.messagepack.specs.Walk.{value_at}
-use Rattle.messagepack.specs.declared.Walk.{Walk}
 use Rattle.steps.specs.declared.Size.{Size}
 use Rattle.steps.specs.declared.Size.TheVariants.{One, Two, Four}
 use Rattle.steps.specs.Numbers.{bytes_for}
@@ -55,7 +54,7 @@ Says (reads c z numbers cells) = decode Any (column_bytes c (length cells) z num
 Says (refuses c z numbers r) = decode Any (column_bytes c (length numbers) z numbers) ≡ Decoding.refused r
 Says (sums deltas cells) = sums_if true deltas ≡ cells
 Says (packs z numbers packed) = pack z numbers ≡ packed
-Says (value v n) = value_at v nesting_limit 0 ≡ Walk.Refused n
+Says (value v n) = value_at v nesting_limit 0 ≡ Err n
 Says (file f n) = verdict_of f ≡ n
 
 -- what all lines of a table say

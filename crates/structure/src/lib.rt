@@ -3,17 +3,20 @@
 // column, and the rules of counts.
 #![tactic(auto)]
 
-ghost use Rattle.std.specs.Prelude.{◌≡◌, ◌↔◌};
+ghost use Rattle.std.specs.Prelude.{◌≡◌, ◌↔◌, IfOk};
+ghost use Rattle.refusal.specs.Table.{refusal_number};
+ghost use Rattle.refusal.specs.Outcome.{number_of};
 ghost use Rattle.counts.specs.Steps.{Small};
 ghost use Rattle.structure.specs.Accepted.{Accepted, entries_number, verdict_of};
-ghost use Rattle.structure.specs.Summary.{refused, said, summary_of};
+ghost use Rattle.structure.specs.Summary.{accepted_summary, refused, summary_of};
 ghost use Rattle.structure.specs.Steps.{WalkedNotes, accepted_with};
 
 use counts::Counts;
 use fields::Fields;
+use refusal::Refusal;
 
 // What a receipt says of a file: the verdict, and of an accepted file the five num fields and the set of its named fields, a bit for each; of a
-// refused one zeros.
+// refused one zeros. The verdict is a number, since a receipt shows it, 0 too.
 #[derive(Clone, Copy)]
 pub struct Summary {
     pub verdict: u8,
@@ -26,46 +29,50 @@ pub struct Summary {
 }
 
 // The verdict on a file.
-pub fn verdict(file: &[u8]) -> u8
-    ensures number { result ≡ verdict_of file.now }
-    ensures exactly { (result ≡ 0) ↔ Accepted file.now }
+pub fn verdict(file: &[u8]) -> Result<(), Refusal>
+    ensures number { number_of result ≡ verdict_of file.now }
+    ensures exactly { (number_of result ≡ 0) ↔ Accepted file.now }
 {
-    summary_of(file).verdict
+    judged(file)?;
+    Ok(())
 }
 
 // What a receipt says of a file.
 pub fn summary_of(file: &[u8]) -> Summary
     ensures { result ≡ summary_of file.now }
 {
-    let number = messagepack::container(file);
-    if number != refusal::ACCEPTED {
-        return refused_with(number);
+    match judged(file) {
+        Ok(summary) => summary,
+        Err(refusal) => refused_with(refusal),
     }
-    let leads = heads::leads();
-    let entries = values::entries_at(&leads, file, 0);
-    let noted = fields::note(&leads, file, entries.count, entries.at);
-    document_summary(&leads, file, noted)
 }
 
-// What is said of a container by what is noted of its fields.
-fn document_summary(leads: &[u8; 256], file: &[u8], noted: Fields) -> Summary
-    ensures { WalkedNotes leads.now file.now noted (λ es. result ≡ said (entries_number es) es) }
+// What a receipt says of an accepted file, or the refusal of another.
+fn judged(file: &[u8]) -> Result<Summary, Refusal>
+    ensures number { number_of result ≡ verdict_of file.now }
+    ensures summary { IfOk result (λ s. s ≡ summary_of file.now) }
 {
-    let number = document_refusal(leads, file, noted);
-    if number != refusal::ACCEPTED {
-        return refused_with(number);
-    }
-    let places = noted.places;
-    let counts = counts::counts_at(leads, file, &places);
-    accepted_with(counts, noted.presence)
+    messagepack::container(file)?;
+    let entries = values::entries_at(file, 0);
+    let noted = fields::note(file, entries.count, entries.at);
+    document_summary(file, noted)
+}
+
+// What is said of a container by what is noted of its fields, or its refusal.
+fn document_summary(file: &[u8], noted: Fields) -> Result<Summary, Refusal>
+    ensures { WalkedNotes file.now noted (λ es. (number_of result ≡ entries_number es) × IfOk result (λ s. s ≡ accepted_summary es)) }
+{
+    document_refusal(file, noted)?;
+    let counts = counts::counts_at(file, &noted.places);
+    Ok(accepted_with(counts, noted.presence))
 }
 
 // What is said of a refused file: its number and zeros.
-fn refused_with(number: u8) -> Summary
-    ensures { result ≡ refused number }
+fn refused_with(refusal: Refusal) -> Summary
+    ensures { result ≡ refused (refusal_number refusal) }
 {
     Summary {
-        verdict: number,
+        verdict: refusal.number(),
         models: 0,
         chains: 0,
         groups: 0,
@@ -87,22 +94,15 @@ fn accepted_with(counts: Counts, presence: u64) -> Summary
         groups: counts.groups as u32,
         atoms: counts.atoms as u32,
         bonds: counts.bonds as u32,
-        presence: presence,
+        presence,
     }
 }
 
-// The refusal of a container's document by what is noted of its fields: 12 to 24, or 0.
-pub fn document_refusal(leads: &[u8; 256], file: &[u8], noted: Fields) -> u8
-    ensures { WalkedNotes leads.now file.now noted (λ es. result ≡ entries_number es) }
+// The refusal of a container's document by what is noted of its fields: 12 to 24.
+pub fn document_refusal(file: &[u8], noted: Fields) -> Result<(), Refusal>
+    ensures { WalkedNotes file.now noted (λ es. number_of result ≡ entries_number es) }
 {
-    let number = fields::refusal_of(leads, file, noted);
-    if number != refusal::ACCEPTED {
-        return number;
-    }
-    let places = noted.places;
-    let number = file_columns::columns_refusal(leads, file, &places);
-    if number != refusal::ACCEPTED {
-        return number;
-    }
-    counts::refusal_of(leads, file, &places)
+    fields::refusal_of(file, noted)?;
+    file_columns::columns_refusal(file, &noted.places)?;
+    counts::refusal_of(file, &noted.places)
 }

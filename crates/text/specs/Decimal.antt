@@ -1,7 +1,5 @@
 -- Numbers in decimal: as text, and read from a word. No lemma stands here: the laws are in Laws/Decimal.antt. Assumes nothing.
-use Rattle.std.specs.Prelude.{Bool, true, cond, ◌&&◌, List, [], ◌∷◌, ◌++◌, ℕ, zero, suc, ◌+◌, ◌-◌, ◌*◌, ◌/◌, ◌%◌, min, leb, ltb}
-use Rattle.text.specs.declared.Number.{Number}
-use Rattle.text.specs.declared.Number.TheVariants.{Is, None}
+use Rattle.std.specs.Prelude.{Option, Some, None, Bool, true, cond, ◌&&◌, List, [], ◌∷◌, ◌++◌, ℕ, zero, suc, ◌+◌, ◌-◌, ◌*◌, ◌/◌, ◌%◌, min, leb, ltb}
 
 -- the last digit of a number in base 16, in ASCII: `0` to `9`, then `a` to `f`
 abbrev pub glyph : ℕ → ℕ
@@ -38,6 +36,6 @@ abbrev pub with_digit : ℕ → ℕ → ℕ
 with_digit n digit = most (n * 10 + digit)
 
 -- the number that a word says: one digit at least, and nothing but digits
-unfoldable pub number_in : List ℕ → Number
+unfoldable pub number_in : List ℕ → Option ℕ
 number_in [] = None
-number_in (b ∷ s) = cond (all_digits (b ∷ s)) (Is (most (value_from 0 (b ∷ s)))) None
+number_in (b ∷ s) = cond (all_digits (b ∷ s)) (Some (most (value_from 0 (b ∷ s)))) None

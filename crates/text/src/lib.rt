@@ -7,42 +7,18 @@ ghost use Rattle.text.specs.Equal.{equal, begins};
 ghost use Rattle.text.specs.Put.{Put};
 ghost use Rattle.text.specs.Decimal.{glyph, decimal, with_digit, number_in};
 
-// The number that a word says, or that it is none.
-#[derive(Clone, Copy)]
-pub enum Number {
-    Is(u32),
-    None,
-}
-
-// Whether two strings of bytes are the same.
+// Whether two strings of bytes are the same. It gives `==` in the words of the definition `equal`, by which names and keys are told apart.
 pub fn same_bytes(x: &[u8], y: &[u8]) -> bool
     ensures { result ≡ equal x.now y.now }
 {
-    if x.len() != y.len() {
-        return false;
-    }
-    let mut i: usize = 0;
-    while i < x.len() {
-        if x[i] != y[i] {
-            return false;
-        }
-        i += 1;
-    }
-    true
+    x == y
 }
 
 // Whether a word stands at a place of bytes.
 pub fn stands_at(bytes: &[u8], at: usize, word: &[u8]) -> bool
     ensures { result ≡ begins word.now (drop at bytes.now) }
 {
-    if bytes.len() <= at {
-        return word.len() == 0;
-    }
-    if bytes.len() - at < word.len() {
-        return false;
-    }
-    let end = at + word.len();
-    same_bytes(&bytes[at..end], word)
+    bytes[at.min(bytes.len())..].starts_with(word)
 }
 
 // Puts a byte at a place, and gives the place after it.
@@ -61,10 +37,8 @@ pub fn put(buffer: &mut [u8], at: usize, bytes: &[u8]) -> usize
     ensures { Put buffer.old at bytes.now buffer.new result }
 {
     let mut next = at;
-    let mut i: usize = 0;
-    while i < bytes.len() {
-        next = put_byte(buffer, next, bytes[i]);
-        i += 1;
+    for byte in bytes {
+        next = put_byte(buffer, next, *byte);
     }
     next
 }
@@ -80,14 +54,14 @@ pub fn put_decimal(buffer: &mut [u8], at: usize, number: u32) -> usize
     put_byte(buffer, next, digit(number % 10))
 }
 
-// How many digits a number has in decimal.
+// How many digits a number has in decimal. A `while`: what is left is divided, and a range would count up to what is sought.
 pub fn digit_count(number: u32) -> usize
     ensures { result ≡ length (decimal number) }
 {
     let mut rest = number;
     let mut count: usize = 1;
     while 10 <= rest {
-        rest = rest / 10;
+        rest /= 10;
         count += 1;
     }
     count
@@ -102,36 +76,25 @@ pub fn digit(number: u32) -> u8
 }
 
 // The number that a word of decimal digits says; the largest of 32 bits where it is larger.
-pub fn number_of(word: &[u8]) -> Number
+pub fn number_of(word: &[u8]) -> Option<u32>
     ensures { result ≡ number_in word.now }
 {
-    if word.len() == 0 {
-        return Number::None;
+    if word.is_empty() {
+        return None;
     }
     let mut number: u32 = 0;
-    let mut i: usize = 0;
-    while i < word.len() {
-        let b = word[i];
-        if b < 48 {
-            return Number::None;
+    for byte in word {
+        if !byte.is_ascii_digit() {
+            return None;
         }
-        if 57 < b {
-            return Number::None;
-        }
-        number = with_digit(number, b - 48);
-        i += 1;
+        number = with_digit(number, *byte - b'0');
     }
-    Number::Is(number)
+    Some(number)
 }
 
 // A number with a digit more; the largest of 32 bits where that is larger.
 pub fn with_digit(number: u32, digit: u8) -> u32
     ensures { result ≡ with_digit number digit }
 {
-    let sum = (number as u64) * 10 + (digit as u64);
-    if sum <= 4294967295 {
-        sum as u32
-    } else {
-        4294967295
-    }
+    number.saturating_mul(10).saturating_add(u32::from(digit))
 }

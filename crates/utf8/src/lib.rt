@@ -8,13 +8,6 @@ ghost use Rattle.utf8.specs.Check.{is_utf8, due, following, is_ascii};
 ghost use Rattle.utf8.specs.Check.{lowest as lowestOf, highest as highestOf};
 ghost use Rattle.utf8.specs.Step.{onward, Forward, LeadAt};
 
-// The place after what a step passed over, or a fault.
-#[derive(Clone, Copy)]
-enum Step {
-    Next(usize),
-    Bad,
-}
-
 // Whether `bytes` are UTF-8.
 pub fn is_utf8(bytes: &[u8]) -> bool
     ensures value { result ≡ is_utf8 bytes.now }
@@ -22,7 +15,7 @@ pub fn is_utf8(bytes: &[u8]) -> bool
 {
     let mut at: usize = 0;
     while at < bytes.len() {
-        let Step::Next(next) = advance(bytes, at) else {
+        let Some(next) = advance(bytes, at) else {
             return false;
         };
         at = next;
@@ -34,25 +27,18 @@ pub fn is_utf8(bytes: &[u8]) -> bool
 pub fn is_ascii(bytes: &[u8]) -> bool
     ensures { result ≡ is_ascii bytes.now }
 {
-    let mut i: usize = 0;
-    while i < bytes.len() {
-        if 0x80 <= bytes[i] {
-            return false;
-        }
-        i += 1;
-    }
-    true
+    bytes.iter().all(|byte| *byte < 0x80)
 }
 
 // A step over the character at `at`, or over a run of characters of one byte each.
-fn advance(bytes: &[u8], at: usize) -> Step
+fn advance(bytes: &[u8], at: usize) -> Option<usize>
     requires { at < length bytes.now }
     ensures bytes_value { is_utf8 (drop at bytes.now) ≡ onward 0 bytes.now result }
     ensures forward { Forward at (length bytes.now) result }
 {
     let lead = bytes[at];
     if lead < 0x80 {
-        return Step::Next(ascii(bytes, at));
+        return Some(ascii(bytes, at));
     }
     if lead < 0xe0 {
         return two(bytes, at, lead);
@@ -64,100 +50,85 @@ fn advance(bytes: &[u8], at: usize) -> Step
 }
 
 // A step over the character of two bytes at `at`.
-fn two(bytes: &[u8], at: usize, lead: u8) -> Step
+fn two(bytes: &[u8], at: usize, lead: u8) -> Option<usize>
     requires { LeadAt bytes.now at lead 0x80 0xe0 }
     ensures bytes_value { is_utf8 (drop at bytes.now) ≡ onward 0 bytes.now result }
     ensures forward { Forward at (length bytes.now) result }
 {
     if lead < 0xc2 {
-        return Step::Bad;
+        return None;
     }
     second(bytes, at, lead)
 }
 
 // A step over the character of three bytes at `at`.
-fn three(bytes: &[u8], at: usize, lead: u8) -> Step
+fn three(bytes: &[u8], at: usize, lead: u8) -> Option<usize>
     requires { LeadAt bytes.now at lead 0xe0 0xf0 }
     ensures bytes_value { is_utf8 (drop at bytes.now) ≡ onward 0 bytes.now result }
     ensures forward { Forward at (length bytes.now) result }
 {
-    let Step::Next(third) = second(bytes, at, lead) else {
-        return Step::Bad;
-    };
+    let third = second(bytes, at, lead)?;
     follow(bytes, third, 0x80, 0xbf)
 }
 
 // A step over the character of four bytes at `at`.
-fn four(bytes: &[u8], at: usize, lead: u8) -> Step
+fn four(bytes: &[u8], at: usize, lead: u8) -> Option<usize>
     requires { LeadAt bytes.now at lead 0xf0 0x100 }
     ensures bytes_value { is_utf8 (drop at bytes.now) ≡ onward 0 bytes.now result }
     ensures forward { Forward at (length bytes.now) result }
 {
     if 0xf4 < lead {
-        return Step::Bad;
+        return None;
     }
-    let Step::Next(third) = second(bytes, at, lead) else {
-        return Step::Bad;
-    };
-    let Step::Next(fourth) = follow(bytes, third, 0x80, 0xbf) else {
-        return Step::Bad;
-    };
+    let third = second(bytes, at, lead)?;
+    let fourth = follow(bytes, third, 0x80, 0xbf)?;
     follow(bytes, fourth, 0x80, 0xbf)
 }
 
 // A step over `lead`, the byte at `at`, and the byte after it.
-fn second(bytes: &[u8], at: usize, lead: u8) -> Step
+fn second(bytes: &[u8], at: usize, lead: u8) -> Option<usize>
     requires { LeadAt bytes.now at lead 0xc2 0xf5 }
     ensures by_index { (k : ℕ) → following lead ≡ suc k → is_utf8 (drop at bytes.now) ≡ onward k bytes.now result }
     ensures forward { Forward at (length bytes.now) result }
 {
-    let lo = lowest(lead);
-    let hi = highest(lead);
-    follow(bytes, at + 1, lo, hi)
+    follow(bytes, at + 1, lowest(lead), highest(lead))
 }
 
 // A step over the byte at `at`, which is to be there and from `lo` to `hi`.
-fn follow(bytes: &[u8], at: usize, lo: u8, hi: u8) -> Step
+fn follow(bytes: &[u8], at: usize, lo: u8, hi: u8) -> Option<usize>
     ensures by_index { (k : ℕ) → due (suc k) lo hi (drop at bytes.now) ≡ onward k bytes.now result }
     ensures forward { Forward at (length bytes.now) result }
 {
     if bytes.len() <= at {
-        return Step::Bad;
+        return None;
     }
     let b = bytes[at];
-    if b < lo {
-        return Step::Bad;
+    if b < lo || hi < b {
+        return None;
     }
-    if hi < b {
-        return Step::Bad;
-    }
-    Step::Next(at + 1)
+    Some(at + 1)
 }
 
 // The least byte that may follow `lead`.
 fn lowest(lead: u8) -> u8
     ensures { result ≡ lowestOf lead }
 {
-    if lead == 0xe0 {
-        return 0xa0;
+    match lead {
+        0xe0 => 0xa0,
+        0xf0 => 0x90,
+        _ => 0x80,
     }
-    if lead == 0xf0 {
-        return 0x90;
-    }
-    0x80
 }
 
 // The greatest byte that may follow `lead`.
 fn highest(lead: u8) -> u8
     ensures { result ≡ highestOf lead }
 {
-    if lead == 0xed {
-        return 0x9f;
+    match lead {
+        0xed => 0x9f,
+        0xf4 => 0x8f,
+        _ => 0xbf,
     }
-    if lead == 0xf4 {
-        return 0x8f;
-    }
-    0xbf
 }
 
 // The place after the byte below 80 at `at`; where `at` is a multiple of eight, after all such bytes from there on. Wide blocks go first,
@@ -201,10 +172,8 @@ fn bits(bytes: &[u8], at: usize, width: usize) -> u8
     ensures { result < 0x80 → (i : ℕ) → i < width → get_or bytes.now (at + i) 0 < 0x80 }
 {
     let mut all: u8 = 0;
-    let mut i: usize = 0;
-    while i < width {
-        all = all | bytes[at + i];
-        i += 1;
+    for byte in &bytes[at..at + width] {
+        all |= *byte;
     }
     all
 }

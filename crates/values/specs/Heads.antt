@@ -1,7 +1,7 @@
 -- Values at places by any table of lead bytes that is lent: what a value's kind and its head say. What this means for a document that stands
 -- there, when the table is that of lead bytes, is in the contracts (Walked.antt). No lemma stands here: the laws are in Laws/Heads.antt.
 -- Assumes nothing.
-use Rattle.std.specs.Prelude.{Bool, true, cond, ◌&&◌, List, ℕ, ◌+◌, ◌-◌, eqb, leb, ltb, ℤ, pos, length, get_or}
+use Rattle.std.specs.Prelude.{Option, Some, None, Bool, true, cond, ◌&&◌, List, ℕ, ◌+◌, ◌-◌, eqb, leb, ltb, ℤ, pos, length, get_or}
 use Rattle.heads.specs.Table.{kind_cell, kind_by, head_by}
 use Rattle.heads.specs.declared.Kind.{Kind}
 use Rattle.heads.specs.declared.Head.{Head}
@@ -43,9 +43,9 @@ abbrev pub items_part : ℕ → ℕ → ℕ → Part
 items_part size n p = cond (leb n size) (record { at = p; count = n }) no_part
 
 -- what is made of a head: f of its number and the place after it, or what is given for a head that is cut short
-abbrev pub on_head : {A : Type 0} → A → (ℕ → ℕ → A) → Head → A
-on_head cut f (Head.At n p) = f n p
-on_head cut f Head.Cut = cut
+abbrev pub on_head : {A : Type 0} → A → (ℕ → ℕ → A) → Option Head → A
+on_head cut f (Some h) = f h.number h.end
+on_head cut f None = cut
 
 -- what is made of the value at a place by a table: f of its kind, its head's number and the place after the head
 abbrev pub by_head : {A : Type 0} → List ℕ → List ℕ → ℕ → A → (Kind → ℕ → ℕ → A) → A

@@ -1,13 +1,11 @@
 -- Arrays of integers, as documents: their integers in order, and the sum of those. No reader, no place and no lemma stands here: the laws are
 -- in Laws/Integers.antt. Assumes nothing.
-use Rattle.std.specs.Prelude.{Bool, true, false, cond, List, [], ◌∷◌, ℕ, ◌+◌, ℤ, pos, nat_abs}
+use Rattle.std.specs.Prelude.{Bool, cond, List, [], ◌∷◌, ℕ, ◌+◌, ℤ, pos, nat_abs, Option as Answer, Some, None}
 use Rattle.std.proofs.Math.Option.{Option, some, none as nothing}
 use Rattle.std.specs.Int.Signed.{le_z}
 use Rattle.numbers.specs.Ranges.{all_pass}
 use Rattle.messagepack.specs.Document.{Document, Documents, none, item, count}
 use Rattle.values.specs.Parts.{integer_of, items_of}
-use Rattle.values.specs.declared.lists.Sum.{Sum}
-use Rattle.values.specs.declared.lists.Length.{Length}
 
 -- the integers of an array's values
 unfoldable pub integers_of : Documents → List ℤ
@@ -33,11 +31,11 @@ unfoldable pub sum : List ℤ → ℕ
 sum [] = 0
 sum (x ∷ xs) = nat_abs x + sum xs
 
--- the answer for a sum: that one is negative, or the sum
-abbrev pub summed : List ℤ → Sum
-summed xs = cond (none_negative xs) (Sum.Is (sum xs)) Sum.Negative
+-- the answer for a sum: none where one is negative, or the sum
+abbrev pub summed : List ℤ → Answer ℕ
+summed xs = cond (none_negative xs) (Some (sum xs)) None
 
--- whether an array is there, and how many values it has, 0 where it is not
-abbrev pub array_length : Option Document → Length
-array_length (some x) = record { there = true; count = count (items_of x) }
-array_length nothing = record { there = false; count = 0 }
+-- how many values an array has, if it is there
+abbrev pub array_length : Option Document → Answer ℕ
+array_length (some x) = Some (count (items_of x))
+array_length nothing = None

@@ -1,11 +1,9 @@
--- What an inner step promises. An inner step is a public function of a crate inside, which takes a place of a file and the table of lead bytes
--- that its caller lends. It is safe for all inputs: it ends, and stays inside what it is lent. It promises a meaning only for a file that has been
--- walked: the lent table is the table of lead bytes, and a document that keeps the rules stands at the place. The calls that C, Python and the
+-- What an inner step promises. An inner step is a public function of a crate inside, which takes a place of a file. It is safe for all inputs: it
+-- ends, and stays inside what it is lent. It promises a meaning only for a file that has been walked: a document that keeps the rules stands at
+-- the place. The calls that C, Python and the
 -- program reach have no such condition: those that take a file walk it first, and all promise their results for all bytes.
 --
--- These inner steps promise a result for any table that is lent (*heads* `Table`, *values* `Heads`), and its meaning for a walked file:
---   heads::kind_at                 the kind of the value at a place
---   heads::head_at                 the number that the head at a place holds, and where the head ends
+-- These inner steps promise a result for all bytes (*values* `Heads`), and its meaning for a walked file:
 --   values::integer_at             the integer at a place, else 0
 --   values::text_at                the bytes of the string or the binary at a place, else none
 --   values::key_at                 the same
@@ -34,7 +32,6 @@
 -- No lemma stands here. Assumes nothing.
 use Rattle.std.specs.Prelude.{◌≡◌, List, ℕ, ◌≤◌, length}
 use Rattle.std.proofs.Math.Option.{Option}
-use Rattle.heads.specs.Table.{lead_table}
 use Rattle.messagepack.specs.Document.{Document, Documents, Entries, count, size}
 use Rattle.messagepack.specs.Limits.{file_limit}
 use Rattle.values.specs.Places.{At, AtAll, AtEntries, PlaceSays}
@@ -45,25 +42,25 @@ abbrev pub Short : List ℕ → Type 0
 Short file = length file ≤ file_limit
 
 -- a promise on a file that has been walked, by the document at a place and where it ends
-abbrev pub Walked : List ℕ → List ℕ → ℕ → (Document → ℕ → Type 0) → Type 0
-Walked leads file at P = leads ≡ lead_table → (x : Document) (e : ℕ) → At file at x e → P x e
+abbrev pub Walked : List ℕ → ℕ → (Document → ℕ → Type 0) → Type 0
+Walked file at P = (x : Document) (e : ℕ) → At file at x e → P x e
 
 -- a promise on a walked file, by the n values of an array that stand from a place on, and where they end
-abbrev pub WalkedAll : List ℕ → List ℕ → ℕ → ℕ → (Documents → ℕ → Type 0) → Type 0
-WalkedAll leads file n at P = leads ≡ lead_table → (ds : Documents) (e : ℕ) → AtAll file at ds e → count ds ≡ n → P ds e
+abbrev pub WalkedAll : List ℕ → ℕ → ℕ → (Documents → ℕ → Type 0) → Type 0
+WalkedAll file n at P = (ds : Documents) (e : ℕ) → AtAll file at ds e → count ds ≡ n → P ds e
 
 -- a promise on a walked file, by the n entries of a map that stand from a place on, and where they end
-abbrev pub WalkedEntries : List ℕ → List ℕ → ℕ → ℕ → (Entries → ℕ → Type 0) → Type 0
-WalkedEntries leads file n at P = leads ≡ lead_table → (es : Entries) (e : ℕ) → AtEntries file at es e → size es ≡ n → P es e
+abbrev pub WalkedEntries : List ℕ → ℕ → ℕ → (Entries → ℕ → Type 0) → Type 0
+WalkedEntries file n at P = (es : Entries) (e : ℕ) → AtEntries file at es e → size es ≡ n → P es e
 
 -- a promise on a walked file, by whatever is known to stand in it
-abbrev pub WalkedBy : {A : Type 0} → List ℕ → (A → Type 0) → (A → Type 0) → Type 0
-WalkedBy {A} leads Stands P = leads ≡ lead_table → (a : A) → Stands a → P a
+abbrev pub WalkedBy : {A : Type 0} → (A → Type 0) → (A → Type 0) → Type 0
+WalkedBy {A} Stands P = (a : A) → Stands a → P a
 
 -- a promise on a walked file, by the document at a place, or that there is none where the place is 0
-abbrev pub WalkedPlace : List ℕ → List ℕ → ℕ → (Option Document → Type 0) → Type 0
-WalkedPlace leads file at P = WalkedBy leads (PlaceSays file at) P
+abbrev pub WalkedPlace : List ℕ → ℕ → (Option Document → Type 0) → Type 0
+WalkedPlace file at P = WalkedBy (PlaceSays file at) P
 
 -- a promise on a walked file, by the end of the value at a place, whatever its strings and keys are
-abbrev pub WalkedOver : List ℕ → List ℕ → ℕ → (ℕ → Type 0) → Type 0
-WalkedOver leads file at P = leads ≡ lead_table → (e : ℕ) → Standing file 1 at e → P e
+abbrev pub WalkedOver : List ℕ → ℕ → (ℕ → Type 0) → Type 0
+WalkedOver file at P = (e : ℕ) → Standing file 1 at e → P e

@@ -4,29 +4,27 @@ ghost use Rattle.values.specs.Parts.{entries_of, look};
 ghost use Rattle.values.specs.Places.{PlaceSays};
 ghost use Rattle.values.specs.Walked.{Walked, WalkedEntries};
 
-// The place of the value under a name in the map at a place; 0 where there is none.
-pub fn find(leads: &[u8; 256], file: &[u8], at: usize, name: &[u8]) -> usize
-    ensures { Walked leads.now file.now at (λ x e. PlaceSays file.now result (look name.now (entries_of x))) }
+// The place of the value under a name in the map at a place; 0, where no value stands, if there is none. It stays a number, since `PlaceSays` and
+// the tables of places of `fields` have 0 for a value that is not there.
+pub fn find(file: &[u8], at: usize, name: &[u8]) -> usize
+    ensures { Walked file.now at (λ x e. PlaceSays file.now result (look name.now (entries_of x))) }
 {
-    let part = crate::entries_at(leads, file, at);
-    find_from(leads, file, part.count, part.at, name)
+    let part = crate::entries_at(file, at);
+    find_from(file, part.count, part.at, name)
 }
 
 // The place of the value under a name among n entries from a place on.
-fn find_from(leads: &[u8; 256], file: &[u8], n: usize, at: usize, name: &[u8]) -> usize
-    ensures { WalkedEntries leads.now file.now n at (λ es e. PlaceSays file.now result (look name.now es)) }
+fn find_from(file: &[u8], n: usize, at: usize, name: &[u8]) -> usize
+    ensures { WalkedEntries file.now n at (λ es e. PlaceSays file.now result (look name.now es)) }
 {
-    let mut left = n;
     let mut p = at;
-    while 0 < left {
-        let key = crate::text_at(leads, file, p);
-        let a = key.at;
-        let value = a + key.count;
-        if text::same_bytes(&file[a..value], name) {
+    for _i in 0..n {
+        let key = crate::key_at(file, p);
+        let value = key.at + key.count;
+        if text::same_bytes(&file[key.at..value], name) {
             return value;
         }
-        p = crate::skip(leads, file, value);
-        left -= 1;
+        p = crate::skip(file, value);
     }
     0
 }

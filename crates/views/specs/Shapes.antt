@@ -1,5 +1,5 @@
 -- The shape of the value under an outer key, by the file's document. No lemma stands here. Assumes nothing.
-use Rattle.std.specs.Prelude.{Bool, true, false, cond, ◌&&◌, List, ℕ, eqb}
+use Rattle.std.specs.Prelude.{Option as Answer, Some, None, Bool, true, false, cond, ◌&&◌, List, ℕ, eqb}
 use Rattle.std.proofs.Math.Option.{Option, some, none as nothing}
 use Rattle.refusal.specs.Table.{accepted}
 use Rattle.heads.specs.declared.Kind.{Kind}
@@ -33,13 +33,13 @@ shape_of (array ds) = cond (all_plain ds) Shape.Flat Shape.Nested
 shape_of (map es) = Shape.Nested
 
 -- the shape of a value that is there, or not
-abbrev pub shape_in : Option Document → Shape
-shape_in (some x) = shape_of x
-shape_in nothing = Shape.Missing
+abbrev pub shape_in : Option Document → Answer Shape
+shape_in (some x) = Some (shape_of x)
+shape_in nothing = None
 
 -- the shape of the value under an outer key of a container
-unfoldable pub shape_under : List ℕ → List ℕ → Shape
-shape_under file name = cond (eqb (container_number file) accepted) (shape_in (look name (entries_of (document_of file)))) Shape.Missing
+unfoldable pub shape_under : List ℕ → List ℕ → Answer Shape
+shape_under file name = cond (eqb (container_number file) accepted) (shape_in (look name (entries_of (document_of file)))) None
 
 -- For the code inside: the same by the kind of a value's head, and by whether the values of an array are all plain.
 
@@ -54,13 +54,13 @@ is_plain Kind.Map = false
 is_plain Kind.Outside = false
 is_plain Kind.Missing = false
 
-abbrev pub kind_shape : Kind → Bool → Shape
-kind_shape Kind.Unsigned flat = Shape.Integer
-kind_shape Kind.Signed flat = Shape.Integer
-kind_shape Kind.Float flat = Shape.Float
-kind_shape Kind.Str flat = Shape.String
-kind_shape Kind.Bin flat = Shape.Binary
-kind_shape Kind.Array flat = cond flat Shape.Flat Shape.Nested
-kind_shape Kind.Map flat = Shape.Nested
-kind_shape Kind.Outside flat = Shape.Missing
-kind_shape Kind.Missing flat = Shape.Missing
+abbrev pub kind_shape : Kind → Bool → Answer Shape
+kind_shape Kind.Unsigned flat = Some Shape.Integer
+kind_shape Kind.Signed flat = Some Shape.Integer
+kind_shape Kind.Float flat = Some Shape.Float
+kind_shape Kind.Str flat = Some Shape.String
+kind_shape Kind.Bin flat = Some Shape.Binary
+kind_shape Kind.Array flat = Some (cond flat Shape.Flat Shape.Nested)
+kind_shape Kind.Map flat = Some Shape.Nested
+kind_shape Kind.Outside flat = None
+kind_shape Kind.Missing flat = None

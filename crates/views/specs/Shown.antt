@@ -6,11 +6,11 @@ use Rattle.messagepack.specs.Rules.{depth_entries, KeepsEntries, Container}
 use Rattle.messagepack.specs.Walk.{container_number}
 use Rattle.messagepack.specs.Outer.{outer_levels, keys_of}
 use Rattle.views.specs.View.{shown}
-use Rattle.views.specs.declared.Place.{Place}
+use Rattle.views.specs.Place.{Place, some_part}
 
 -- the place of the part that shows a value with the writing w, which stands at another place
 abbrev pub shown_place : ℕ → Document → List ℕ → Place
-shown_place at x w = Place.At (at + (length w - length (shown x w))) (length (shown x w))
+shown_place at x w = some_part (at + (length w - length (shown x w))) (length (shown x w))
 
 -- a place is that of the part that shows the value at another, whatever document stands there
 abbrev pub ShowsAt : List ℕ → ℕ → Place → Type 0

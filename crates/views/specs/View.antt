@@ -1,7 +1,7 @@
 -- A view by name: the part of a file that shows an outer key's value (paper 01, "Views and the receipt").
 -- Stated from documents outwards: an entry and its writing, with what stands before and after it. The place and the part are given by the
 -- definitions of Place.antt. No lemma stands here. Assumes nothing.
-use Rattle.std.specs.Prelude.{◌≡◌, Bool, true, false, cond, ◌||◌, List, [], ◌++◌, ℕ, suc, ◌+◌, ◌-◌, ◌<◌, eqb, length}
+use Rattle.std.specs.Prelude.{Err, ◌≡◌, Bool, true, false, cond, ◌||◌, List, [], ◌++◌, ℕ, suc, ◌+◌, ◌-◌, ◌<◌, eqb, length}
 use Rattle.std.proofs.Math.Option.{Option, some, none}
 use Rattle.refusal.specs.Table.{accepted, no_such_field}
 use Rattle.text.specs.Equal.{equal}
@@ -12,7 +12,7 @@ use Rattle.messagepack.specs.Rules.{Container}
 use Rattle.messagepack.specs.Walk.{container_number}
 use Rattle.messagepack.specs.Read.{document_of}
 use Rattle.values.specs.Parts.{entries_of, look}
-use Rattle.views.specs.declared.Place.{Place}
+use Rattle.views.specs.Place.{Place, some_part}
 
 -- in the file, which is a map's writing, the value x of the outer key name is written w
 pub record EntryIn (file name : List ℕ) (x : Document) (w : List ℕ) : Type 0 where
@@ -60,6 +60,10 @@ unfoldable pub view_number : List ℕ → List ℕ → ℕ
 view_number file name =
     cond (eqb (container_number file) accepted) (cond (has_key name (entries_of (document_of file))) accepted no_such_field) (container_number file)
 
+-- the value under an outer key of a container, if there is one
+abbrev pub value_under : List ℕ → List ℕ → Option Document
+value_under file name = cond (eqb (container_number file) accepted) (look name (entries_of (document_of file))) none
+
 -- is a value there, and a binary?
 abbrev pub is_binary_value : Option Document → Bool
 is_binary_value (some (binary t)) = true
@@ -76,8 +80,8 @@ binary_under file name = cond (eqb (container_number file) accepted) (is_binary_
 
 -- the place of the part, or the refusal where there is none
 pub data Placed (file name : List ℕ) : Place → Type 0 where
-  placed : (v : Viewable file name) → Placed file name (Place.At (start_of v) (length (shown v.x v.w)))
-  refused : {n : ℕ} → 0 < n → n ≡ view_number file name → (Viewable file name → ⊥) → Placed file name (Place.Refused n)
+  placed : (v : Viewable file name) → Placed file name (some_part (start_of v) (length (shown v.x v.w)))
+  refused : {n : ℕ} → 0 < n → n ≡ view_number file name → (Viewable file name → ⊥) → Placed file name (Err n)
 
 -- the part: what is shown of the value, or nothing
 pub data Viewed (file name : List ℕ) : List ℕ → Type 0 where

@@ -1,5 +1,5 @@
 // The shape of the value under an outer key: whether it can be shown as text, and how.
-ghost use Rattle.std.specs.Prelude.{◌≡◌};
+ghost use Rattle.std.specs.Prelude.{◌≡◌, Some};
 ghost use Rattle.values.specs.Walked.{Walked, WalkedAll};
 ghost use Rattle.values.specs.Parts.{items_of};
 ghost use Rattle.views.specs.Shapes.{is_plain, all_plain, kind_shape, shape_of, shape_under};
@@ -15,63 +15,53 @@ pub enum Shape {
     Binary,
     Flat,
     Nested,
-    // The file is no container, or has no such key.
-    Missing,
 }
 
-// The shape of the value under an outer key.
-pub fn shape_of(file: &[u8], name: &[u8]) -> Shape
+// The shape of the value under an outer key; none where the file is no container or has no such key.
+pub fn shape_of(file: &[u8], name: &[u8]) -> Option<Shape>
     ensures { result ≡ shape_under file.now name.now }
 {
-    if messagepack::container(file) != refusal::ACCEPTED {
-        return Shape::Missing;
-    }
-    let leads = heads::leads();
-    let at = values::keys::find(&leads, file, 0, name);
+    let at = crate::value_under(file, name);
     if at == 0 {
-        return Shape::Missing;
+        return None;
     }
-    shape_at(&leads, file, at)
+    shape_at(file, at)
 }
 
 // The shape of the value at a place.
-fn shape_at(leads: &[u8; 256], file: &[u8], at: usize) -> Shape
-    ensures { Walked leads.now file.now at (λ x e. result ≡ shape_of x) }
+fn shape_at(file: &[u8], at: usize) -> Option<Shape>
+    ensures { Walked file.now at (λ x e. result ≡ Some (shape_of x)) }
 {
-    let part = values::items_at(leads, file, at);
-    let flat = all_plain(leads, file, part.count, part.at);
-    by_kind(heads::kind_at(leads, file, at), flat)
+    let part = values::items_at(file, at);
+    let flat = all_plain(file, part.count, part.at);
+    by_kind(heads::kind_at(file, at), flat)
 }
 
 // The shape of a value by its kind, and by whether the values of an array are all plain.
-fn by_kind(kind: Kind, flat: bool) -> Shape
+fn by_kind(kind: Kind, flat: bool) -> Option<Shape>
     ensures { result ≡ kind_shape kind flat }
 {
     match kind {
-        Kind::Unsigned => Shape::Integer,
-        Kind::Signed => Shape::Integer,
-        Kind::Float => Shape::Float,
-        Kind::Str => Shape::String,
-        Kind::Bin => Shape::Binary,
-        Kind::Array => if flat { Shape::Flat } else { Shape::Nested },
-        Kind::Map => Shape::Nested,
-        Kind::Outside => Shape::Missing,
-        Kind::Missing => Shape::Missing,
+        Kind::Unsigned | Kind::Signed => Some(Shape::Integer),
+        Kind::Float => Some(Shape::Float),
+        Kind::Str => Some(Shape::String),
+        Kind::Bin => Some(Shape::Binary),
+        Kind::Array => Some(if flat { Shape::Flat } else { Shape::Nested }),
+        Kind::Map => Some(Shape::Nested),
+        Kind::Outside | Kind::Missing => None,
     }
 }
 
 // Whether the n values from a place on are plain.
-fn all_plain(leads: &[u8; 256], file: &[u8], n: usize, at: usize) -> bool
-    ensures { WalkedAll leads.now file.now n at (λ ds e. result ≡ all_plain ds) }
+fn all_plain(file: &[u8], n: usize, at: usize) -> bool
+    ensures { WalkedAll file.now n at (λ ds e. result ≡ all_plain ds) }
 {
-    let mut left = n;
     let mut p = at;
-    while 0 < left {
-        if !is_plain(heads::kind_at(leads, file, p)) {
+    for _i in 0..n {
+        if !is_plain(heads::kind_at(file, p)) {
             return false;
         }
-        p = values::skip(leads, file, p);
-        left -= 1;
+        p = values::skip(file, p);
     }
     true
 }
@@ -80,15 +70,8 @@ fn all_plain(leads: &[u8; 256], file: &[u8], n: usize, at: usize) -> bool
 fn is_plain(kind: Kind) -> bool
     ensures { result ≡ is_plain kind }
 {
-    match kind {
-        Kind::Unsigned => true,
-        Kind::Signed => true,
-        Kind::Float => true,
-        Kind::Str => true,
-        Kind::Bin => false,
-        Kind::Array => false,
-        Kind::Map => false,
-        Kind::Outside => false,
-        Kind::Missing => false,
-    }
+    matches!(
+        kind,
+        Kind::Unsigned | Kind::Signed | Kind::Float | Kind::Str
+    )
 }

@@ -1,6 +1,6 @@
-// The writers of payloads: `plain` for numbers, floats and names of one number a cell, `packed`, and `runs`. Here is what they share: what
-// they say, whether a form may hold a column's cells (18), room (25), delta, and the bytes of one number. Every call of a module is total,
-// and where it refuses it changes nothing.
+// The writers of payloads: `plain` for numbers, floats and names of one number a cell, `packed`, and `runs`; each answers how many bytes it put.
+// Here is what they share: whether a form may hold a column's cells (18), room (25), delta, and the bytes of one number. Every call of a module
+// is total, and where it refuses it changes nothing.
 #![tactic(auto)]
 
 pub mod packed;
@@ -16,22 +16,11 @@ ghost use Rattle.writers.specs.Placed.{over};
 
 use steps::Range;
 
-// What a writer says: how many bytes it put, that a cell is not allowed, or that there is no room.
-#[derive(Clone, Copy)]
-pub enum Placed {
-    Bytes(usize),
-    NotAllowed,
-    NoRoom,
-}
-
 // Whether n bytes from `at` on are inside a buffer.
 fn fits(n: usize, length: usize, at: usize) -> bool
     ensures { result ≡ nat_le (at + n) length }
 {
-    if length < at {
-        return false;
-    }
-    n <= length - at
+    at <= length && n <= length - at
 }
 
 // Whether every value is of a range.
@@ -47,6 +36,7 @@ fn all_in(values: &[i32], range: Range) -> bool
 }
 
 // Whether all numbers are of a range; `all_in` calls it with each range as a constant, so that each has a loop of its own.
+// A hot loop: it stays in the form that was measured.
 fn each_in(values: &[i32], range: Range) -> bool
     ensures { result ≡ all_in range values.now }
 {
@@ -64,11 +54,8 @@ fn all_ascii(values: &[u8]) -> bool
     ensures { result ≡ all_in Range.Ascii (map pos values.now) }
 {
     let mut ok = true;
-    let mut i: usize = 0;
-    while i < values.len() {
-        let b = values[i];
-        ok = ok & (b <= 127);
-        i += 1;
+    for b in values {
+        ok &= *b <= 127;
     }
     ok
 }

@@ -5,10 +5,11 @@ ghost use Rattle.steps.specs.Width.{upper, lower, size_of};
 ghost use Rattle.steps.specs.Numbers.{bytes_for};
 ghost use Rattle.steps.specs.Delta.{deltas_if};
 ghost use Rattle.steps.specs.Packing.{pack_one, pack};
+ghost use Rattle.refusal.specs.Outcome.{numbered};
 ghost use Rattle.writers.specs.Placed.{over, placed_cells, laid_cells};
 ghost use Rattle.writers.specs.Bits.{bits_for, up_to, to_write, GoesOn};
 
-use crate::Placed;
+use refusal::Refusal;
 use steps::{Form, Range, Size};
 
 // The next value to be written, the place of its bytes, and the value before it.
@@ -26,26 +27,27 @@ pub fn place_numbers(
     delta: bool,
     buffer: &mut [u8],
     start: usize,
-) -> Placed
-    ensures answer { result ≡ placed_cells (Form.Packed size) 0 delta values.now (length buffer.old) start }
+) -> Result<usize, Refusal>
+    ensures answer { numbered result ≡ placed_cells (Form.Packed size) 0 delta values.now (length buffer.old) start }
     ensures buffer { buffer.new ≡ laid_cells (Form.Packed size) 0 delta values.now buffer.old start }
 {
     if !crate::all_in(values, Range::Int32) {
-        return Placed::NotAllowed;
+        return Err(Refusal::NumberNotAllowed);
     }
     if buffer.len() < start {
-        return Placed::NoRoom;
+        return Err(Refusal::BufferTooSmall);
     }
     let room = buffer.len() - start;
     let n = count_numbers(values, size, delta, room);
     if room < n {
-        return Placed::NoRoom;
+        return Err(Refusal::BufferTooSmall);
     }
     write_numbers(values, size, delta, buffer, start);
-    Placed::Bytes(n)
+    Ok(n)
 }
 
 // How many bytes packed numbers have; where they are more than the room, one more than it. Each value is one number, and a few are more.
+// A hot loop: it stays in the form that was measured.
 fn count_numbers(values: &[i32], size: Size, delta: bool, room: usize) -> usize
     requires { room < 9223372036854775808 }
     ensures { result ≡ up_to room (length (bytes_for size (pack size (deltas_if delta values.now)))) }
@@ -78,7 +80,7 @@ fn limits_of(x: i32, size: Size, low: u32, span: u32) -> usize
     requires { (low ≡ lower size - 1) × (span ≡ upper size + low) }
     ensures { (result + 1 ≡ length (pack_one (upper size) (lower size) x)) × (result < 4294967296) }
 {
-    if is_short(numbers::to_u32(x), low, span) {
+    if is_short(x.cast_unsigned(), low, span) {
         return 0;
     }
     limits_of_long(x, size)
@@ -89,13 +91,13 @@ fn limits_of(x: i32, size: Size, low: u32, span: u32) -> usize
 fn limits_of_long(x: i32, size: Size) -> usize
     ensures { (result + 1 ≡ length (pack_one (upper size) (lower size) x)) × (result < 4294967296) }
 {
-    let bits = numbers::to_u32(x);
+    let bits = x.cast_unsigned();
     let above = bits / upper(size);
     let below = negated(bits) / lower(size);
     if bits < 0x8000_0000 {
-        return numbers::u32_to_usize(above);
+        return above as usize;
     }
-    numbers::u32_to_usize(below)
+    below as usize
 }
 
 // Packed numbers from `start` on: short values by a loop of their own, up to the next that is not.
@@ -130,6 +132,7 @@ fn write_numbers(values: &[i32], size: Size, delta: bool, buffer: &mut [u8], sta
 }
 
 // Writes the values from a spot on that are one number each, and gives the spot of the first that is more.
+// A hot loop from a place in the middle: it stays in the form that was measured.
 fn write_short(values: &[i32], size: Size, delta: bool, buffer: &mut [u8], from: Spot) -> Spot
     requires { from.at + length (to_write size delta values.now from) ≤ length buffer.old }
     ensures room { result.at + length (to_write size delta values.now result) ≤ length buffer.old }
@@ -144,7 +147,7 @@ fn write_short(values: &[i32], size: Size, delta: bool, buffer: &mut [u8], from:
     let mut i = from.next;
     while i < values.len() {
         let x = values[i];
-        let bits = numbers::to_u32(crate::delta_if(before, x, delta));
+        let bits = crate::delta_if(before, x, delta).cast_unsigned();
         if !is_short(bits, low, span) {
             return Spot {
                 next: i,
@@ -170,7 +173,7 @@ fn write_long(x: i32, size: Size, buffer: &mut [u8], at: usize) -> usize
     ensures place { result ≡ at + length (bytes_for size (pack_one (upper size) (lower size) x)) }
     ensures buffer { buffer.new ≡ over buffer.old at (bytes_for size (pack_one (upper size) (lower size) x)) }
 {
-    let bits = numbers::to_u32(x);
+    let bits = x.cast_unsigned();
     if bits < 0x8000_0000 {
         let p = upper(size);
         return write_parts(bits / p, p, bits % p, size, buffer, at);
@@ -195,11 +198,9 @@ fn write_parts(
 {
     let k = steps::bytes(size);
     let mut at = start;
-    let mut limits = count;
-    while 0 < limits {
+    for _ in 0..count {
         put(buffer, at, limit, size);
         at += k;
-        limits -= 1;
     }
     put(buffer, at, rest, size);
     at + k
@@ -222,7 +223,7 @@ fn put(buffer: &mut [u8], at: usize, bits: u32, size: Size)
 fn is_short(bits: u32, low: u32, span: u32) -> bool
     ensures { result ≡ nat_lt ((bits + low) % 4294967296) span }
 {
-    std::num::wrapping_add_u32(bits, low) < span
+    bits.wrapping_add(low) < span
 }
 
 // The largest number of a size.
@@ -251,5 +252,5 @@ fn lower(size: Size) -> u32
 fn negated(bits: u32) -> u32
     ensures { result ≡ (4294967296 - bits) % 4294967296 }
 {
-    std::num::wrapping_sub_u32(0, bits)
+    bits.wrapping_neg()
 }

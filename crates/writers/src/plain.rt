@@ -7,14 +7,20 @@ ghost use Rattle.numbers.specs.BigEndian.{bytes_of};
 ghost use Rattle.steps.specs.Numbers.{bytes_for};
 ghost use Rattle.steps.specs.Payload.{range_of, all_in};
 ghost use Rattle.steps.specs.Width.{size_of};
+ghost use Rattle.refusal.specs.Outcome.{numbered};
 ghost use Rattle.writers.specs.Placed.{over, placed_cells, laid_cells};
 
-use crate::Placed;
+use refusal::Refusal;
 use steps::{Form, Range, Size};
 
 // The payload of plain numbers.
-pub fn place_numbers(values: &[i32], size: Size, buffer: &mut [u8], at: usize) -> Placed
-    ensures answer { result ≡ placed_cells (Form.Plain size) 0 false values.now (length buffer.old) at }
+pub fn place_numbers(
+    values: &[i32],
+    size: Size,
+    buffer: &mut [u8],
+    at: usize,
+) -> Result<usize, Refusal>
+    ensures answer { numbered result ≡ placed_cells (Form.Plain size) 0 false values.now (length buffer.old) at }
     ensures buffer { buffer.new ≡ laid_cells (Form.Plain size) 0 false values.now buffer.old at }
 {
     match size {
@@ -25,48 +31,58 @@ pub fn place_numbers(values: &[i32], size: Size, buffer: &mut [u8], at: usize) -
 }
 
 // The payload of names of `size` bytes each.
-pub fn place_names(names: &[u8], size: usize, buffer: &mut [u8], at: usize) -> Placed
-    ensures answer { result ≡ placed_cells Form.Names size false (map pos names.now) (length buffer.old) at }
+pub fn place_names(
+    names: &[u8],
+    size: usize,
+    buffer: &mut [u8],
+    at: usize,
+) -> Result<usize, Refusal>
+    ensures answer { numbered result ≡ placed_cells Form.Names size false (map pos names.now) (length buffer.old) at }
     ensures buffer { buffer.new ≡ laid_cells Form.Names size false (map pos names.now) buffer.old at }
 {
     if !steps::are_names(names, size) {
-        return Placed::NotAllowed;
+        return Err(Refusal::NumberNotAllowed);
     }
     let n = names.len();
     if !crate::fits(n, buffer.len(), at) {
-        return Placed::NoRoom;
+        return Err(Refusal::BufferTooSmall);
     }
     write_names(names, buffer, at);
-    Placed::Bytes(n)
+    Ok(n)
 }
 
 // The payload of floats, by their bits.
-pub fn place_floats(bits: &[u32], buffer: &mut [u8], at: usize) -> Placed
-    ensures answer { result ≡ placed_cells (Form.Plain Size.Four) 0 false (map (to_z w32) bits.now) (length buffer.old) at }
+pub fn place_floats(bits: &[u32], buffer: &mut [u8], at: usize) -> Result<usize, Refusal>
+    ensures answer { numbered result ≡ placed_cells (Form.Plain Size.Four) 0 false (map (to_z w32) bits.now) (length buffer.old) at }
     ensures buffer { buffer.new ≡ laid_cells (Form.Plain Size.Four) 0 false (map (to_z w32) bits.now) buffer.old at }
 {
     let n = bits.len() * 4;
     if !crate::fits(n, buffer.len(), at) {
-        return Placed::NoRoom;
+        return Err(Refusal::BufferTooSmall);
     }
     write_floats(bits, buffer, at);
-    Placed::Bytes(n)
+    Ok(n)
 }
 
 // Places numbers of one size; `place_numbers` calls it with each size as a constant, so that each has a loop of its own.
-fn place_sized(values: &[i32], size: Size, buffer: &mut [u8], start: usize) -> Placed
-    ensures answer { result ≡ placed_cells (Form.Plain size) 0 false values.now (length buffer.old) start }
+fn place_sized(
+    values: &[i32],
+    size: Size,
+    buffer: &mut [u8],
+    start: usize,
+) -> Result<usize, Refusal>
+    ensures answer { numbered result ≡ placed_cells (Form.Plain size) 0 false values.now (length buffer.old) start }
     ensures buffer { buffer.new ≡ laid_cells (Form.Plain size) 0 false values.now buffer.old start }
 {
     if !crate::all_in(values, range_of(size)) {
-        return Placed::NotAllowed;
+        return Err(Refusal::NumberNotAllowed);
     }
     let n = values.len() * steps::bytes(size);
     if !crate::fits(n, buffer.len(), start) {
-        return Placed::NoRoom;
+        return Err(Refusal::BufferTooSmall);
     }
     write_numbers(values, size, buffer, start);
-    Placed::Bytes(n)
+    Ok(n)
 }
 
 // The numbers that a plain form may hold.
@@ -80,7 +96,7 @@ fn range_of(size: Size) -> Range
     }
 }
 
-// Plain numbers from `start` on.
+// Plain numbers from `start` on. A hot loop: it stays in the form that was measured.
 fn write_numbers(values: &[i32], size: Size, buffer: &mut [u8], start: usize)
     requires { (all_in (range_of (Form.Plain size)) values.now ≡ true) × (start + length (bytes_for size values.now) ≤ length buffer.old) }
     ensures { buffer.new ≡ over buffer.old start (bytes_for size values.now) }
@@ -88,7 +104,7 @@ fn write_numbers(values: &[i32], size: Size, buffer: &mut [u8], start: usize)
     let mut at = start;
     let mut i: usize = 0;
     while i < values.len() {
-        put(buffer, at, numbers::to_u32(values[i]), size);
+        put(buffer, at, values[i].cast_unsigned(), size);
         at += steps::bytes(size);
         i += 1;
     }
@@ -99,13 +115,7 @@ fn write_names(names: &[u8], buffer: &mut [u8], start: usize)
     requires { start + length (bytes_for Size.One (map pos names.now)) ≤ length buffer.old }
     ensures { buffer.new ≡ over buffer.old start (bytes_for Size.One (map pos names.now)) }
 {
-    let mut at = start;
-    let mut i: usize = 0;
-    while i < names.len() {
-        crate::put_one(buffer, at, names[i] as u32);
-        at += 1;
-        i += 1;
-    }
+    buffer[start..start + names.len()].copy_from_slice(names);
 }
 
 // Floats from `start` on.
@@ -114,11 +124,9 @@ fn write_floats(bits: &[u32], buffer: &mut [u8], start: usize)
     ensures { buffer.new ≡ over buffer.old start (bytes_for Size.Four (map (to_z w32) bits.now)) }
 {
     let mut at = start;
-    let mut i: usize = 0;
-    while i < bits.len() {
-        crate::put_four(buffer, at, bits[i]);
+    for x in bits {
+        crate::put_four(buffer, at, *x);
         at += 4;
-        i += 1;
     }
 }
 

@@ -4,10 +4,11 @@ ghost use Rattle.numbers.specs.BigEndian.{bytes_of};
 ghost use Rattle.steps.specs.Numbers.{bytes_for};
 ghost use Rattle.steps.specs.Delta.{deltas_if};
 ghost use Rattle.steps.specs.RunLength.{runs_of};
+ghost use Rattle.refusal.specs.Outcome.{numbered};
 ghost use Rattle.writers.specs.Placed.{over, placed_cells, laid_cells};
 ghost use Rattle.writers.specs.Bits.{CellAfter, BegunIn};
 
-use crate::Placed;
+use refusal::Refusal;
 use steps::{Form, Range, Size};
 
 // The payload of runs.
@@ -17,35 +18,35 @@ pub fn place_numbers(
     delta: bool,
     buffer: &mut [u8],
     at: usize,
-) -> Placed
-    ensures answer { result ≡ placed_cells (Form.Runs range) 0 delta values.now (length buffer.old) at }
+) -> Result<usize, Refusal>
+    ensures answer { numbered result ≡ placed_cells (Form.Runs range) 0 delta values.now (length buffer.old) at }
     ensures buffer { buffer.new ≡ laid_cells (Form.Runs range) 0 delta values.now buffer.old at }
 {
     if !crate::all_in(values, range) {
-        return Placed::NotAllowed;
+        return Err(Refusal::NumberNotAllowed);
     }
     let n = count_numbers(values, delta);
     if !runs_fit(n, buffer.len(), at) {
-        return Placed::NoRoom;
+        return Err(Refusal::BufferTooSmall);
     }
     write_numbers(values, delta, buffer, at);
-    Placed::Bytes(n * 8)
+    Ok(n * 8)
 }
 
 // The payload of runs of characters.
-pub fn place_chars(values: &[u8], buffer: &mut [u8], at: usize) -> Placed
-    ensures answer { result ≡ placed_cells (Form.Runs Range.Ascii) 0 false (map pos values.now) (length buffer.old) at }
+pub fn place_chars(values: &[u8], buffer: &mut [u8], at: usize) -> Result<usize, Refusal>
+    ensures answer { numbered result ≡ placed_cells (Form.Runs Range.Ascii) 0 false (map pos values.now) (length buffer.old) at }
     ensures buffer { buffer.new ≡ laid_cells (Form.Runs Range.Ascii) 0 false (map pos values.now) buffer.old at }
 {
     if !crate::all_ascii(values) {
-        return Placed::NotAllowed;
+        return Err(Refusal::NumberNotAllowed);
     }
     let n = count_chars(values);
     if !runs_fit(n, buffer.len(), at) {
-        return Placed::NoRoom;
+        return Err(Refusal::BufferTooSmall);
     }
     write_chars(values, buffer, at);
-    Placed::Bytes(n * 8)
+    Ok(n * 8)
 }
 
 // How many cells a block has: few enough for their runs to be counted in 32 bits.
@@ -62,7 +63,7 @@ fn count_numbers(values: &[i32], delta: bool) -> usize
     if values.len() == 1 {
         return 1;
     }
-    let first = numbers::to_u32(crate::delta_if(0, values[0], delta));
+    let first = crate::delta_if(0, values[0], delta).cast_unsigned();
     let last = values.len() - 2;
     let mut n = begun(cell_after(values, delta, 0), first) as usize;
     let mut i: usize = 0;
@@ -74,7 +75,7 @@ fn count_numbers(values: &[i32], delta: bool) -> usize
 }
 
 // How many of `count` cells begin a run; the first of them is the cell at `from` + 2. Each is compared with the one before it in memory, so that
-// the processor compares several at once; 32 bits are enough for the count.
+// the processor compares several at once; 32 bits are enough for the count. A hot loop: it stays in the form that was measured.
 fn begun_in(values: &[i32], delta: bool, from: usize, count: usize) -> u32
     requires { (from + count + 2 ≤ length values.now) × (count ≤ 65536) }
     ensures { BegunIn delta values.now from count result }
@@ -97,7 +98,7 @@ fn cell_after(values: &[i32], delta: bool, i: usize) -> u32
     requires { i + 1 < length values.now }
     ensures { CellAfter delta values.now i result }
 {
-    numbers::to_u32(crate::delta_if(values[i], values[i + 1], delta))
+    crate::delta_if(values[i], values[i + 1], delta).cast_unsigned()
 }
 
 // The runs from `start` on.
@@ -109,13 +110,14 @@ fn write_numbers(values: &[i32], delta: bool, buffer: &mut [u8], start: usize)
         return;
     }
     let mut before = values[0];
-    let mut v = numbers::to_u32(crate::delta_if(0, before, delta));
+    let mut v = crate::delta_if(0, before, delta).cast_unsigned();
     let mut n: usize = 1;
     let mut at = start;
+    // A `while`: after a `for` over the cells the two arms join before the next cell, and the proof did not close.
     let mut i: usize = 1;
     while i < values.len() {
         let x = values[i];
-        let y = numbers::to_u32(crate::delta_if(before, x, delta));
+        let y = crate::delta_if(before, x, delta).cast_unsigned();
         before = x;
         i += 1;
         if y == v {
@@ -139,12 +141,10 @@ fn count_chars(values: &[u8]) -> usize
     }
     let mut v = values[0] as u32;
     let mut n: usize = 1;
-    let mut i: usize = 1;
-    while i < values.len() {
+    for i in 1..values.len() {
         let x = values[i] as u32;
         n += begun(x, v) as usize;
         v = x;
-        i += 1;
     }
     n
 }
@@ -160,6 +160,7 @@ fn write_chars(values: &[u8], buffer: &mut [u8], start: usize)
     let mut v = values[0] as u32;
     let mut n: usize = 1;
     let mut at = start;
+    // A `while` as in `write_numbers`.
     let mut i: usize = 1;
     while i < values.len() {
         let x = values[i] as u32;
@@ -187,10 +188,7 @@ fn begun(cell: u32, last: u32) -> u32
 fn runs_fit(n: usize, length: usize, at: usize) -> bool
     ensures { result ≡ nat_le (at + n * 8) length }
 {
-    if length < at {
-        return false;
-    }
-    n <= (length - at) / 8
+    at <= length && n <= (length - at) / 8
 }
 
 // One run: its value and its count.

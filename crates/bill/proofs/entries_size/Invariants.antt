@@ -1,5 +1,5 @@
 -- What is counted and what is left give the size. Assumes nothing.
-use Rattle.std.proofs.Common.{◌≡◌, suc, ◌+◌, ◌-◌, ◌*◌, ◌≤◌, length}
+use Rattle.std.proofs.Common.{◌≡◌, suc, ◌+◌, ◌*◌, ◌≤◌, length}
 use Rattle.bill.specs.Run.{stations}
 use Rattle.bill.specs.Bill.{entries_text}
 use Rattle.bill.specs.Ledger.{ledger_entries}
@@ -10,6 +10,3 @@ use Rattle.bill.proofs.entries_size.Given as goal
 abbrev pub invariant-loop-station : goal.invariant-loop-station
 invariant-loop-station l =
     (l.station ≤ suc station_limit) × (l.size ≤ 58 * l.station) × (l.size + length (text_left l.station l.accepted l.refused) ≡ length (entries_text (ledger_entries stations l.accepted l.refused)))
-
-abbrev pub decreases-loop-station : goal.decreases-loop-station
-decreases-loop-station l = suc station_limit - l.station

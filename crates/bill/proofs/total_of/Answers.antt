@@ -1,5 +1,5 @@
 -- What is added and what is left give the total. Assumes nothing.
-use Rattle.std.proofs.Common.{◌≡◌, ℕ, ◌+◌, ◌%◌, ◌<◌, sym, ap, ◌∙◌, subst, mod-lt, mod-eq_of_lt, arith}
+use Rattle.std.proofs.Common.{◌≡◌, ℕ, ◌+◌, ◌%◌, sym, ap, ◌∙◌, mod-lt, mod-eq_of_lt, arith}
 use Rattle.bill.specs.Ledger.{ledger_total}
 use Rattle.bill.specs.Laws.Entries.{stations_left, total_first, total-next, total-none}
 use Rattle.bill.proofs.total_of.Goals as goal
@@ -11,7 +11,7 @@ pub loop-station-preserved : goal.loop-station-preserved
 loop-station-preserved c =
     let p = c.loop-station in
     let a = c.args.accepted.now in
-    (omega arith, subst (λ (n : ℕ). n < 4294967296) (sym c.wrapping_add_u32-total.ensures.value) (mod-lt (p.total + c.at_station.result) (omega arith)), total-next p.station a p.total c.wrapping_add_u32-total.result (omega arith) (c.wrapping_add_u32-total.ensures.value ∙ ap (λ (n : ℕ). (p.total + n) % 4294967296) c.at_station.ensures) ∙ p.invariant.2)
+    (omega arith, mod-lt (p.total + c.at_station-total.result) (omega arith), total-next p.station a p.total _ (omega arith) (ap (λ (n : ℕ). (p.total + n) % 4294967296) c.at_station-total.ensures) ∙ p.invariant.2)
 
 pub returns : goal.returns
 returns c =

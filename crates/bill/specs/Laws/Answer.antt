@@ -1,14 +1,16 @@
 -- What billing answers: what entering all bytes gives is the refusal of the run, or its bill; bytes are billed exactly when they are a run whose jobs
 -- rise; and the buffer of the stated room is never too small. Assumes nothing.
-use Rattle.std.specs.Prelude.{◌≡◌, ℕ, suc, ◌-◌, ◌<◌, ◌≤◌, Bool, true, false, cond, ◌&&◌, ◌↔◌, List, [], ◌∷◌, ◌++◌, length, take, drop, ◌==◌, ◌≢◌, nat_eq, nat_le, refl}
+use Rattle.std.specs.Prelude.{◌≡◌, Result, Ok, Err, ℕ, suc, ◌-◌, ◌<◌, ◌≤◌, Bool, true, false, cond, ◌&&◌, ◌↔◌, List, [], ◌∷◌, ◌++◌, length, take, drop, ◌==◌, ◌≢◌, nat_eq, nat_le, refl}
 use Rattle.std.proofs.Common.{sym, ap, subst, ◌∙◌, append-nil, arith, length-append, length-drop, take_at, eqb-true, eq-eqb, ne_eqb, leb-true, leb-false, le-leb}
 use Rattle.std.proofs.lemmas.Bool.{eqb-false, lt-leb}
 use Rattle.refusal.specs.Table.{accepted, file_over_limit, buffer_too_small, receipt_malformed, job_not_rising}
 use Rattle.refusal.specs.First.{or_else, unless}
 use Rattle.refusal.proofs.Laws.First.{or_else-left, or_else-right, unless_holds}
-use Rattle.refusal.specs.Answer.{answered, leaves}
-use Rattle.refusal.specs.declared.Answer.{Answer}
-use Rattle.refusal.specs.declared.Answer.TheVariants.{Count, Refused}
+use Rattle.refusal.specs.declared.Refusal.{Refusal}
+use Rattle.refusal.specs.Table.{refusal_number}
+use Rattle.refusal.proofs.Laws.Table.{Outcome, refusal_number-injective}
+use Rattle.refusal.specs.Outcome.{number_of, answered}
+use Rattle.refusal.specs.Answer.{leaves}
 use Rattle.messagepack.specs.Limits.{file_limit}
 use Rattle.text.specs.Equal.{equal}
 use Rattle.text.specs.Laws.Equal.{equal-true, equal-refl, equal-lengths}
@@ -21,10 +23,11 @@ use Rattle.bill.specs.declared.Entered.{Entered}
 use Rattle.bill.specs.Run.{texts, all_kept, IsRun, rising}
 use Rattle.bill.specs.Bill.{bill_of, bill_text}
 use Rattle.bill.specs.Answer.{receipts_in, front_receipts, run_number, bill_number, text_of, bill_answer, bill_buffer, bill_limit, Billable, Billed}
-use Rattle.bill.specs.Ledger.{Ledger, posted, posted_all, rises, all_rise, Stops, few, malformed, falling, Enters, ledger_bill}
+use Rattle.bill.specs.declared.Ledger.{Ledger}
+use Rattle.bill.specs.Ledger.{blank, posted, posted_all, rises, all_rise, Stops, few, malformed, falling, Enters, ledger_bill}
 use Rattle.bill.specs.Laws.Run.{texts-least, receipts-none, receipts-some, receipts-kept, front-texts, front-run}
 use Rattle.bill.specs.Laws.Ledger.{rise-append}
-use Rattle.bill.specs.Laws.Rising.{blank, rising-rise}
+use Rattle.bill.specs.Laws.Rising.{rising-rise}
 use Rattle.bill.specs.Laws.Columns.{ledger-bill}
 use Rattle.bill.specs.Laws.Longest.{run-few, bill-most}
 
@@ -80,7 +83,7 @@ no_bytes (x ∷ l) h = absurd (omega arith)
 
 module _ (bytes : List ℕ) (new : Ledger) (r : Entered) (e : Enters bytes true blank new r) where
   -- the refusal is that of the run
-  pub entered-number : r.refusal ≡ run_number bytes
+  pub entered-number : number_of r.outcome ≡ run_number bytes
   entered-number = go e.stops
     where
       go : {n : ℕ} → Stops true new (drop r.bytes bytes) n → n ≡ run_number bytes
@@ -137,7 +140,7 @@ text-billed bytes h =
     record { of = b; is = ap (λ (rs : List Receipt). bill_text (bill_of rs)) (front-run b.run) }
 
 -- the bill of the ledger is that text
-pub ledger-text : (bytes : List ℕ) (new : Ledger) (r : Entered) → Enters bytes true blank new r → length bytes ≤ file_limit → r.refusal ≡ accepted
+pub ledger-text : (bytes : List ℕ) (new : Ledger) (r : Entered) → Enters bytes true blank new r → length bytes ≤ file_limit → number_of r.outcome ≡ accepted
     → bill_text (ledger_bill new.accepted new.refused) ≡ text_of bytes
 unfolding text_of
 ledger-text bytes new r e l z =
@@ -165,28 +168,35 @@ leaves-length text buffer = go (nat_le (length text) (length buffer)) refl
     go false e = refl
 
 -- all that the call says: its answer, its buffer, and that what it wrote is the bill
-abbrev pub Says : List ℕ → List ℕ → List ℕ → Answer → Type 0
+abbrev pub Says : List ℕ → List ℕ → List ℕ → Result ℕ ℕ → Type 0
 Says bytes buffer new r =
-    (r ≡ bill_answer bytes (length buffer)) × ((new ≡ bill_buffer bytes buffer) × ((n : ℕ) → r ≡ Count n → Billed bytes (take n new)))
+    (r ≡ bill_answer bytes (length buffer)) × ((new ≡ bill_buffer bytes buffer) × ((n : ℕ) → r ≡ Ok n → Billed bytes (take n new)))
 
-never : {A : Type 0} (r n : ℕ) → Refused r ≡ Count n → A
+never : {A : Type 0} (r n : ℕ) → ◌≡◌ {A = Result ℕ ℕ} (Err r) (Ok n) → A
 never r n q = let z : ◌≡◌ {A = ℕ} 0 1 = cc in absurd (omega arith)
 
 -- a refusal
-pub says-refused : (bytes buffer : List ℕ) (n : ℕ) → n ≡ bill_number bytes → (n ≢ accepted) → Says bytes buffer buffer (Refused n)
+pub says-refused : (bytes buffer : List ℕ) (n : ℕ) → n ≡ bill_number bytes → (n ≢ accepted) → Says bytes buffer buffer (Err n)
 unfolding bill_answer bill_buffer
 says-refused bytes buffer n e h =
     let t : nat_eq (bill_number bytes) accepted ≡ false = ne_eqb (bill_number bytes) accepted (λ z. h (e ∙ z)) in
-    (rw t (ap Refused e), (rw t, λ m q. never n m q))
+    (rw t (ap Err e), (rw t, λ m q. never n m q))
+
+-- which has a number
+pub refusal-numbered : (r : Refusal) → refusal_number r ≢ accepted
+refusal-numbered r z =
+    let e : ◌≡◌ {A = Outcome} (Err r) (Ok record {}) = refusal_number-injective (Err r) (Ok record {}) z in
+    let d : ◌≡◌ {A = ℕ} 0 1 = cc in
+    absurd (omega arith)
 
 -- the bill, or 25
-pub says-written : (bytes buffer new : List ℕ) (r : Answer) → bill_number bytes ≡ accepted → r ≡ answered (length (text_of bytes)) (length buffer) → new ≡ leaves (text_of bytes) buffer → Says bytes buffer new r
+pub says-written : (bytes buffer new : List ℕ) (r : Result ℕ ℕ) → bill_number bytes ≡ accepted → r ≡ answered (length (text_of bytes)) (length buffer) → new ≡ leaves (text_of bytes) buffer → Says bytes buffer new r
 unfolding bill_answer bill_buffer
 says-written bytes buffer new r h a b =
     let t : nat_eq (bill_number bytes) accepted ≡ true = eq-eqb (bill_number bytes) accepted h in
     (rw t a, (rw t b, λ n q. subst (λ (x : List ℕ). Billed bytes (take n x)) (sym b) (go (nat_le (length (text_of bytes)) (length buffer)) (sym a ∙ q))))
   where
-    go : {n : ℕ} (t : Bool) → cond t (Count (length (text_of bytes))) (Refused buffer_too_small) ≡ Count n → Billed bytes (take n (cond t (text_of bytes ++ drop (length (text_of bytes)) buffer) buffer))
+    go : {n : ℕ} (t : Bool) → cond t (Ok (length (text_of bytes))) (Err buffer_too_small) ≡ Ok n → Billed bytes (take n (cond t (text_of bytes ++ drop (length (text_of bytes)) buffer) buffer))
     go {n} true q =
         let m : length (text_of bytes) ≡ n = cc in
         subst (λ (x : List ℕ). Billed bytes x) (sym (take_at (text_of bytes) (drop (length (text_of bytes)) buffer) n m)) (text-billed bytes h)
@@ -203,7 +213,7 @@ number-room bytes q = go (nat_le (length bytes) file_limit) (rising (front_recei
     go true true false p = omega arith
     go true true true p = omega arith
 
-refusals : (a b : ℕ) → Refused a ≡ Refused b → a ≡ b
+refusals : (a b : ℕ) → ◌≡◌ {A = Result ℕ ℕ} (Err a) (Err b) → a ≡ b
 refusals a b p = cc
 
 -- the text is not longer than the longest
@@ -212,48 +222,48 @@ unfolding text_of
 text-most bytes b = omega (arith, bill-most b.run b.small, ap (λ (rs : List Receipt). length (bill_text (bill_of rs))) (front-run b.run))
 
 -- a buffer with the stated room is never too small
-pub answered-room : (bytes : List ℕ) (n : ℕ) → bill_limit ≤ n → bill_answer bytes n ≢ Refused buffer_too_small
+pub answered-room : (bytes : List ℕ) (n : ℕ) → bill_limit ≤ n → bill_answer bytes n ≢ Err buffer_too_small
 unfolding bill_answer
 answered-room bytes n l q = go (bill_number bytes == accepted) refl q
   where
-    go : (t : Bool) → (bill_number bytes == accepted) ≡ t → cond t (answered (length (text_of bytes)) n) (Refused (bill_number bytes)) ≢ Refused buffer_too_small
+    go : (t : Bool) → (bill_number bytes == accepted) ≡ t → cond t (answered (length (text_of bytes)) n) (Err (bill_number bytes)) ≢ Err buffer_too_small
     go true e p =
         let most = text-most bytes ((billable-exactly bytes).0 (eqb-true (bill_number bytes) accepted e)) in
         let here : length (text_of bytes) ≤ n = omega arith in
-        let z : cond (nat_le (length (text_of bytes)) n) (Count (length (text_of bytes))) (Refused buffer_too_small) ≡ Count (length (text_of bytes)) = rw (le-leb (length (text_of bytes)) n here) in
+        let z : cond (nat_le (length (text_of bytes)) n) (Ok (length (text_of bytes))) (Err buffer_too_small) ≡ Ok (length (text_of bytes)) = rw (le-leb (length (text_of bytes)) n here) in
         never buffer_too_small (length (text_of bytes)) (sym p ∙ z)
     go false e p = number-room bytes (refusals (bill_number bytes) buffer_too_small p)
 
 -- a refusal has a number
-pub answered-number : (bytes : List ℕ) (n r : ℕ) → Refused r ≡ bill_answer bytes n → r ≢ accepted
+pub answered-number : (bytes : List ℕ) (n r : ℕ) → Err r ≡ bill_answer bytes n → r ≢ accepted
 unfolding bill_answer
 answered-number bytes n r q z = go (bill_number bytes == accepted) refl (nat_le (length (text_of bytes)) n) q
   where
     go : (t : Bool) → (bill_number bytes == accepted) ≡ t → (u : Bool)
-        → Refused r ≢ cond t (cond u (Count (length (text_of bytes))) (Refused buffer_too_small)) (Refused (bill_number bytes))
+        → Err r ≢ cond t (cond u (Ok (length (text_of bytes))) (Err buffer_too_small)) (Err (bill_number bytes))
     go true e true p = never r (length (text_of bytes)) p
     go true e false p = omega (arith, refusals r buffer_too_small p)
     go false e u p = eqb-false (bill_number bytes) accepted e (sym (refusals r (bill_number bytes) p) ∙ z)
 
 -- bytes are billed, with enough room, exactly when they are a run whose jobs rise
-pub billed-exactly : (bytes : List ℕ) (n : ℕ) → bill_limit ≤ n → (bill_answer bytes n ≡ Count (length (text_of bytes))) ↔ Billable bytes
+pub billed-exactly : (bytes : List ℕ) (n : ℕ) → bill_limit ≤ n → (bill_answer bytes n ≡ Ok (length (text_of bytes))) ↔ Billable bytes
 unfolding bill_answer
 billed-exactly bytes n l = (there, back)
   where
-    there : cond (bill_number bytes == accepted) (answered (length (text_of bytes)) n) (Refused (bill_number bytes)) ≡ Count (length (text_of bytes)) → Billable bytes
+    there : cond (bill_number bytes == accepted) (answered (length (text_of bytes)) n) (Err (bill_number bytes)) ≡ Ok (length (text_of bytes)) → Billable bytes
     there q = go (bill_number bytes == accepted) refl q
       where
-        go : (t : Bool) → (bill_number bytes == accepted) ≡ t → cond t (answered (length (text_of bytes)) n) (Refused (bill_number bytes)) ≡ Count (length (text_of bytes)) → Billable bytes
+        go : (t : Bool) → (bill_number bytes == accepted) ≡ t → cond t (answered (length (text_of bytes)) n) (Err (bill_number bytes)) ≡ Ok (length (text_of bytes)) → Billable bytes
         go true e p = (billable-exactly bytes).0 (eqb-true (bill_number bytes) accepted e)
         go false e p = never (bill_number bytes) (length (text_of bytes)) p
 
-    back : Billable bytes → cond (bill_number bytes == accepted) (answered (length (text_of bytes)) n) (Refused (bill_number bytes)) ≡ Count (length (text_of bytes))
+    back : Billable bytes → cond (bill_number bytes == accepted) (answered (length (text_of bytes)) n) (Err (bill_number bytes)) ≡ Ok (length (text_of bytes))
     back b =
         let most = text-most bytes b in
         rw (eq-eqb (bill_number bytes) accepted ((billable-exactly bytes).1 b), le-leb (length (text_of bytes)) n (omega arith))
 
 -- what is written is the bill
-pub bill-written : (bytes buffer : List ℕ) (n : ℕ) → bill_answer bytes (length buffer) ≡ Count n → Billed bytes (take n (bill_buffer bytes buffer))
+pub bill-written : (bytes buffer : List ℕ) (n : ℕ) → bill_answer bytes (length buffer) ≡ Ok n → Billed bytes (take n (bill_buffer bytes buffer))
 bill-written bytes buffer n q = go (bill_number bytes == accepted) refl
   where
     go : (t : Bool) → (bill_number bytes == accepted) ≡ t → Billed bytes (take n (bill_buffer bytes buffer))

@@ -8,10 +8,10 @@ use Rattle.receipt.specs.declared.Receipt.{Receipt}
 use Rattle.receipt.specs.Receipt.{station_limit}
 use Rattle.bill.specs.Run.{all_kept, stations_from, stations}
 use Rattle.bill.specs.Bill.{Entry, counted, is_of, is_accepted, accepted_of, refused_of, all_accepted, entries_in, bill_of}
-use Rattle.bill.specs.Ledger.{Ledger, raised, posted, posted_all, ledger_entries, ledger_total, ledger_bill}
+use Rattle.bill.specs.declared.Ledger.{Ledger}
+use Rattle.bill.specs.Ledger.{blank, raised, posted, posted_all, ledger_entries, ledger_total, ledger_bill}
 use Rattle.bill.specs.Laws.Sums.{sum_of, counted-more, receipts-apart, total-accepted}
 use Rattle.bill.specs.Laws.Longest.{counted-most}
-use Rattle.bill.specs.Laws.Rising.{blank}
 
 -- One column
 

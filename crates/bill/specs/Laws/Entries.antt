@@ -1,11 +1,11 @@
 -- Laws of a ledger's bill: station by station, as the code goes through them. Assumes nothing.
-use Rattle.std.specs.Prelude.{◌≡◌, ℕ, zero, suc, ◌+◌, ◌-◌, ◌*◌, ◌%◌, ◌<◌, ◌≤◌, Bool, true, false, cond, ◌&&◌, List, [], ◌∷◌, ◌++◌, length, ◌==◌, nat_le, slice_index, refl}
+use Rattle.std.specs.Prelude.{◌≡◌, Ok, Err, ℕ, zero, suc, ◌+◌, ◌-◌, ◌*◌, ◌%◌, ◌<◌, ◌≤◌, Bool, true, false, cond, ◌&&◌, List, [], ◌∷◌, ◌++◌, length, ◌==◌, nat_le, slice_index, refl}
 use Rattle.std.proofs.Common.{sym, ap, ◌∙◌, append_assoc, append-nil, arith, length-append, le-leb}
 use Rattle.std.proofs.Math.Nat.{mod-add-mod}
 use Rattle.std.proofs.lemmas.Bool.{lt-leb}
 use Rattle.refusal.specs.Table.{buffer_too_small}
-use Rattle.refusal.specs.Answer.{answered, leaves}
-use Rattle.refusal.specs.declared.Answer.TheVariants.{Count, Refused}
+use Rattle.refusal.specs.Outcome.{answered}
+use Rattle.refusal.specs.Answer.{leaves}
 use Rattle.text.specs.Decimal.{decimal}
 use Rattle.text.specs.Put.{Put}
 use Rattle.text.specs.Laws.Decimal.{decimal-few}
@@ -145,13 +145,13 @@ entries-few a r = omega (arith, entries-most stations a r, stations-length stati
 
 -- what writing a ledger's bill says and leaves
 module _ (a r buffer : List ℕ) (size : ℕ) (e : size ≡ length (bill_text (ledger_bill a r))) where
-  pub write-short : length buffer < size → (Refused buffer_too_small ≡ answered (length (bill_text (ledger_bill a r))) (length buffer)) × (buffer ≡ leaves (bill_text (ledger_bill a r)) buffer)
+  pub write-short : length buffer < size → (Err buffer_too_small ≡ answered (length (bill_text (ledger_bill a r))) (length buffer)) × (buffer ≡ leaves (bill_text (ledger_bill a r)) buffer)
   write-short h =
       let t : nat_le (length (bill_text (ledger_bill a r))) (length buffer) ≡ false = lt-leb (length (bill_text (ledger_bill a r))) (length buffer) (omega arith) in
       (rw t, rw t)
 
   pub write-all : {new : List ℕ} {end : ℕ} → size ≤ length buffer → Put buffer 0 (bill_text (ledger_bill a r)) new end
-      → (Count size ≡ answered (length (bill_text (ledger_bill a r))) (length buffer)) × (new ≡ leaves (bill_text (ledger_bill a r)) buffer)
+      → (Ok size ≡ answered (length (bill_text (ledger_bill a r))) (length buffer)) × (new ≡ leaves (bill_text (ledger_bill a r)) buffer)
   write-all {new} {end} h p =
       let t : nat_le (length (bill_text (ledger_bill a r))) (length buffer) ≡ true = le-leb (length (bill_text (ledger_bill a r))) (length buffer) (omega arith) in
-      (rw t (ap Count e), rw t (put_all p (omega arith)).1)
+      (rw t (ap Ok e), rw t (put_all p (omega arith)).1)

@@ -1,17 +1,19 @@
 -- Laws of the ledger: receipts posted one after another, and what is known while bytes are entered. Assumes nothing.
 use Rattle.std.specs.Prelude.{◌≡◌, ℕ, zero, suc, ◌+◌, ◌*◌, ◌<◌, ◌≤◌, Bool, true, false, cond, ◌&&◌, List, [], ◌∷◌, ◌++◌, length, drop, ◌==◌, slice_set, refl}
 use Rattle.std.proofs.Common.{sym, ap, ◌∙◌, append_assoc, arith, length-append, length-set, length-drop}
+use Rattle.refusal.specs.Outcome.{number_of}
+use Rattle.refusal.proofs.Laws.Table.{Outcome}
 use Rattle.numbers.specs.Laws.Tests.{and_both}
 use Rattle.receipt.specs.declared.Receipt.{Receipt}
-use Rattle.receipt.specs.declared.Found.TheVariants.{At}
 use Rattle.receipt.specs.Receipt.{written}
-use Rattle.receipt.specs.Reading.{read_from, has_front, found_at}
+use Rattle.receipt.specs.Reading.{read_from, has_front, At, found_at}
 use Rattle.receipt.specs.Laws.Rules.{written-least}
 use Rattle.receipt.specs.Laws.Reading.{read-front, front_of}
 use Rattle.receipt.specs.Laws.Found.{found-stands}
 use Rattle.bill.specs.Run.{texts, all_kept}
 use Rattle.bill.specs.Bill.{is_accepted}
-use Rattle.bill.specs.Ledger.{Ledger, raised, posted, posted_all, rises, all_rise, least, Stops, falling, Enters}
+use Rattle.bill.specs.declared.Ledger.{Ledger}
+use Rattle.bill.specs.Ledger.{raised, posted, posted_all, rises, all_rise, least, Stops, falling, Enters}
 use Rattle.bill.specs.Steps.{ledger}
 use Rattle.bill.specs.Laws.Run.{texts-append, texts-one, texts-least, kept_append, kept-one}
 
@@ -116,8 +118,8 @@ module _ {bytes : List ℕ} {ends : Bool} {old new : Ledger} {at count : ℕ} (e
   entering-few = omega (arith, e.count, texts-least e.receipts, ap length e.text, length-append (texts e.receipts) (drop at bytes))
 
   -- so far, and why no further
-  pub entering-stops : (refusal : ℕ) → Stops ends new (drop at bytes) refusal → Enters bytes ends old new (record { refusal = refusal; bytes = at; receipts = count })
-  entering-stops refusal s = record {
+  pub entering-stops : (outcome : Outcome) → Stops ends new (drop at bytes) (number_of outcome) → Enters bytes ends old new (record { outcome = outcome; bytes = at; receipts = count })
+  entering-stops outcome s = record {
     receipts = e.receipts;
     rules = e.rules;
     within = e.within;

@@ -7,6 +7,8 @@ use mathlib.Core.List.{append_assoc}
 use Rattle.std.proofs.Math.ListN.{length-append}
 use Rattle.std.proofs.lemmas.List.{drop-append-le, take-append-le}
 use Rattle.refusal.specs.Table.{accepted}
+use Rattle.refusal.specs.Outcome.{number_of}
+use Rattle.refusal.proofs.Laws.Table.{refusal_of, refusal_of-refusal_number}
 use Rattle.numbers.specs.Laws.Tests.{clash, and_left, and_right, and_both}
 use Rattle.receipt.specs.declared.Receipt.{Receipt}
 use Rattle.receipt.specs.Receipt.{receipt_limit, written, rules_kept}
@@ -15,7 +17,8 @@ use Rattle.receipt.specs.Laws.Rules.{receipt-most}
 use Rattle.receipt.specs.Laws.Reading.{read-front, front_of, front-rules, front-text, no_front}
 use Rattle.bill.specs.declared.Entered.{Entered}
 use Rattle.bill.specs.Run.{texts, all_kept}
-use Rattle.bill.specs.Ledger.{Ledger, posted, posted_all, rises, all_rise, least, Stops, few, malformed, falling, Enters}
+use Rattle.bill.specs.declared.Ledger.{Ledger}
+use Rattle.bill.specs.Ledger.{posted, posted_all, rises, all_rise, least, Stops, few, malformed, falling, Enters}
 use Rattle.bill.specs.Laws.Run.{texts-append, kept_append, kept-first, kept-rest}
 use Rattle.bill.specs.Laws.Ledger.{posted-append, rise-append}
 
@@ -40,7 +43,7 @@ least-most false = omega arith
 
 -- what is entered of a piece, and then of what was left of it and more
 abbrev pub joined : Entered → Entered → Entered
-joined r q = record { refusal = q.refusal; bytes = r.bytes + q.bytes; receipts = r.receipts + q.receipts }
+joined r q = record { outcome = q.outcome; bytes = r.bytes + q.bytes; receipts = r.receipts + q.receipts }
 
 module _ {piece : List ℕ} (more : List ℕ) {ends : Bool} {l m n : Ledger} {r q : Entered} (p : Enters piece false l m r) (e : Enters (drop r.bytes piece ++ more) ends m n q) where
   -- what is left of both
@@ -86,7 +89,7 @@ module _ {piece : List ℕ} (more : List ℕ) {ends : Bool} {l m n : Ledger} {r 
     count = omega (arith, p.count, e.count, length-append p.receipts e.receipts);
     order = order-both;
     ledger = e.ledger ∙ ap (λ (x : Ledger). posted_all x e.receipts) p.ledger ∙ sym (posted-append p.receipts e.receipts l);
-    stops = subst (λ (x : List ℕ). Stops ends n x q.refusal) (sym left) e.stops;
+    stops = subst (λ (x : List ℕ). Stops ends n x (number_of q.outcome)) (sym left) e.stops;
   }
 
 -- A piece that is refused
@@ -125,7 +128,7 @@ stops-more {ends} {l} {rest} more h (falling g e f) =
     falling (omega (arith, least-most ends, length-append rest more)) front.0 (ap (rises l) front.1 ∙ f)
 
 -- a refused piece: with more bytes after it the same receipts are entered, and the next one is refused
-pub piece-refused : {piece : List ℕ} (more : List ℕ) {ends : Bool} {l m : Ledger} {r : Entered} → (r.refusal ≢ accepted) → Enters piece false l m r → Enters (piece ++ more) ends l m r
+pub piece-refused : {piece : List ℕ} (more : List ℕ) {ends : Bool} {l m : Ledger} {r : Entered} → (number_of r.outcome ≢ accepted) → Enters piece false l m r → Enters (piece ++ more) ends l m r
 piece-refused {piece} more {ends} {l} {m} {r} h p =
     let left : drop r.bytes (piece ++ more) ≡ drop r.bytes piece ++ more = drop-append-le r.bytes piece more p.within in
     record {
@@ -137,7 +140,7 @@ piece-refused {piece} more {ends} {l} {m} {r} h p =
       count = p.count;
       order = p.order;
       ledger = p.ledger;
-      stops = subst (λ (x : List ℕ). Stops ends m x r.refusal) (sym left) (stops-more more h p.stops);
+      stops = subst (λ (x : List ℕ). Stops ends m x (number_of r.outcome)) (sym left) (stops-more more h p.stops);
     }
 
 -- Entering is determined
@@ -214,12 +217,13 @@ one-entering {bytes} {ends} {l} {m} {n} {r} {q} p e =
     let left : length (drop r.bytes bytes) ≡ length (drop q.bytes bytes) = ap length same.1 in
     let size : r.bytes ≡ q.bytes = omega (arith, p.within, e.within, length-drop r.bytes bytes, length-drop q.bytes bytes) in
     let count : r.receipts ≡ q.receipts = p.count ∙ ap length same.0 ∙ sym e.count in
-    (p.ledger ∙ ap (posted_all l) same.0 ∙ sym e.ledger, λ i. record { refusal = same.2 i; bytes = size i; receipts = count i })
+    let outcome : r.outcome ≡ q.outcome = sym (refusal_of-refusal_number r.outcome) ∙ ap refusal_of same.2 ∙ refusal_of-refusal_number q.outcome in
+    (p.ledger ∙ ap (posted_all l) same.0 ∙ sym e.ledger, λ i. record { outcome = outcome i; bytes = size i; receipts = count i })
   where
-    goes : {x : Ledger} {a : Entered} (i : Enters bytes ends l x a) → Goes ends l i.receipts (drop a.bytes bytes) a.refusal
+    goes : {x : Ledger} {a : Entered} (i : Enters bytes ends l x a) → Goes ends l i.receipts (drop a.bytes bytes) (number_of a.outcome)
     goes {a = a} i = record {
       rules = i.rules;
       order = i.order;
       enough = i.enough;
-      stops = subst (λ (x : Ledger). Stops ends x (drop a.bytes bytes) a.refusal) i.ledger i.stops;
+      stops = subst (λ (x : Ledger). Stops ends x (drop a.bytes bytes) (number_of a.outcome)) i.ledger i.stops;
     }

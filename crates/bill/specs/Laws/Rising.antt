@@ -7,7 +7,8 @@ use Rattle.numbers.specs.Laws.Tests.{and_left, and_right, and_both}
 use Rattle.receipt.specs.declared.Receipt.{Receipt}
 use Rattle.receipt.specs.Receipt.{station_limit}
 use Rattle.bill.specs.Run.{all_kept, stations_from, stations, jobs_of, above, increasing, rising_in, rising}
-use Rattle.bill.specs.Ledger.{Ledger, posted, rises, all_rise}
+use Rattle.bill.specs.declared.Ledger.{Ledger}
+use Rattle.bill.specs.Ledger.{blank, posted, rises, all_rise}
 use Rattle.bill.specs.Steps.{ledger}
 use Rattle.bill.specs.Laws.Run.{kept-first, kept-rest}
 use Rattle.bill.specs.Laws.Sums.{kept-station, kept-job}
@@ -104,8 +105,6 @@ each-rising f (suc k) rs h =
     and_both (increasing (jobs_of f rs)) (rising_in (stations_from (suc f) k) rs) (h f (omega arith) (omega arith)) (each-rising (suc f) k rs (λ s p q. h s (omega arith) (omega arith)))
 
 -- a ledger with nothing in it
-abbrev pub blank : Ledger
-blank = record { jobs = replicate (suc station_limit) 0; accepted = replicate (suc station_limit) 0; refused = replicate (suc station_limit) 0 }
 
 blank-last : (s : ℕ) → s ≤ station_limit → slice_index blank.jobs s ≡ 0
 blank-last s h = get_or-replicate (suc station_limit) s 0 0 (omega arith)

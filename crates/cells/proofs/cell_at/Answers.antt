@@ -1,76 +1,49 @@
--- By the header, then by the kind: the table's rows say that strings are the names (`cells-row`, `strings-row`).
-use mathlib.Core.Path.{◌≡◌, refl, sym, ap, ap₂, ◌∙◌}
-use Rattle.std.proofs.Common.{◌≢◌}
-use mathlib.Core.Bool.{Bool, false}
-use Prim.Native.Nat.{◌-◌}
-use lib.ListN.{length, take, drop}
+-- By the header, then by the payload: the table's rows say that the kinds with cells are walked to (`cells-row`).
+use mathlib.Core.Path.{◌≡◌, sym, ap, ◌∙◌}
+use Rattle.std.specs.Prelude.{Ok}
+use Rattle.std.proofs.lemmas.Result.{err_from_is_err_and}
+use Rattle.refusal.specs.Outcome.{numbered}
 use Rattle.numbers.specs.BigEndian.{unsigned_at}
-use Rattle.steps.specs.declared.Form.{Form}
-use Rattle.columns.specs.declared.Kind.{Kind}
-use Rattle.columns.specs.declared.Kind.TheVariants as kind
 use Rattle.columns.specs.declared.Wanted.TheVariants.{Any}
-use Rattle.columns.specs.declared.Header.TheVariants.{Good}
-use Rattle.columns.specs.Header.{header_size}
-use Rattle.columns.specs.Table.{is_strings}
-use Rattle.columns.specs.Decode.{Decoding, judged_payload}
-use Rattle.columns.proofs.Laws.Table.{Passes, header-passes, strings-row}
+use Rattle.columns.specs.Header.{header_of}
+use Rattle.columns.specs.Decode.{Decoding}
+use Rattle.columns.proofs.Laws.Table.{Passes, header-passes}
 use Rattle.columns.proofs.Laws.Decode.{decode-refused, decode-good}
 use Rattle.cells.specs.Calls.{cell_of}
 use Rattle.cells.specs.Laws.Table.{cells-row}
 use Rattle.cells.specs.Laws.Calls.{cell-refused}
 use Rattle.cells.proofs.cell_at.Goals as goal
-use Rattle.cells.proofs.cell_at.Goals.{In-Good}
+use Rattle.cells.proofs.cell_at.Goals.{In_ok-header}
 
 -- the header that passed
-passed : (c : goal.In-Good) → Passes Any c.args.column.now c.in-Good.n c.in-Good.m c.in-Good.kind c.in-Good.form c.in-Good.delta
-passed c =
-    header-passes Any c.args.column.now c.in-Good.n c.in-Good.m c.in-Good.kind c.in-Good.form c.in-Good.delta (sym c.read_header.ensures ∙ c.in-Good.is)
+good : (c : goal.In_ok-header) → header_of Any c.args.column.now ≡ Ok c.in_ok-header.header
+good c = sym c.read_header.ensures ∙ ap numbered c.in_ok-header.was
 
--- all kinds but strings have cells
-other : (k : Kind) → k ≢ kind.Strings → is_strings k ≡ false
-other kind.Float32 o = refl
-other kind.FixedPoint o = refl
-other kind.Int8 o = refl
-other kind.Int16 o = refl
-other kind.Int32 o = refl
-other kind.Strings o = absurd (o refl)
-other kind.Chars o = refl
-
-pub slice_bounds-strings_refusal-count : goal.slice_bounds-strings_refusal-count
-slice_bounds-strings_refusal-count c = (passed (goal.at.slice_bounds-strings_refusal-count c).In-Good).0
-
-pub slice_bounds-strings_refusal-start : goal.slice_bounds-strings_refusal-start
-slice_bounds-strings_refusal-start c = (passed (goal.at.slice_bounds-strings_refusal-start c).In-Good).0
+passed : (c : goal.In_ok-header) → Passes Any c.args.column.now c.in_ok-header.header.length c.in_ok-header.header.parameter c.in_ok-header.header.kind c.in_ok-header.header.form c.in_ok-header.header.delta
+passed c = let h = c.in_ok-header.header in header-passes Any c.args.column.now h.length h.parameter h.kind h.form h.delta (good c)
 
 pub slice_bounds-cell_in-count : goal.slice_bounds-cell_in-count
-slice_bounds-cell_in-count c = (passed (goal.at.slice_bounds-cell_in-count c).In-Good).0
+slice_bounds-cell_in-count c = (passed (goal.at.slice_bounds-cell_in-count c).In_ok-header).0
 
 pub slice_bounds-cell_in-start : goal.slice_bounds-cell_in-start
-slice_bounds-cell_in-start c = (passed (goal.at.slice_bounds-cell_in-start c).In-Good).0
+slice_bounds-cell_in-start c = (passed (goal.at.slice_bounds-cell_in-start c).In_ok-header).0
 
 pub cell_in-requires : goal.cell_in-requires
 cell_in-requires c =
-    let p = (passed (goal.at.cell_in-requires c).In-Good).3 in
-    let h = other c.in-Good.kind c.in_default.not-Strings in
-    (h, cells-row (unsigned_at 4 c.args.column.now 0) c.in-Good.kind c.in-Good.form c.in-Good.delta p.0 p.1 h)
+    let h = c.in_ok-header.header in
+    let p = (passed (goal.at.cell_in-requires c).In_ok-header).3 in
+    λ k. cells-row (unsigned_at 4 c.args.column.now 0) h.kind h.form h.delta p.0 p.1 k
 
-pub returns-in-Refused : goal.returns-in-Refused
-returns-in-Refused c =
+pub returns-in_err-header : goal.returns-in_err-header
+returns-in_err-header c =
     let a = c.args in
-    cell-refused _ c.in-Refused.r a.index (decode-refused Any a.column.now c.in-Refused.r (sym c.read_header.ensures ∙ c.in-Refused.is))
+    let e = cell-refused _ _ a.index (decode-refused Any a.column.now _ (sym c.read_header.ensures ∙ ap numbered c.in_err-header.was)) in
+    let p = err_from_is_err_and c.from_residual.result c.from_residual.ensures.1 in
+    rw (p.1, p.2) e
 
-pub returns-in-Strings : goal.returns-in-Strings
-returns-in-Strings c =
+pub returns : goal.returns
+returns c =
     let a = c.args in
-    let w = strings-row Any a.column.now c.in-Good.n c.in-Good.m c.in-Good.kind c.in-Good.form c.in-Good.delta (passed (goal.at.returns-in-Strings c).In-Good) (ap is_strings c.in-Strings.is) in
-    let e = decode-good Any a.column.now c.in-Good.n c.in-Good.m c.in-Good.kind c.in-Good.form c.in-Good.delta (sym c.read_header.ensures ∙ c.in-Good.is) in
-    c.strings_refusal.ensures a.index
-    ∙ ap (λ (x : Decoding). cell_of x a.index)
-    (ap₂ (λ (f : Form) (d : Bool). judged_payload (Good c.in-Good.n c.in-Good.m kind.Strings f d) (take (length a.column.now - header_size) (drop header_size a.column.now))) (sym w.0) (sym w.1)
-    ∙ ap (λ (x : Kind). judged_payload (Good c.in-Good.n c.in-Good.m x c.in-Good.form c.in-Good.delta) (take (length a.column.now - header_size) (drop header_size a.column.now))) (sym c.in-Strings.is) ∙ sym e)
-
-pub returns-in_default : goal.returns-in_default
-returns-in_default c =
-    let a = c.args in
-    let e = decode-good Any a.column.now c.in-Good.n c.in-Good.m c.in-Good.kind c.in-Good.form c.in-Good.delta (sym c.read_header.ensures ∙ c.in-Good.is) in
+    let h = c.in_ok-header.header in
+    let e = decode-good Any a.column.now h.length h.parameter h.kind h.form h.delta (good (goal.at.returns c).In_ok-header) in
     c.cell_in.ensures ∙ ap (λ (x : Decoding). cell_of x a.index) (sym e)

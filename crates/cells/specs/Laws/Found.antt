@@ -1,6 +1,6 @@
 -- Laws of a number that is found after its payload was checked: the place of a plain number, and the walk over packed numbers and over
 -- runs. Assumes nothing.
-use Rattle.std.specs.Prelude.{◌≡◌, refl, Bool, true, false, cond, ◌&&◌, List, [], ◌∷◌, ◌++◌, ℕ, zero, suc, ◌+◌, ◌-◌, ◌*◌, ◌/◌, ◌<◌, ◌≤◌, length, drop, get_or, replicate, ℤ, pos, ◌+ℤ◌, ltb}
+use Rattle.std.specs.Prelude.{Result, Ok, Err, ◌≡◌, refl, Bool, true, false, cond, ◌&&◌, List, [], ◌∷◌, ◌++◌, ℕ, zero, suc, ◌+◌, ◌-◌, ◌*◌, ◌/◌, ◌<◌, ◌≤◌, length, drop, get_or, replicate, ℤ, pos, ◌+ℤ◌, ltb}
 use Rattle.std.proofs.Common.{sym, ap, ◌∙◌, append-nil, append_assoc, length-append, of_z, SFits, eq-eqb, ltb-true, ltb-false}
 use Rattle.std.proofs.Math.Option.{Option, some, map}
 use native.Mathlib.Omega.{arith}
@@ -23,8 +23,6 @@ use Rattle.steps.proofs.Laws.NumbersBack.{signed_at-32}
 use Rattle.steps.proofs.Laws.Packing.{turn_inside, turn-outside}
 use Rattle.steps.specs.Payload.{read_in}
 use Rattle.steps.proofs.Laws.Delta.{length-results, results-append, last-append, run_at, run-last}
-use Rattle.payloads.specs.declared.Outcome.{Outcome}
-use Rattle.payloads.specs.declared.Outcome.TheVariants.{Fine, Refused}
 use Rattle.payloads.specs.Scan.{judges_exact, scan_of}
 use Rattle.payloads.specs.Laws.Items.{from, runs-end}
 use Rattle.payloads.specs.Laws.Plain.{place_in, number-at-place}
@@ -77,9 +75,9 @@ module _ (z : Size) (d : Bool) (i : ℕ) (s : List ℕ) (l : List ℤ) (e : read
       first true = refl
       first false = refl
 
-  never : {A : Type 0} (r : ℕ) → Refused r ≡ scan_of (Packed z) d (length l) (read_in (Packed z) s) → A
+  never : {A : Type 0} (r : ℕ) → Err r ≡ scan_of (Packed z) d (length l) (read_in (Packed z) s) → A
   never r q =
-      let y : ◌≡◌ {A = Outcome} (Refused r) (Fine (judges_exact (Packed z) d && all_exact (sums_if d l))) = q ∙ ap (scan_of (Packed z) d (length l)) e ∙ rw (eq-eqb (length l) (length l) refl) in
+      let y : ◌≡◌ {A = Result Bool ℕ} (Err r) (Ok (judges_exact (Packed z) d && all_exact (sums_if d l))) = q ∙ ap (scan_of (Packed z) d (length l)) e ∙ rw (eq-eqb (length l) (length l) refl) in
       let x : ◌≡◌ {A = ℕ} 0 1 = cc in
       absurd (omega arith)
 

@@ -1,6 +1,6 @@
 -- What a codec can hold, against the table of codecs and the encoder: an encoder succeeds exactly for the columns that its codec can hold, and
 -- whatever bytes decode to is held by their codec. Assumes nothing.
-use Rattle.std.specs.Prelude.{◌↔◌, ◌≡◌, Bool, cond, ◌&&◌, ◌||◌, ℤ, negsuc, ◌≤ℤ◌, T, leb}
+use Rattle.std.specs.Prelude.{Option, Some, None, ◌↔◌, ◌≡◌, Bool, cond, ◌&&◌, ◌||◌, ℤ, negsuc, ◌≤ℤ◌, T, leb}
 use Rattle.std.proofs.Math.Path.{refl, ap, subst}
 use Rattle.std.proofs.Common.{sym, ◌∙◌, add-mul, one-mul, div-add-mod', mul-div_cancel, mod-lt, le-div_iff_mul-le, div-mul-le_self, of_z}
 use Rattle.std.proofs.Math.Bool.{true, false, not, and-eq-true_iff}
@@ -29,12 +29,12 @@ use Rattle.columns.specs.declared.Wanted.TheVariants.{Only}
 use Rattle.columns.specs.declared.Parameter.{Parameter}
 use Rattle.columns.specs.declared.Parameter.TheVariants.{Unused, Divisor, NameSize}
 use Rattle.columns.specs.declared.Codec.{Codec}
-use Rattle.columns.specs.declared.Codec.TheVariants.{Known, Unknown}
-use Rattle.columns.specs.Table.{table, codec_of, kind_tag, length_limit, name_limit, parameter_ok, used, is_names}
+use Rattle.columns.specs.Table.{codec_with, table, codec_of, kind_tag, length_limit, name_limit, parameter_ok, used, is_names}
 use Rattle.columns.specs.Header.{header_bytes}
 use Rattle.columns.specs.Decode.{column, decode}
 use Rattle.columns.specs.Encode.{bytes, results, whole_results, payload_of, encode}
 use Rattle.columns.specs.CanHold.{is_one_of, codecs_of, least_by, most_by, ZeroPadded, CanHold}
+use Rattle.columns.proofs.Laws.Same.{same_codec}
 use Rattle.columns.proofs.Laws.Rows.{same_kind}
 use Rattle.columns.proofs.Laws.Encode.{Encoded, encode-rules, encode-kept}
 use Rattle.columns.proofs.Laws.Decode.{decode-rules}
@@ -198,15 +198,17 @@ parameter_of kind.Strings = NameSize
 parameter_of kind.Chars = Unused
 
 -- what the row of codec c has of what it can hold
-abbrev Row : ℕ → Codec → Type 0
-Row c Unknown = Unit {0}
-Row c (Known k f d p) = (is_one_of c (codecs_of k) ≡ true) × (least_in (range_of f) ≡ least_by c) × (most_in (range_of f) ≡ most_by c) × (is_names f ≡ eqb c 5) × (parameter_by c ≡ p) × (parameter_of k ≡ p)
+abbrev Row : ℕ → Option Codec → Type 0
+Row c None = Unit {0}
+Row c (Some r) =
+    (is_one_of c (codecs_of r.kind) ≡ true) × (least_in (range_of r.form) ≡ least_by c) × (most_in (range_of r.form) ≡ most_by c) × (is_names r.form ≡ eqb c 5)
+    × (parameter_by c ≡ r.parameter) × (parameter_of r.kind ≡ r.parameter)
 
-abbrev pub Rows : (ℕ → Codec → Type 0) → List Codec → Type 0
+abbrev pub Rows : (ℕ → Option Codec → Type 0) → List (Option Codec) → Type 0
 Rows P [] = Unit {0}
 Rows P (t ∷ ts) = P 0 t × Rows (λ (i : ℕ). P (suc i)) ts
 
-pub row_at : (P : ℕ → Codec → Type 0) (ts : List Codec) → Rows P ts → ((c : ℕ) → P c Unknown) → (c : ℕ) → P c (get_or ts c Unknown)
+pub row_at : (P : ℕ → Option Codec → Type 0) (ts : List (Option Codec)) → Rows P ts → ((c : ℕ) → P c None) → (c : ℕ) → P c (get_or ts c None)
 row_at P [] r u c = u c
 row_at P (t ∷ ts) r u zero = r.0
 row_at P (t ∷ ts) r u (suc c) = row_at (λ (i : ℕ). P (suc i)) ts r.1 (λ i. u (suc i)) c
@@ -216,9 +218,9 @@ unfolding is_one_of
 rows = (tt, ((refl, refl, refl, refl, refl, refl), ((refl, refl, refl, refl, refl, refl), ((refl, refl, refl, refl, refl, refl), ((refl, refl, refl, refl, refl, refl), ((refl, refl, refl, refl, refl, refl), ((refl, refl, refl, refl, refl, refl), ((refl, refl, refl, refl, refl, refl), ((refl, refl, refl, refl, refl, refl), ((refl, refl, refl, refl, refl, refl), ((refl, refl, refl, refl, refl, refl), ((refl, refl, refl, refl, refl, refl), ((refl, refl, refl, refl, refl, refl), ((refl, refl, refl, refl, refl, refl), ((refl, refl, refl, refl, refl, refl), ((refl, refl, refl, refl, refl, refl), ((refl, refl, refl, refl, refl, refl), tt)))))))))))))))))
 
 -- the codecs of a kind are those of its rows
-abbrev OfKind : Kind → Codec → Type 0
-OfKind k Unknown = ⊥
-OfKind k (Known j f d p) = j ≡ k
+abbrev OfKind : Kind → Option Codec → Type 0
+OfKind k None = ⊥
+OfKind k (Some r) = r.kind ≡ k
 
 abbrev Each : (ℕ → Type 0) → List ℕ → Type 0
 Each P [] = Unit {0}
@@ -243,21 +245,20 @@ kinds kind.Int32 = (refl, (refl, (refl, (refl, (refl, tt)))))
 kinds kind.Strings = (refl, tt)
 kinds kind.Chars = (refl, tt)
 
-known_as : (k : Kind) (t : Codec) → OfKind k t → (f : Form) × (d : Bool) × (p : Parameter) × (t ≡ Known k f d p)
-known_as k Unknown h = absurd h
-known_as k (Known j f d p) h = (f, d, p, ap (λ (i : Kind). Known i f d p) h)
+known_as : (k : Kind) (t : Option Codec) → OfKind k t → (f : Form) × (d : Bool) × (p : Parameter) × (t ≡ codec_with k f d p)
+known_as k None h = absurd h
+known_as k (Some r) h = (r.form, r.delta, r.parameter, ap (λ (i : Kind). codec_with i r.form r.delta r.parameter) h)
 
 -- the kind of a codec by its number
-pub codec-kind : {k j : Kind} {f : Form} {d : Bool} {p : Parameter} (c : ℕ) → is_one_of c (codecs_of k) ≡ true → codec_of c ≡ Known j f d p → j ≡ k
+pub codec-kind : {k j : Kind} {f : Form} {d : Bool} {p : Parameter} (c : ℕ) → is_one_of c (codecs_of k) ≡ true → codec_of c ≡ codec_with j f d p → j ≡ k
 codec-kind {k} {j} {f} {d} {p} c h e =
     let t = known_as k (codec_of c) (each_at (λ (i : ℕ). OfKind k (codec_of i)) (codecs_of k) c (kinds k) h) in
-    let q = t.3 in
-    cc
+    (same_codec (sym e ∙ t.3)).0
 
 -- The encoder
 
-module _ (k : Kind) (f : Form) (d : Bool) (p : Parameter) (c : ℕ) (q : codec_of c ≡ Known k f d p) where
-  row : Row c (Known k f d p)
+module _ (k : Kind) (f : Form) (d : Bool) (p : Parameter) (c : ℕ) (q : codec_of c ≡ codec_with k f d p) where
+  row : Row c (codec_with k f d p)
   unfolding codec_of
   row = subst (Row c) q (row_at Row table rows (λ i. tt) c)
 
@@ -398,5 +399,5 @@ decode-held w s k m xs e =
     let r = decode-rules w s k m xs e in
     let b = header_bytes (unsigned_at 4 s 0) (results r.form m (length xs)) (used r.parameter m) ++ payload_of r.form r.delta xs in
     let z = decoded-encoded w s k m xs r b refl in
-    let j : z.kind ≡ k = cc (z.known, r.known) in
+    let j = (same_codec (sym z.known ∙ r.known)).0 in
     subst (λ (i : Kind). CanHold i (unsigned_at 4 s 0) m xs) j (encode-held w (unsigned_at 4 s 0) m xs b z)

@@ -1,9 +1,9 @@
 -- What a decoding that gives a column kept, rule by rule. Assumes nothing.
 use Rattle.std.proofs.Math.Path.{◌≡◌, refl, sym, ap, ap₂}
 use Rattle.std.proofs.Common.{◌∙◌, arith, length-drop, take_all}
-use Rattle.std.specs.Prelude.{Bool, ◌&&◌, List, ℕ, ◌-◌, ◌≤◌, take, drop, ℤ, ltb}
+use Rattle.std.specs.Prelude.{Option, Some, None, Result, Err, Bool, ◌&&◌, List, ℕ, ◌-◌, ◌≤◌, take, drop, ℤ, ltb}
 use Rattle.std.proofs.Math.Bool.{true, false, cond, and-eq-true_iff}
-use Rattle.std.proofs.Math.Option.{Option, none, some}
+use Rattle.std.proofs.Math.Option.{Option as Maybe, none, some}
 use Rattle.std.proofs.Math.ListN.{length}
 use Rattle.std.proofs.Math.Dec.{leb, eqb}
 use borrow.Author.Tests.{leb-true, le-leb, ltb-false, le-ltb, eqb-true, eq-eqb}
@@ -17,11 +17,9 @@ use Rattle.columns.specs.declared.Wanted.{Wanted}
 use Rattle.columns.specs.declared.Wanted.TheVariants.{Only}
 use Rattle.columns.specs.declared.Parameter.{Parameter}
 use Rattle.columns.specs.declared.Codec.{Codec}
-use Rattle.columns.specs.declared.Codec.TheVariants.{Known, Unknown}
 use Rattle.columns.specs.declared.Header.{Header}
-use Rattle.columns.specs.declared.Header.TheVariants.{Good, Refused}
-use Rattle.columns.specs.Table.{codec_of, suits, length_limit, parameter_ok, used, elements, size_right}
-use Rattle.columns.specs.Header.{header_size, judged, header_of}
+use Rattle.columns.specs.Table.{codec_with, codec_of, suits, length_limit, parameter_ok, used, elements, size_right}
+use Rattle.columns.specs.Header.{header_with, header_size, judged, header_of}
 use Rattle.columns.specs.Decode.{refused, column, judged_values, judged_payload, decode}
 use Rattle.columns.proofs.Laws.Rows.{same_kind, row_sized}
 use Rattle.columns.proofs.Laws.Form.{used-right, right-used, used-size}
@@ -33,7 +31,7 @@ pub record Decoded (w : Wanted) (s : List ℕ) (k : Kind) (m : ℕ) (xs : List �
   pub parameter : Parameter
   pub values : List ℤ
   pub long : header_size ≤ length s
-  pub known : codec_of (unsigned_at 4 s 0) ≡ Known k form delta parameter
+  pub known : codec_of (unsigned_at 4 s 0) ≡ codec_with k form delta parameter
   pub suited : suits w k ≡ true
   pub few : unsigned_at 4 s 4 ≤ length_limit
   pub parameter-read : used parameter (unsigned_at 4 s 8) ≡ m
@@ -45,7 +43,7 @@ pub record Decoded (w : Wanted) (s : List ℕ) (k : Kind) (m : ℕ) (xs : List �
 
 module _ (w : Wanted) (s : List ℕ) (k : Kind) (m : ℕ) (xs : List ℤ) where
   -- a rule that is not kept gives no column
-  header-kept : (t : Bool) (h : Header) (r : ℕ) → judged_payload (cond t h (Refused r)) (drop header_size s) ≡ column k m xs → (t ≡ true) × (judged_payload h (drop header_size s) ≡ column k m xs)
+  header-kept : (t : Bool) (h : Result Header ℕ) (r : ℕ) → judged_payload (cond t h (Err r)) (drop header_size s) ≡ column k m xs → (t ≡ true) × (judged_payload h (drop header_size s) ≡ column k m xs)
   header-kept true h r e = (refl, e)
   header-kept false h r e = let y : ◌≡◌ {A = ℕ} 0 1 = cc in absurd (omega arith)
 
@@ -53,22 +51,21 @@ module _ (w : Wanted) (s : List ℕ) (k : Kind) (m : ℕ) (xs : List ℤ) where
   unfolding decode header_of
   decode-rules e = by_length (ltb (length s) header_size) refl e
     where
-      by-codec : (r : Codec) → codec_of (unsigned_at 4 s 0) ≡ r → header_size ≤ length s
-          → judged_payload (judged w r (unsigned_at 4 s 4) (unsigned_at 4 s 8) (length s - header_size)) (drop header_size s) ≡ column k m xs → Decoded w s k m xs
-      by-codec Unknown q' h e = let y : ◌≡◌ {A = ℕ} 0 1 = cc in absurd (omega arith)
-      by-codec (Known j f d p) q' h e =
+      by-row : (j : Kind) (f : Form) (d : Bool) (p : Parameter) → codec_of (unsigned_at 4 s 0) ≡ codec_with j f d p → header_size ≤ length s
+          → judged_payload (judged w (codec_with j f d p) (unsigned_at 4 s 4) (unsigned_at 4 s 8) (length s - header_size)) (drop header_size s) ≡ column k m xs → Decoded w s k m xs
+      by-row j f d p q' h e =
           let n = unsigned_at 4 s 4 in
           let u = unsigned_at 4 s 8 in
           let size = size_right f n u (length s - header_size) in
-          let sized = cond size (Good n (used p u) j f d) (Refused payload_size) in
+          let sized = cond size (header_with n (used p u) j f d) (Err payload_size) in
           let range = leb n length_limit && parameter_ok p u in
-          let e1 = header-kept (suits w j) (cond range sized (Refused header_range)) codec_unknown e in
+          let e1 = header-kept (suits w j) (cond range sized (Err header_range)) codec_unknown e in
           let e2 = header-kept range sized header_range e1.1 in
-          let e3 = header-kept size (Good n (used p u) j f d) payload_size e2.1 in
+          let e3 = header-kept size (header_with n (used p u) j f d) payload_size e2.1 in
           by_values ((and-eq-true_iff (leb n length_limit) (parameter_ok p u)).0 e2.0) e1.0 e3.0 (held_in f (used p u) (drop header_size s)) refl e3.1
         where
           by_values : (leb (unsigned_at 4 s 4) length_limit ≡ true) × (parameter_ok p (unsigned_at 4 s 8) ≡ true) → suits w j ≡ true
-              → size_right f (unsigned_at 4 s 4) (unsigned_at 4 s 8) (length s - header_size) ≡ true → (o : Option (List ℤ)) → held_in f (used p (unsigned_at 4 s 8)) (drop header_size s) ≡ o
+              → size_right f (unsigned_at 4 s 4) (unsigned_at 4 s 8) (length s - header_size) ≡ true → (o : Maybe (List ℤ)) → held_in f (used p (unsigned_at 4 s 8)) (drop header_size s) ≡ o
               → judged_values (elements f (unsigned_at 4 s 4) (used p (unsigned_at 4 s 8))) (used p (unsigned_at 4 s 8)) j d o ≡ column k m xs → Decoded w s k m xs
           by_values r i z none v e = let y : ◌≡◌ {A = ℕ} 0 1 = cc in absurd (omega arith)
           by_values r i z (some l) v e = counted (eqb (length l) (elements f (unsigned_at 4 s 4) (used p (unsigned_at 4 s 8)))) refl e
@@ -99,8 +96,13 @@ module _ (w : Wanted) (s : List ℕ) (k : Kind) (m : ℕ) (xs : List ℤ) where
                     summed = cc;
                   }
 
+      by-codec : (r : Option Codec) → codec_of (unsigned_at 4 s 0) ≡ r → header_size ≤ length s
+          → judged_payload (judged w r (unsigned_at 4 s 4) (unsigned_at 4 s 8) (length s - header_size)) (drop header_size s) ≡ column k m xs → Decoded w s k m xs
+      by-codec None q' h e = let y : ◌≡◌ {A = ℕ} 0 1 = cc in absurd (omega arith)
+      by-codec (Some r) q' h e = by-row r.kind r.form r.delta r.parameter q' h e
+
       by_length : (t : Bool) → ltb (length s) header_size ≡ t
-          → judged_payload (cond t (Refused column_short) (judged w (codec_of (unsigned_at 4 s 0)) (unsigned_at 4 s 4) (unsigned_at 4 s 8) (length s - header_size))) (drop header_size s) ≡ column k m xs
+          → judged_payload (cond t (Err column_short) (judged w (codec_of (unsigned_at 4 s 0)) (unsigned_at 4 s 4) (unsigned_at 4 s 8) (length s - header_size))) (drop header_size s) ≡ column k m xs
           → Decoded w s k m xs
       by_length true h e = let y : ◌≡◌ {A = ℕ} 0 1 = cc in absurd (omega arith)
       by_length false h e = by-codec (codec_of (unsigned_at 4 s 0)) refl (ltb-false (length s) header_size h) e
@@ -123,11 +125,11 @@ pub payload-part : (s : List ℕ) → take (length s - header_size) (drop header
 payload-part s = take_all (length s - header_size) (drop header_size s) (let l = length-drop header_size s in omega arith)
 
 module _ (w : Wanted) (s : List ℕ) where
-  pub decode-refused : (r : ℕ) → header_of w s ≡ Refused r → decode w s ≡ refused r
+  pub decode-refused : (r : ℕ) → header_of w s ≡ Err r → decode w s ≡ refused r
   unfolding decode
-  decode-refused r e = ap (λ (h : Header). judged_payload h (drop header_size s)) e
+  decode-refused r e = ap (λ (h : Result Header ℕ). judged_payload h (drop header_size s)) e
 
-  pub decode-good : (n m : ℕ) (k : Kind) (f : Form) (d : Bool) → header_of w s ≡ Good n m k f d → decode w s ≡ judged_payload (Good n m k f d) (take (length s - header_size) (drop header_size s))
+  pub decode-good : (n m : ℕ) (k : Kind) (f : Form) (d : Bool) → header_of w s ≡ header_with n m k f d → decode w s ≡ judged_payload (header_with n m k f d) (take (length s - header_size) (drop header_size s))
   unfolding decode
   decode-good n m k f d e = ap₂ judged_payload e (sym (payload-part s))
 

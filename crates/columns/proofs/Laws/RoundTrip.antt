@@ -16,8 +16,7 @@ use Rattle.steps.proofs.Laws.PayloadBack.{numbers_for-fit, numbers_for-form, hel
 use Rattle.columns.specs.declared.Kind.{Kind}
 use Rattle.columns.specs.declared.Wanted.{Wanted}
 use Rattle.columns.specs.declared.Parameter.{Parameter}
-use Rattle.columns.specs.declared.Codec.TheVariants.{Known}
-use Rattle.columns.specs.Table.{codec_of, elements, size_right, used}
+use Rattle.columns.specs.Table.{codec_with, codec_of, elements, size_right, used}
 use Rattle.columns.specs.Header.{header_size, header_bytes}
 use Rattle.columns.specs.Decode.{column, decode}
 use Rattle.columns.specs.Encode.{bytes, results, payload_of, encode}
@@ -116,7 +115,7 @@ module _ (w : Wanted) (c m : ℕ) (xs : List ℤ) (b : List ℕ) (r : Encoded w 
 
 -- a column encoded and decoded is itself
 pub decode-encode : (w : Wanted) (c m : ℕ) (xs : List ℤ) (b : List ℕ) → encode w c m xs ≡ bytes b
-    → (k : Kind) × (f : Form) × (d : Bool) × (p : Parameter) × (codec_of c ≡ Known k f d p) × (decode w b ≡ column k (used p m) xs)
+    → (k : Kind) × (f : Form) × (d : Bool) × (p : Parameter) × (codec_of c ≡ codec_with k f d p) × (decode w b ≡ column k (used p m) xs)
 decode-encode w c m xs b e =
     let r = encode-rules w c m xs b e in
     (r.kind, r.form, r.delta, r.parameter, r.known, decode-kept w b r.kind (used r.parameter m) xs (encoded-decoded w c m xs b r))
@@ -159,7 +158,7 @@ module _ (w : Wanted) (s : List ℕ) (k : Kind) (m : ℕ) (xs : List ℤ) (r : D
       }
 
   module _ (h : Bytes s) (g : WriterForm s) where
-    codec-form : CodecForm (Known k r.form r.delta r.parameter) (unsigned_at 4 s 8) (drop header_size s)
+    codec-form : CodecForm (codec_with k r.form r.delta r.parameter) (unsigned_at 4 s 8) (drop header_size s)
     unfolding WriterForm
     codec-form = rw r.known at g
 

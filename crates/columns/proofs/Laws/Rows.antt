@@ -1,7 +1,7 @@
 -- What every row of the table of codecs keeps, by one test over the whole table. Assumes nothing.
 use Rattle.std.proofs.Math.Path.{◌≡◌, refl}
 use Rattle.std.proofs.Common.{sym, ap, ◌∙◌, arith}
-use Rattle.std.specs.Prelude.{Bool, not, ◌&&◌, ◌||◌, List, [], ◌∷◌, ℕ, zero, suc, ◌<◌, ◌≤◌}
+use Rattle.std.specs.Prelude.{Option, Some, None, Bool, not, ◌&&◌, ◌||◌, List, [], ◌∷◌, ℕ, zero, suc, ◌<◌, ◌≤◌}
 use Rattle.std.proofs.Math.Bool.{true, false, and-eq-true_iff}
 use Rattle.std.specs.Bool.{beq}
 use Rattle.std.proofs.Math.ListN.{length, get_or, get_or-eq_default}
@@ -17,8 +17,7 @@ use Rattle.columns.specs.declared.Kind.TheVariants as kind
 use Rattle.columns.specs.declared.Parameter.{Parameter}
 use Rattle.columns.specs.declared.Parameter.TheVariants.{Unused, Divisor, NameSize}
 use Rattle.columns.specs.declared.Codec.{Codec}
-use Rattle.columns.specs.declared.Codec.TheVariants.{Known, Unknown}
-use Rattle.columns.specs.Table.{table, codec_of, kind_tag, is_kind, is_strings, is_name_size, is_names}
+use Rattle.columns.specs.Table.{codec_with, table, codec_of, kind_tag, is_kind, is_strings, is_name_size, is_names}
 
 -- Kinds
 
@@ -74,27 +73,29 @@ sized-NameSize NameSize e = refl
 
 -- The table
 
-abbrev all_rows : (Codec → Bool) → List Codec → Bool
+abbrev all_rows : (Option Codec → Bool) → List (Option Codec) → Bool
 all_rows test [] = true
 all_rows test (r ∷ rs) = test r && all_rows test rs
 
 -- a test that each row of the table passes is passed by every codec
-pub every-codec : (test : Codec → Bool) → test Unknown ≡ true → all_rows test table ≡ true → (c : ℕ) → test (codec_of c) ≡ true
+pub every-codec : (test : Option Codec → Bool) → test None ≡ true → all_rows test table ≡ true → (c : ℕ) → test (codec_of c) ≡ true
 unfolding codec_of
 every-codec test u h c = at table h c
   where
-    at : (rows : List Codec) → all_rows test rows ≡ true → (c : ℕ) → test (get_or rows c Unknown) ≡ true
+    at : (rows : List (Option Codec)) → all_rows test rows ≡ true → (c : ℕ) → test (get_or rows c None) ≡ true
     at [] h c = u
     at (r ∷ rows) h zero = ((and-eq-true_iff (test r) (all_rows test rows)).0 h).0
     at (r ∷ rows) h (suc c) = at rows ((and-eq-true_iff (test r) (all_rows test rows)).0 h).1 c
 
 -- Strings, and they alone, are names, without delta and with their size. Where delta follows, the values may be any 32-bit numbers.
-abbrev row_ok : Codec → Bool
-row_ok Unknown = true
-row_ok (Known k f d p) = (delta_wide d f && names_sized f p) && (beq (is_strings k) (is_names f) && (not (is_strings k) || (not d && is_name_size p)))
+abbrev row_ok : Option Codec → Bool
+row_ok None = true
+row_ok (Some c) =
+    (delta_wide c.delta c.form && names_sized c.form c.parameter)
+    && (beq (is_strings c.kind) (is_names c.form) && (not (is_strings c.kind) || (not c.delta && is_name_size c.parameter)))
 
-module _ (c : ℕ) {k : Kind} {f : Form} {d : Bool} {p : Parameter} (e : codec_of c ≡ Known k f d p) where
-  row : row_ok (Known k f d p) ≡ true
+module _ (c : ℕ) {k : Kind} {f : Form} {d : Bool} {p : Parameter} (e : codec_of c ≡ codec_with k f d p) where
+  row : row_ok (codec_with k f d p) ≡ true
   row = sym (ap row_ok e) ∙ every-codec row_ok refl refl c
 
   row-ok : (delta_wide d f ≡ true) × (names_sized f p ≡ true)
@@ -137,5 +138,5 @@ module _ (c : ℕ) {k : Kind} {f : Form} {d : Bool} {p : Parameter} (e : codec_o
       by-test true h = ltb-true c 17 h
       by-test false h =
           let l : length table ≤ c = ltb-false c 17 h in
-          let u : get_or table c Unknown ≡ Unknown = get_or-eq_default table Unknown l in
+          let u : get_or table c None ≡ None = get_or-eq_default table None l in
           let y : ◌≡◌ {A = ℕ} 0 1 = cc in absurd (omega arith)

@@ -25,6 +25,7 @@ use Rattle.columns.specs.Decode.{column, decode}
 use Rattle.columns.specs.Encode.{bytes, results, payload_of, encode}
 use Rattle.columns.specs.CanHold.{CanHold}
 use Rattle.columns.specs.Shortest.{Gives, Written, Shortest, ShortestPacked, NoShorter}
+use Rattle.columns.proofs.Laws.Same.{same_codec}
 use Rattle.columns.proofs.Laws.Rows.{row_small}
 use Rattle.columns.proofs.Laws.Header.{header-codec, drop-header, length-column}
 use Rattle.columns.proofs.Laws.Encode.{Encoded, encode-rules, encode-kept}
@@ -55,9 +56,8 @@ module _ (w v : Wanted) (m n : ℕ) (k : Kind) (xs : List ℤ) (b s : List ℕ) 
 
   same-payload : bytes_for (number_size own.form) (numbers_for own.form (deltas_if own.delta xs)) ≡ payload
   same-payload =
-      let f : own.form ≡ other.form = cc (own.known, other.known) in
-      let g : own.delta ≡ other.delta = cc (own.known, other.known) in
-      ap₂ (λ (f : Form) (d : Bool). bytes_for (number_size f) (numbers_for f (deltas_if d xs))) f g
+      let same = same_codec (sym own.known ∙ other.known) in
+      ap₂ (λ (f : Form) (d : Bool). bytes_for (number_size f) (numbers_for f (deltas_if d xs))) same.1 same.2
       ∙ ap (λ (l : List ℤ). bytes_for (number_size other.form) (numbers_for other.form l)) (same-values v s k n xs other)
 
   own-length : length b ≡ header_size + length payload

@@ -1,10 +1,11 @@
 -- Group types: the lists of one by their places, and rule 5 case by case.
 -- Assumes nothing.
-use Rattle.std.specs.Prelude.{◌≡◌, refl, Bool, true, false, ◌&&◌, List, ℕ, ◌+◌, ◌-◌, ◌*◌, ◌/◌, ◌%◌, ◌≤◌, ◌<◌, eqb, length, take, drop}
+use Rattle.std.specs.Prelude.{◌≡◌, refl, Bool, true, false, ◌&&◌, List, ℕ, ◌+◌, ◌-◌, ◌*◌, ◌/◌, ◌≤◌, ◌<◌, eqb, length, take, drop}
 use Rattle.std.proofs.Common.{sym, ap, subst, ◌∙◌, arith, add-zero}
+use Rattle.std.specs.Prelude.{Option as Answer, Some, None, unwrap_or, IfSome}
 use Rattle.std.proofs.Math.Option.{Option, some, none as nothing}
-use borrow.Author.Tests.{eq-eqb, ne_eqb}
 use Rattle.refusal.specs.Table.{accepted, counts_disagree, index_outside, value_outside}
+use borrow.Author.Tests.{eq-eqb, ne_eqb}
 use Rattle.numbers.specs.Ranges.{all_pass}
 use Rattle.numbers.specs.Laws.Tests.{clash}
 use Rattle.text.specs.Ascii.{ascii}
@@ -13,35 +14,58 @@ use Rattle.values.specs.Parts.{items_of, entries_of, under, items_in}
 use Rattle.values.specs.Places.{At, AtEntries}
 use Rattle.values.specs.Heads.{is_map}
 use Rattle.values.specs.Laws.Places.{open-map, heads, read-heads, no-entries}
-use Rattle.heads.specs.Head.{kind_at, head_at}
+use Rattle.heads.specs.Head.{some_head, kind_at, head_at}
+use Rattle.heads.proofs.Laws.Head.{same-parts}
 use Rattle.heads.specs.declared.Kind.{Kind}
-use Rattle.heads.specs.declared.Head.{Head}
 use Rattle.values.specs.declared.Part.{Part}
 use Rattle.values.specs.Integers.{integers_in, array_length}
 use Rattle.values.specs.Laws.Integers.{length-integers}
 use Rattle.values.specs.Seeking.{Seeking}
 use Rattle.values.specs.Laws.Seeking.{Turn, seeking-start, seeking-end, seeking-turn}
 use Rattle.counts.specs.Group.{bonds_agree, pairs, orders_right, atoms_of, bond_atoms_of, bond_orders_of, lists_agree, bonds_inside, group_number}
-use Rattle.counts.specs.GroupPlaces.{PlacesIn, noted, agrees, FoundIn, no_lists}
+use Rattle.counts.specs.GroupPlaces.{PlacesIn, noted, agrees, Lengths, FoundIn, no_lists}
+use Rattle.refusal.specs.First.{unless}
 use Rattle.counts.specs.declared.groups.Places.{Places}
 use Rattle.counts.specs.declared.groups.Found.{Found}
 
 -- the lengths of the lists decide whether bonds agree
-pub agrees-is : (a b : Option Document) → agrees (array_length a).there (array_length a).count (array_length b).there (array_length b).count ≡ bonds_agree (integers_in a) (integers_in b)
+pub agrees-is : (a b : Option Document) → agrees (array_length a) (array_length b) ≡ bonds_agree (integers_in a) (integers_in b)
 agrees-is nothing nothing = refl
 agrees-is nothing (some y) = refl
-agrees-is (some x) nothing = rw (length-integers (items_of x)) (go (eqb (count (items_of x) % 2) 0))
-  where
-    go : (b : Bool) → b && true ≡ b
-    go true = refl
-    go false = refl
+agrees-is (some x) nothing = rw (length-integers (items_of x))
 agrees-is (some x) (some y) = rw (length-integers (items_of x), length-integers (items_of y))
 
-pub pairs_is : (o : Option Document) → pairs (integers_in o) ≡ (array_length o).count / 2
+pub pairs_is : (o : Option Document) → pairs (integers_in o) ≡ unwrap_or (array_length o) 0 / 2
 pairs_is nothing = refl
 pairs_is (some x) = ap (λ (n : ℕ). n / 2) (length-integers (items_of x))
 
+-- no list has more values than a file has bytes
+pub few-values : {k : ℕ} (o : Answer ℕ) → IfSome o (λ n. n ≤ k) → unwrap_or o 0 ≤ k
+few-values None h = omega arith
+few-values (Some n) h = h
+
+-- the lists of a group type agree by their lengths
+pub lists-are : {x : Document} {atoms charges elements : ℕ} {bonds orders : Answer ℕ} → Lengths x atoms charges elements bonds orders → (eqb charges atoms && (eqb elements atoms && agrees bonds orders)) ≡ lists_agree x
+lists-are {x} k =
+    rw (k.charges-are, k.elements-are, k.atoms_are, k.bonds-are, k.orders-are) (ap (λ (b : Bool). eqb (count (items_in (under "formalChargeList" x))) (atoms_of x) && (eqb (count (items_in (under "elementList" x))) (atoms_of x) && b)) (agrees-is (under "bondAtomList" x) (under "bondOrderList" x)))
+
 -- rule 5, case by case
+module _ (x : Document) where
+  pub group-lists : lists_agree x ≡ false → counts_disagree ≡ group_number x
+  unfolding group_number
+  group-lists e = rw e
+
+  module _ (lists : lists_agree x ≡ true) where
+    pub lists-inside : bonds_inside x ≡ false → index_outside ≡ group_number x
+    unfolding group_number
+    lists-inside e = rw (lists, e)
+
+    pub lists-orders : bonds_inside x ≡ true → (b : Bool) → orders_right (bond_orders_of x) ≡ b → unless b value_outside ≡ group_number x
+    unfolding group_number
+    lists-orders i true e = rw (lists, i, e)
+    lists-orders i false e = rw (lists, i, e)
+
+-- the same, list by list
 module _ (x : Document) where
   pub group-charges : (count (items_in (under "formalChargeList" x)) ≡ atoms_of x → ⊥) → counts_disagree ≡ group_number x
   unfolding group_number
@@ -122,15 +146,15 @@ pub record MapAt (s : List ℕ) (x : Document) (n r e : ℕ) : Type 0 where
   pub counts : size (entries_of x) ≡ n
   pub all : AtEntries s r (entries_of x) e
 
-pub map_at : {s : List ℕ} {p e n r : ℕ} (x : Document) → At s p x e → head_at s p ≡ Head.At n r → kind_at s p ≡ Kind.Map → MapAt s x n r e
+pub map_at : {s : List ℕ} {p e n r : ℕ} (x : Document) → At s p x e → head_at s p ≡ some_head n r → kind_at s p ≡ Kind.Map → MapAt s x n r e
 map_at {s} {p} {e} {n} {r} x a h q = go x a (read-heads x a q)
   where
     go : (z : Document) → At s p z e → heads z Kind.Map ≡ true → MapAt s z n r e
     go (map es) b g =
         let o = open-map b in
-        let i = sym o.told.head ∙ h in
-        let j : o.q ≡ r = cc in
-        record { counts = cc; all = subst (λ (m : ℕ). AtEntries s m es e) j o.all }
+        let i = same-parts (sym o.told.head ∙ h) in
+        let j : o.q ≡ r = i.1 in
+        record { counts = i.0; all = subst (λ (m : ℕ). AtEntries s m es e) j o.all }
     go (string t) b g = clash g
     go (binary t) b g = clash g
     go (integer v) b g = clash g

@@ -1,6 +1,6 @@
 -- Values of an array that are judged one by one, each at its place: what is left of them decides.
 -- Assumes nothing.
-use Rattle.std.specs.Prelude.{◌≡◌, refl, Bool, true, false, cond, ◌&&◌, List, length, get_or, take, drop}
+use Rattle.std.specs.Prelude.{◌≡◌, refl, Some, Bool, true, false, cond, ◌&&◌, List, length, get_or, take, drop}
 use Rattle.std.proofs.Math.Path.{sym, ap, subst}
 use Rattle.std.proofs.Common.{◌∙◌, arith, le-leb}
 use Rattle.std.proofs.Math.Option.{Option}
@@ -8,8 +8,7 @@ use Prim.Native.Nat.{ℕ, suc, ◌+◌, ◌-◌, ◌≤◌, ◌<◌}
 use Rattle.text.specs.Ascii.{ascii}
 use Rattle.text.specs.Equal.{equal}
 use Rattle.heads.specs.declared.Kind.{Kind}
-use Rattle.heads.specs.declared.Head.{Head}
-use Rattle.heads.specs.Head.{kind_at, head_at}
+use Rattle.heads.specs.Head.{some_head, kind_at, head_at}
 use Rattle.heads.proofs.Laws.Head.{alone-head}
 use Rattle.heads.proofs.Laws.Table.{array-lead}
 use Rattle.messagepack.specs.Document.{Document, Documents, Entries, none, item, count}
@@ -17,8 +16,7 @@ use Rattle.values.specs.Places.{At, AtAll, AtEntries, TextAt, PlaceSays}
 use Rattle.values.specs.Seeking.{Seeking}
 use Rattle.values.specs.declared.Part.{Part}
 use Rattle.values.specs.Heads.{is_map}
-use Rattle.values.specs.declared.Over.{Over}
-use Rattle.values.specs.Standing.{Standing, past_over, LowRun, over}
+use Rattle.values.specs.Standing.{Standing, step_to, past_over, LowRun, over}
 use Rattle.values.specs.Laws.Standing.{standing-none, stepped-on, steps-short, steps-items}
 use Rattle.values.specs.Laws.Seeking.{Left, turn, seeking-start, seeking-turn, seeking-end, part-equal}
 use Rattle.fields.specs.Tests.{all}
@@ -89,12 +87,12 @@ seek-on {s} {name} {e = e} {es = es} l k pos key f is picks past =
 -- a short string ends behind its bytes
 pub short-end : (s : List ℕ) (p : ℕ) → p < length s → {n e : ℕ} → 0xa0 ≤ get_or s p 0 → get_or s p 0 < 0xc0 → n ≡ get_or s p 0 - 0xa0 → p + 1 + n ≤ length s → Standing s 1 p e → p + 1 + n ≡ e
 short-end s p lt {n} {e} low high is le st =
-    let o : Over.On (p + 1 + n) 0 ≡ past_over (length s) n (p + 1) = rw (le-leb _ _ le) in
+    let o : Some (step_to (p + 1 + n) 0) ≡ past_over (length s) n (p + 1) = rw (le-leb _ _ le) in
     standing-none s 0 _ e (omega arith) ((stepped-on s p (steps-short s p lt low high is o) refl).goes 0 e st)
 
 -- an array whose count is in its lead byte, of integers in their lead bytes, ends after them
 pub integers-end : (s : List ℕ) (p : ℕ) → p < length s → {n e : ℕ} → 0x90 ≤ get_or s p 0 → get_or s p 0 < 0xa0 → n ≡ get_or s p 0 - 0x90 → LowRun s (p + 1) n → Standing s 1 p e → p + 1 + n ≡ e
 integers-end s p lt {n} {e} low high is run st =
     let h = alone-head s p lt (array-lead (get_or s p 0) low high) in
-    let g : head_at s p ≡ Head.At n (p + 1) = h.1 ∙ ap (λ (m : ℕ). Head.At m (p + 1)) (sym is) in
+    let g : head_at s p ≡ some_head n (p + 1) = h.1 ∙ ap (λ (m : ℕ). some_head m (p + 1)) (sym is) in
     standing-none s 0 _ e (omega arith) ((stepped-on s p (steps-items s p g h.0 (over run)) refl).goes 0 e st)

@@ -1,9 +1,10 @@
 -- The rules of counts in parts: what each part says by what is read of a file's fields, and that the parts are all of the rules.
 -- Assumes nothing.
-use Rattle.std.specs.Prelude.{◌≡◌, Bool, cond, ◌&&◌, List, [], ◌∷◌, ℕ, zero, suc, ◌+◌, ◌-◌, ◌/◌, ◌%◌, ◌≤◌, ◌<◌, eqb, leb, ltb, ℤ, pos, negsuc, nat_abs, length, get_or}
+use Rattle.std.specs.Prelude.{◌≡◌, Bool, cond, ◌&&◌, List, [], ◌∷◌, ℕ, zero, suc, ◌+◌, ◌-◌, ◌/◌, ◌≤◌, ◌<◌, eqb, leb, ltb, ℤ, pos, negsuc, nat_abs, length, get_or}
 use Rattle.std.proofs.Math.Path.{refl}
 use Rattle.std.proofs.Common.{sym, ap, ap₂, ◌∙◌, arith, leb-true, le-leb, ltb-true, eqb-true, eq-eqb, ne_eqb}
 use Rattle.std.proofs.Math.Bool.{true, false}
+use Rattle.std.specs.Prelude.{Option as Answer, Some, None, unwrap_or}
 use Rattle.std.proofs.Math.Option.{Option, some, none as nothing}
 use Prim.Native.String as Text
 use Rattle.std.specs.Int.Signed.{lt_z}
@@ -19,8 +20,6 @@ use Rattle.values.specs.Parts.{integer_of, text_of, items_of, items_in}
 use Rattle.values.specs.Places.{At, PlaceSays}
 use Rattle.values.specs.Walked.{Short}
 use Rattle.values.specs.Integers.{integers_of, none_negative, sum, summed, integers_in, list_in, array_length}
-use Rattle.values.specs.declared.lists.Sum.{Sum}
-use Rattle.values.specs.declared.lists.Length as list
 use Rattle.values.specs.Laws.Places.{Stands, place-some, place_none}
 use Rattle.values.specs.Laws.Integers.{length-integers}
 use Rattle.fields.specs.Table.{named}
@@ -30,7 +29,7 @@ use Rattle.columns.specs.declared.Kind.{Kind}
 use Rattle.columns.specs.declared.Kind.TheVariants.{Int8, Int32}
 use Rattle.columns.specs.declared.Wanted.TheVariants.{Only}
 use Rattle.columns.specs.Table.{is_strings}
-use Rattle.file_columns.specs.Cells.{total, no_sums, sums_over, type_limit}
+use Rattle.file_columns.specs.Cells.{total, sums_over, type_limit}
 use Rattle.file_columns.specs.declared.whole.Sums.{Sums}
 use Rattle.file_columns.specs.Laws.Field.{length-cells, suits-only, field_column-suits}
 use Rattle.file_columns.specs.Columns.{decoded, ColumnRight, cells_of, cells_in, length_in, column_length}
@@ -41,7 +40,7 @@ use Rattle.counts.specs.Steps.{Facts, as_count, CountsIn, CountsAre, counts_fit,
 use Rattle.counts.specs.declared.Counts.{Counts}
 
 -- the values of an array are as many as its integers
-length-items : (o : Option Document) → (array_length o).count ≡ count (items_in o)
+length-items : (o : Option Document) → unwrap_or (array_length o) 0 ≡ count (items_in o)
 unfolding count
 length-items nothing = refl
 length-items (some x) = refl
@@ -59,8 +58,8 @@ module _ {s : List ℕ} {es : Entries} {places : List ℕ} (f : Facts s es place
   says-named = place-name f.places_of name is number
 
   -- how many values an array has
-  pub count-named : {l : list.Length} → ((o : Option Document) → PlaceSays s (get_or places i 0) o → l ≡ array_length o) → l.count ≡ count (items_in (field name es))
-  count-named h = ap (λ (z : list.Length). z.count) (h (field name es) says-named) ∙ length-items (field name es)
+  pub count-named : {l : Answer ℕ} → ((o : Option Document) → PlaceSays s (get_or places i 0) o → l ≡ array_length o) → unwrap_or l 0 ≡ count (items_in (field name es))
+  count-named h = ap (λ (z : Answer ℕ). unwrap_or z 0) (h (field name es) says-named) ∙ length-items (field name es)
 
   -- a required field has a place, and stands there
   module _ (required : is_required (ascii name) named ≡ true) where
@@ -80,7 +79,7 @@ module _ {s : List ℕ} {es : Entries} {places : List ℕ} (f : Facts s es place
         h d.x d.end d.at ∙ ap (λ (z : Option Document). as_count (integer_in z)) (sym d.is)
 
     -- as the sum of an array
-    pub sum-named : {r : Sum} → (Short s → (x : Document) (e : ℕ) → At s (get_or places i 0) x e → r ≡ summed (integers_of (items_of x))) → r ≡ summed (list_in (integers_in (field name es)))
+    pub sum-named : {r : Answer ℕ} → (Short s → (x : Document) (e : ℕ) → At s (get_or places i 0) x e → r ≡ summed (integers_of (items_of x))) → r ≡ summed (list_in (integers_in (field name es)))
     sum-named h =
         let d = stands-named in
         h f.short d.x d.end d.at ∙ ap (λ (z : Option Document). summed (list_in (integers_in z))) (sym d.is)
@@ -145,17 +144,17 @@ module _ {f : Counted} {c : Counts} (k : CountsIn f c) where
 
 -- sums
 
-pub sum-negative : (xs : List ℤ) → Sum.Negative ≡ summed xs → none_negative xs ≡ false
+pub sum-negative : (xs : List ℤ) → None ≡ summed xs → none_negative xs ≡ false
 sum-negative xs e = go (none_negative xs) e
   where
-    go : (b : Bool) → Sum.Negative ≡ cond b (Sum.Is (sum xs)) Sum.Negative → b ≡ false
+    go : (b : Bool) → ◌≡◌ {A = Answer ℕ} None (cond b (Some (sum xs)) None) → b ≡ false
     go true q = let y : ◌≡◌ {A = ℕ} 0 1 = cc in absurd (omega arith)
     go false q = refl
 
-pub sum_is : (n : ℕ) (xs : List ℤ) → Sum.Is n ≡ summed xs → (none_negative xs ≡ true) × (n ≡ sum xs)
+pub sum_is : (n : ℕ) (xs : List ℤ) → Some n ≡ summed xs → (none_negative xs ≡ true) × (n ≡ sum xs)
 sum_is n xs e = go (none_negative xs) e
   where
-    go : (b : Bool) → Sum.Is n ≡ cond b (Sum.Is (sum xs)) Sum.Negative → (b ≡ true) × (n ≡ sum xs)
+    go : (b : Bool) → Some n ≡ cond b (Some (sum xs)) None → (b ≡ true) × (n ≡ sum xs)
     go true q = (refl, cc)
     go false q = let y : ◌≡◌ {A = ℕ} 0 1 = cc in absurd (omega arith)
 
@@ -209,18 +208,14 @@ cells-long j x s r =
     let k : r.k ≡ j = suits-only j r.k (field_column-suits (Only j) (text_of x) r.k r.m r.cells r.is) in
     ap length_in r.is ∙ length-cells r.k r.cells (rw k s) ∙ sym (ap (λ z. length (cells_of z)) r.is)
 
-pub pairs-cells : (o : Option Document) → ColumnRight (Only Int32) o → (column_length (Only Int32) o).count / 2 ≡ pairs (cells_in (Only Int32) o)
+pub pairs-cells : (o : Option Document) → ColumnRight (Only Int32) o → unwrap_or (column_length (Only Int32) o) 0 / 2 ≡ pairs (cells_in (Only Int32) o)
 pairs-cells nothing r = refl
 pairs-cells (some x) r = ap (λ (n : ℕ). n / 2) (cells-long Int32 x refl r)
 
-pub agree-cells : (a b : Option Document) → ColumnRight (Only Int32) a → ColumnRight (Only Int8) b → agrees (column_length (Only Int32) a).there (column_length (Only Int32) a).count (column_length (Only Int8) b).there (column_length (Only Int8) b).count ≡ bonds_agree (cells_in (Only Int32) a) (cells_in (Only Int8) b)
+pub agree-cells : (a b : Option Document) → ColumnRight (Only Int32) a → ColumnRight (Only Int8) b → agrees (column_length (Only Int32) a) (column_length (Only Int8) b) ≡ bonds_agree (cells_in (Only Int32) a) (cells_in (Only Int8) b)
 agree-cells nothing nothing r q = refl
 agree-cells nothing (some y) r q = refl
-agree-cells (some x) nothing r q = rw (cells-long Int32 x refl r) (go (eqb (length (cells_of (decoded (Only Int32) x)) % 2) 0))
-  where
-    go : (b : Bool) → b && true ≡ b
-    go true = refl
-    go false = refl
+agree-cells (some x) nothing r q = rw (cells-long Int32 x refl r)
 agree-cells (some x) (some y) r q = rw (cells-long Int32 x refl r, cells-long Int8 y refl q)
 
 -- sums over a table that begins as another does
@@ -230,22 +225,20 @@ total-like n a b h [] e = refl
 total-like n a b h (pos i ∷ xs) e = ap₂ ◌+◌ (h i (ltb-true i n (and_left (ltb i n) (all_below n xs) e))) (total-like n a b h xs (and_right (ltb i n) (all_below n xs) e))
 total-like n a b h (negsuc i ∷ xs) e = clash e
 
-pub totals-are : (f : Counted) (c : Counts) (sums : Sums) (outer orders : list.Length) (atoms bonds : List ℕ) → CountsAre f c → sums ≡ sums_over (count f.groupList) atoms bonds f.groupTypeList → ((i : ℕ) → i < count f.groupList → get_or atoms i 0 ≡ get_or (each atoms_of f.groupList) i 0) → ((i : ℕ) → i < count f.groupList → get_or bonds i 0 ≡ get_or (each bonds_of f.groupList) i 0) → outer.count / 2 ≡ pairs f.bondAtomList → agrees outer.there outer.count orders.there orders.count ≡ bonds_agree f.bondAtomList f.bondOrderList → totals_number sums outer orders c ≡ totals_part f
+pub totals-are : (f : Counted) (c : Counts) (sums : Answer Sums) (outer orders : Answer ℕ) (atoms bonds : List ℕ) → CountsAre f c → sums ≡ sums_over (count f.groupList) atoms bonds f.groupTypeList → ((i : ℕ) → i < count f.groupList → get_or atoms i 0 ≡ get_or (each atoms_of f.groupList) i 0) → ((i : ℕ) → i < count f.groupList → get_or bonds i 0 ≡ get_or (each bonds_of f.groupList) i 0) → unwrap_or outer 0 / 2 ≡ pairs f.bondAtomList → agrees outer orders ≡ bonds_agree f.bondAtomList f.bondOrderList → totals_number sums outer orders c ≡ totals_part f
 totals-are f c sums outer orders atoms bonds k t ha hb p g = go (all_below (count f.groupList) f.groupTypeList) refl
   where
     go : (b : Bool) → all_below (count f.groupList) f.groupTypeList ≡ b → totals_number sums outer orders c ≡ totals_part f
     go false i =
-        let s : sums ≡ no_sums = t ∙ rw i in
-        let e : sums.inside ≡ false = ap (λ (x : Sums). x.inside) s in
+        let s : sums ≡ None = t ∙ rw i in
         let j : groups_inside f ≡ false = i in
-        rw (e, j)
+        rw (s, j)
     go true i =
-        let s : sums ≡ record { inside = true; atoms = total atoms f.groupTypeList; bonds = total bonds f.groupTypeList } = t ∙ rw i in
-        let e : sums.inside ≡ true = ap (λ (x : Sums). x.inside) s in
+        let s : sums ≡ Some (record { atoms = total atoms f.groupTypeList; bonds = total bonds f.groupTypeList }) = t ∙ rw i in
         let j : groups_inside f ≡ true = i in
-        let x : sums.atoms ≡ total (each atoms_of f.groupList) f.groupTypeList = ap (λ (x : Sums). x.atoms) s ∙ total-like (count f.groupList) atoms (each atoms_of f.groupList) ha f.groupTypeList i in
-        let y : sums.bonds ≡ total (each bonds_of f.groupList) f.groupTypeList = ap (λ (x : Sums). x.bonds) s ∙ total-like (count f.groupList) bonds (each bonds_of f.groupList) hb f.groupTypeList i in
-        rw (e, j, x, y, p, g, k.atoms, k.bonds)
+        let x = total-like (count f.groupList) atoms (each atoms_of f.groupList) ha f.groupTypeList i in
+        let y = total-like (count f.groupList) bonds (each bonds_of f.groupList) hb f.groupTypeList i in
+        rw (s, j, x, y, p, g, k.atoms, k.bonds)
 
 pub groups-fine : (f : Counted) → groups_number f.groupList ≡ accepted → totals_part f ≡ groups_part f
 groups-fine f z = sym (ap (λ (n : ℕ). or_else n (or_else (totals_part f) accepted)) z ∙ or_else-none (totals_part f))

@@ -11,7 +11,7 @@ use Rattle.messagepack.specs.Document.{Document, Documents, none, item, count}
 use Rattle.values.specs.Places.{At, AtAll}
 use Rattle.values.specs.Laws.Places.{open-item}
 use Rattle.counts.specs.Group.{atoms_of, bonds_of, group_number, groups_number, each}
-use Rattle.counts.specs.GroupPlaces.{GroupSays}
+use Rattle.counts.specs.GroupPlaces.{GroupIs}
 use Rattle.counts.specs.declared.groups.Group as g
 use Rattle.counts.specs.Steps.{WalkedTypes, table_of}
 
@@ -75,19 +75,19 @@ module _ {s : List ℕ} {types : Documents} {i n p e : ℕ} {old-atoms old-bonds
       refused (suc r) h q = sym (k.number ∙ ap groups_number judged-next.is ∙ ap (λ (m : ℕ). or_else m (groups_number judged-next.after)) (sym q))
 
   -- a type that is fine stands in the tables
-  pub judged-more : {q : ℕ} (g : g.Group) → GroupSays judged-next.x judged-next.q g → g.refusal ≡ accepted → q ≡ judged-next.q → i < length atoms → i < length bonds → Judged s types (i + 1) n q e old-atoms old-bonds (set atoms i g.atoms) (set bonds i g.bonds)
+  pub judged-more : {q : ℕ} (g : g.Group) → accepted ≡ group_number judged-next.x → GroupIs judged-next.x judged-next.q g → q ≡ judged-next.q → i < length atoms → i < length bonds → Judged s types (i + 1) n q e old-atoms old-bonds (set atoms i g.atoms) (set bonds i g.bonds)
   unfolding groups_number count
-  judged-more {q} g says fine end la lb =
+  judged-more {q} g fine says end la lb =
       let m = judged-next in
       let c : i + suc (count m.after) ≡ n = sym (ap (λ (z : Documents). i + count z) m.is) ∙ k.counts in
-      let z : group_number m.x ≡ accepted = sym says.number ∙ fine in
+      let z : group_number m.x ≡ accepted = sym fine in
       record {
         rest = m.after;
         all = subst (λ (j : ℕ). AtAll s j m.after e) (sym end) m.all;
         counts = omega arith;
         number = k.number ∙ ap groups_number m.is ∙ ap (λ (v : ℕ). or_else v (groups_number m.after)) z;
-        atoms_are = k.atoms_are ∙ ap (λ (d : Documents). take i atoms ++ table_of atoms_of d (drop i atoms)) m.is ∙ table-fine atoms_of m.x m.after atoms i g.atoms la z (says.atoms fine);
-        bonds-are = k.bonds-are ∙ ap (λ (d : Documents). take i bonds ++ table_of bonds_of d (drop i bonds)) m.is ∙ table-fine bonds_of m.x m.after bonds i g.bonds lb z (says.bonds fine);
+        atoms_are = k.atoms_are ∙ ap (λ (d : Documents). take i atoms ++ table_of atoms_of d (drop i atoms)) m.is ∙ table-fine atoms_of m.x m.after atoms i g.atoms la z says.atoms;
+        bonds-are = k.bonds-are ∙ ap (λ (d : Documents). take i bonds ++ table_of bonds_of d (drop i bonds)) m.is ∙ table-fine bonds_of m.x m.after bonds i g.bonds lb z says.bonds;
       }
 
 pub judged-end : {s : List ℕ} {types : Documents} {i n p e : ℕ} {old-atoms old-bonds atoms bonds : List ℕ} → Judged s types i n p e old-atoms old-bonds atoms bonds → n ≤ i → Tables types old-atoms old-bonds atoms bonds accepted
@@ -110,5 +110,5 @@ pub filled-each : (f : Document → ℕ) (types : Documents) (old : List ℕ) {n
 filled-each f types old e z l i lt = ap (λ (v : List ℕ). get_or v i 0) e ∙ table-each f types old z l i lt
 
 -- the three promises on the types, from what is said of them
-pub tables-said : {leads file : List ℕ} {n at : ℕ} {old-atoms old-bonds atoms bonds : List ℕ} {r : ℕ} → WalkedTypes leads file n at (λ ts. Tables ts old-atoms old-bonds atoms bonds r) → WalkedTypes leads file n at (λ ts. r ≡ groups_number ts) × (WalkedTypes leads file n at (λ ts. atoms ≡ table_of atoms_of ts old-atoms) × WalkedTypes leads file n at (λ ts. bonds ≡ table_of bonds_of ts old-bonds))
-tables-said f = (λ l t ts e a k. (f l t ts e a k).number, (λ l t ts e a k. (f l t ts e a k).atoms_are, λ l t ts e a k. (f l t ts e a k).bonds-are))
+pub tables-said : {file : List ℕ} {n at : ℕ} {old-atoms old-bonds atoms bonds : List ℕ} {r : ℕ} → WalkedTypes file n at (λ ts. Tables ts old-atoms old-bonds atoms bonds r) → WalkedTypes file n at (λ ts. r ≡ groups_number ts) × (WalkedTypes file n at (λ ts. atoms ≡ table_of atoms_of ts old-atoms) × WalkedTypes file n at (λ ts. bonds ≡ table_of bonds_of ts old-bonds))
+tables-said f = (λ l ts e a k. (f l ts e a k).number, (λ l ts e a k. (f l ts e a k).atoms_are, λ l ts e a k. (f l ts e a k).bonds-are))

@@ -11,4 +11,4 @@ pub returns : goal.returns
 returns c =
     let z : to_z w32 (of_z w32 c.integer_at.result) ≡ c.integer_at.result = to_z-of_z {w = w32} (record { sfits = c.integer_at.type_inv }) in
     let n : c.as_count.result ≡ as_count c.integer_at.result = c.as_count.ensures ∙ ap as_count z in
-    record { small = count_most c.integer_at.result n; integer = λ t x e a. n ∙ ap as_count (c.integer_at.ensures.says t x e a) }
+    record { small = count_most c.integer_at.result n; integer = λ x e a. n ∙ ap as_count (c.integer_at.ensures.says x e a) }

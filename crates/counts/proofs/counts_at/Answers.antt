@@ -16,11 +16,11 @@ returns c = record {
     chains = c.count_at-4.ensures.small;
     models = c.count_at-5.ensures.small;
   };
-  fields = λ t es f. record {
-    bonds = integer-named f "numBonds" refl refl refl (λ x e a. c.count_at.ensures.integer t x e a);
-    atoms = integer-named f "numAtoms" refl refl refl (λ x e a. c.count_at-2.ensures.integer t x e a);
-    groups = integer-named f "numGroups" refl refl refl (λ x e a. c.count_at-3.ensures.integer t x e a);
-    chains = integer-named f "numChains" refl refl refl (λ x e a. c.count_at-4.ensures.integer t x e a);
-    models = integer-named f "numModels" refl refl refl (λ x e a. c.count_at-5.ensures.integer t x e a);
+  fields = λ es f. record {
+    bonds = integer-named f "numBonds" refl refl refl (λ x e a. c.count_at.ensures.integer x e a);
+    atoms = integer-named f "numAtoms" refl refl refl (λ x e a. c.count_at-2.ensures.integer x e a);
+    groups = integer-named f "numGroups" refl refl refl (λ x e a. c.count_at-3.ensures.integer x e a);
+    chains = integer-named f "numChains" refl refl refl (λ x e a. c.count_at-4.ensures.integer x e a);
+    models = integer-named f "numModels" refl refl refl (λ x e a. c.count_at-5.ensures.integer x e a);
   };
 }

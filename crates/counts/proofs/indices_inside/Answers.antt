@@ -10,23 +10,23 @@ use Rattle.counts.specs.Indices.{chains_inside, transforms_inside}
 use Rattle.counts.proofs.Laws.Steps.{says-named, and_first, and-true}
 use Rattle.counts.proofs.indices_inside.Goals as goal
 
-pub returns-then-not-all_inside : goal.returns-then-not-all_inside
+pub returns-else-all_inside : goal.returns-else-all_inside
 unfolding find_row equal named
-returns-then-not-all_inside c =
-    λ t es f k.
+returns-else-all_inside c =
+    λ es f k.
     let entities =
-    c.all_inside.ensures t (field "entityList" es) (says-named f "entityList" refl refl)
+    c.all_inside.ensures (field "entityList" es) (says-named f "entityList" refl refl)
     ∙ ap (λ (h : ℕ). all (chains_inside h) (items_in (field "entityList" es))) k.chains in
-    sym (and_first _ _ (sym entities ∙ c.if-not-all_inside.true))
+    c.if-all_inside.false ∙ sym (and_first _ _ (sym entities ∙ c.if-all_inside.false))
 
-pub returns : goal.returns
+pub returns-then-all_inside : goal.returns-then-all_inside
 unfolding find_row equal named
-returns c =
-    λ t es f k.
+returns-then-all_inside c =
+    λ es f k.
     let entities =
-    c.all_inside.ensures t (field "entityList" es) (says-named f "entityList" refl refl)
+    c.all_inside.ensures (field "entityList" es) (says-named f "entityList" refl refl)
     ∙ ap (λ (h : ℕ). all (chains_inside h) (items_in (field "entityList" es))) k.chains in
     let assemblies =
-    c.assemblies_inside.ensures t (field "bioAssemblyList" es) (says-named f "bioAssemblyList" refl refl)
+    c.assemblies_inside.ensures (field "bioAssemblyList" es) (says-named f "bioAssemblyList" refl refl)
     ∙ ap (λ (h : ℕ). all (transforms_inside h) (items_in (field "bioAssemblyList" es))) k.chains in
-    assemblies ∙ sym (and-true _ _ (sym entities ∙ c.if-not-all_inside.false))
+    assemblies ∙ sym (and-true _ _ (sym entities ∙ c.if-all_inside.true))

@@ -20,8 +20,8 @@ use Rattle.counts.proofs.outer_inside.Goals as goal
 pub returns : goal.returns
 unfolding find_row equal named
 returns c =
-    λ t es f k.
+    λ es f k.
     let last = to_z-of_z {w = w32} (record { sfits = c.last_index-last.type_inv }) ∙ c.last_index-last.ensures ∙ ap last_index k.atoms in
-    c.all_between.ensures t (field "bondAtomList" es) (says-named f "bondAtomList" refl refl) (right-named es f.right "bondAtomList" refl)
+    c.all_between.ensures (field "bondAtomList" es) (says-named f "bondAtomList" refl refl) (right-named es f.right "bondAtomList" refl)
     ∙ ap (λ (h : ℤ). all_between (pos 0) h (list_in (cells_in (Only Int32) (field "bondAtomList" es)))) last
     ∙ sym (few-below _ _ (omega (arith, k.few-atoms, k.atoms)))

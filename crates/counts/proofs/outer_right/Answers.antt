@@ -9,4 +9,4 @@ use Rattle.counts.proofs.outer_right.Goals as goal
 
 pub returns : goal.returns
 unfolding find_row equal named
-returns c = λ t es f. c.all_between.ensures t (field "bondOrderList" es) (says-named f "bondOrderList" refl refl) (right-named es f.right "bondOrderList" refl)
+returns c = λ es f. c.all_between.ensures (field "bondOrderList" es) (says-named f "bondOrderList" refl refl) (right-named es f.right "bondOrderList" refl)

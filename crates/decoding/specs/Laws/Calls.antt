@@ -1,7 +1,6 @@
 -- Laws of the decoders: the divisor of fixed point. Assumes nothing.
-use Rattle.std.specs.Prelude.{◌≡◌, List, ℕ}
+use Rattle.std.specs.Prelude.{Result, ◌≡◌, List, ℕ}
 use Rattle.std.proofs.Common.{sym, ap, ◌∙◌}
-use Rattle.refusal.specs.declared.Answer.{Answer}
 use Rattle.numbers.specs.BigEndian.{unsigned_at}
 use Rattle.columns.specs.declared.Kind.TheVariants as kind
 use Rattle.columns.specs.declared.Wanted.TheVariants.{Only}
@@ -15,7 +14,7 @@ use Rattle.columns.proofs.Laws.CanHold.{parameter_of, kind-parameter}
 use Rattle.decoding.specs.Calls.{with_divisor, fixed_answer}
 
 -- the divisor of a fixed point column stands in its header
-pub fixed-divisor : (s : List ℕ) (x : Decoding) (room : ℕ) (r : Answer) → x ≡ decode (Only kind.FixedPoint) s → r ≡ decoded_answer x room → with_divisor (unsigned_at 4 s 8) r ≡ fixed_answer x room
+pub fixed-divisor : (s : List ℕ) (x : Decoding) (room : ℕ) (r : Result ℕ ℕ) → x ≡ decode (Only kind.FixedPoint) s → r ≡ decoded_answer x room → with_divisor (unsigned_at 4 s 8) r ≡ fixed_answer x room
 fixed-divisor s (refused q) room r e h = rw h
 fixed-divisor s (column k m l) room r e h =
     let d = decode-rules (Only kind.FixedPoint) s k m l (sym e) in

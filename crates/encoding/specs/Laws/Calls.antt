@@ -1,5 +1,5 @@
 -- Laws of what the calls say and leave: a refused plan, and a placed payload with its header. Assumes nothing.
-use Rattle.std.specs.Prelude.{◌≡◌, Bool, cond, List, ◌++◌, ℕ, ◌+◌, ◌≤◌, take, ℤ}
+use Rattle.std.specs.Prelude.{◌≡◌, Result, Ok, Err, Bool, cond, List, ◌++◌, ℕ, ◌+◌, ◌≤◌, take, ℤ}
 use Rattle.std.proofs.Math.Path.{refl}
 use Rattle.std.proofs.Common.{sym, ap, ap₂, ◌∙◌, append_assoc, length-append}
 use Rattle.std.proofs.Math.Bool.{true, false}
@@ -8,8 +8,6 @@ use Rattle.std.proofs.Math.ListN.{length, drop}
 use Rattle.std.proofs.Math.Seq.{length-take-le, drop_at}
 use Rattle.std.proofs.Math.Dec.{leb}
 use borrow.Author.Tests.{leb-true}
-use Rattle.refusal.specs.declared.Answer.{Answer}
-use Rattle.refusal.specs.declared.Answer.TheVariants.{Count, Refused}
 use Rattle.refusal.specs.Table.{number_not_allowed}
 use Rattle.numbers.specs.BigEndian.{bytes_of, written_at}
 use Rattle.numbers.specs.Laws.BigEndian.{length-bytes_of}
@@ -18,11 +16,9 @@ use Rattle.steps.specs.Payload.{allowed}
 use Rattle.columns.specs.declared.Wanted.{Wanted}
 use Rattle.columns.specs.Header.{header_bytes, header_size}
 use Rattle.columns.specs.declared.Plan.{Plan}
-use Rattle.columns.specs.declared.Plan.TheVariants as plan
-use Rattle.columns.specs.Encode.{payload_of, Encoding, refused, bytes, plan_of, encoded_by, encode}
+use Rattle.columns.specs.Encode.{payload_of, Encoding, refused, bytes, plan_of, encoded_by, encode, plan_with}
 use Rattle.columns.proofs.Laws.Header.{length-header}
 use Rattle.columns.proofs.Laws.Encode.{encode-plan}
-use Rattle.writers.specs.declared.Placed.{Placed}
 use Rattle.writers.specs.Placed.{over, placed, laid}
 use Rattle.writers.specs.Laws.Placed.{over-length, over-then, over-written}
 use Rattle.encoding.specs.Calls.{encoded_answer, encoded_buffer}
@@ -63,7 +59,7 @@ module _ (h p s : List ℕ) (e : length h ≡ header_size) where
   by-room true q =
       let r = leb-true (header_size + length p) (length s) q in
       let k : leb (length (h ++ p)) (length s) ≡ true = rw both-length q in
-      (rw (q, k) (ap Count (sym both-length)), rw (q, k) (both-over r), rw q (rw (over-length s header_size p r) r))
+      (rw (q, k) (ap Ok (sym both-length)), rw (q, k) (both-over r), rw q (rw (over-length s header_size p r) r))
   by-room false q =
       let k : leb (length (h ++ p)) (length s) ≡ false = rw both-length q in
       (rw (q, k), rw (q, k), rw q tt)
@@ -78,18 +74,18 @@ module _ (h p s : List ℕ) (e : length h ≡ header_size) where
 -- The calls, for a codec c and a parameter m that stand for c₀ and m₀
 
 module _ (w : Wanted) {c m c₀ m₀ : ℕ} (xs : List ℤ) (s : List ℕ) (ec : c ≡ c₀) (em : m ≡ m₀) where
-  encoded : {t : Plan} → plan_of w c m (length xs) ≡ t → encode w c₀ m₀ xs ≡ encoded_by c m xs t
+  encoded : {t : Result Plan ℕ} → plan_of w c m (length xs) ≡ t → encode w c₀ m₀ xs ≡ encoded_by c m xs t
   encoded q = ap₂ (λ (i j : ℕ). encode w i j xs) (sym ec) (sym em) ∙ encode-plan w c m xs q
 
-  pub refused-answer : {r : ℕ} → plan_of w c m (length xs) ≡ plan.Refused r → (Refused r ≡ encoded_answer (encode w c₀ m₀ xs) (length s)) × (s ≡ encoded_buffer (encode w c₀ m₀ xs) s)
+  pub refused-answer : {r : ℕ} → plan_of w c m (length xs) ≡ Err r → (Err r ≡ encoded_answer (encode w c₀ m₀ xs) (length s)) × (s ≡ encoded_buffer (encode w c₀ m₀ xs) s)
   refused-answer q = rw (encoded q) (refl, refl)
 
-  module _ {f : Form} {d : Bool} {n v : ℕ} (q : plan_of w c m (length xs) ≡ plan.Good f d n v) {ok : Bool} {p : List ℕ} (o : (ok ≡ allowed f m xs) × (p ≡ payload_of f d xs))
-      {t : Placed} {mid : List ℕ} (et : t ≡ placed ok p (length s) header_size) (el : mid ≡ laid ok p s header_size) where
+  module _ {f : Form} {d : Bool} {n v : ℕ} (q : plan_of w c m (length xs) ≡ plan_with f d n v) {ok : Bool} {p : List ℕ} (o : (ok ≡ allowed f m xs) × (p ≡ payload_of f d xs))
+      {t : Result ℕ ℕ} {mid : List ℕ} (et : t ≡ placed ok p (length s) header_size) (el : mid ≡ laid ok p s header_size) where
     pub good-holds : HoldsPlaced mid t
     good-holds = rw (et, el) (by-allowed (header_bytes c n v) p s (length-header c n v p) ok).2
 
-    pub good-answer : {r : Answer} {new : List ℕ} → r ≡ finished t → new ≡ headed (header_bytes c n v) mid t → (r ≡ encoded_answer (encode w c₀ m₀ xs) (length s)) × (new ≡ encoded_buffer (encode w c₀ m₀ xs) s)
+    pub good-answer : {r : Result ℕ ℕ} {new : List ℕ} → r ≡ finished t → new ≡ headed (header_bytes c n v) mid t → (r ≡ encoded_answer (encode w c₀ m₀ xs) (length s)) × (new ≡ encoded_buffer (encode w c₀ m₀ xs) s)
     good-answer {r} {new} er en =
         let k = by-allowed (header_bytes c n v) p s (length-header c n v p) ok in
         let g : encode w c₀ m₀ xs ≡ cond ok (bytes (header_bytes c n v ++ p)) (refused number_not_allowed) = encoded q ∙ rw (o.0, o.1) in

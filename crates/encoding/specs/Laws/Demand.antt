@@ -1,5 +1,5 @@
 -- Demand 2 holds (`demand-2`): the round trips of `columns` carried through what the calls answer and leave, once over the kinds. Assumes nothing.
-use Rattle.std.specs.Prelude.{◌≡◌, refl, Bool, true, false, cond, ◌||◌, List, [], ◌∷◌, ◌++◌, map, ℕ, suc, ◌≤◌, ◌<◌, ◌^◌, length, get_or, take, drop, ℤ, pos, negsuc, ◌≤ℤ◌, eqb, leb}
+use Rattle.std.specs.Prelude.{◌≡◌, refl, Result, Ok, Err, Bool, true, false, cond, ◌||◌, List, [], ◌∷◌, ◌++◌, map, ℕ, suc, ◌≤◌, ◌<◌, ◌^◌, length, get_or, take, drop, ℤ, pos, negsuc, ◌≤ℤ◌, eqb, leb}
 use Rattle.std.proofs.Common.{sym, ap, ap₂, subst, ◌∙◌, map-id, mod-eq_of_lt, arith, take_at, leb→le, to_z, to_z-of_z, le-leb, leb-true, eqb-true}
 use Rattle.std.proofs.lemmas.Simd.{map-map}
 use Rattle.std.proofs.lemmas.List.{length-map}
@@ -26,13 +26,10 @@ use Rattle.columns.proofs.Laws.Encode.{Encoded, encode-rules}
 use Rattle.columns.proofs.Laws.CanHold.{parameter_of, kind-parameter, codec-kind, encode-exactly, decode-held}
 use Rattle.columns.proofs.Laws.RoundTrip.{codec-at, field_at, decode-encode, encode-decode}
 use Rattle.columns.proofs.Laws.Shortest.{encode-holds, encode-fewest}
-use Rattle.decoding.specs.declared.Fixed.TheVariants as fixed
 use Rattle.decoding.specs.Calls as decoding
 use Rattle.floats.specs.Calls as floats
-use Rattle.refusal.specs.declared.Answer.{Answer}
-use Rattle.refusal.specs.declared.Answer.TheVariants.{Count, Refused}
 use Rattle.refusal.specs.Table.{buffer_too_small}
-use Rattle.refusal.specs.Answer.{answered}
+use Rattle.refusal.specs.Outcome.{answered}
 use Rattle.encoding.specs.Calls.{encoded_answer, encoded_buffer}
 use Rattle.encoding.specs.Demand.{Element, Typed, taken, encoder_says, encoder_leaves, wrote, divisor_of, decoder_says, decoder_leaves, OfKind, codec_in, parameter_in, element_of, Back, Demand2, cells_from}
 
@@ -146,7 +143,7 @@ divisor-taken kind.Chars p m e = refl
 module _ (s : List ℕ) (m : ℕ) (l : List ℤ) where
   -- what is said and left of a decoding, for any elements
   handed : {B : Type 0} (element : Kind → ℕ → ℤ → B) (x : Decoding) (old : List B) (k : Kind) → x ≡ column k m l → length l ≤ length old
-      → (decoded_answer x (length old) ≡ Count (length l)) × (decoded_buffer element x old ≡ map (element k m) l ++ drop (length l) old)
+      → (decoded_answer x (length old) ≡ Ok (length l)) × (decoded_buffer element x old ≡ map (element k m) l ++ drop (length l) old)
   handed element x old k e h = let a = answers-done element x old k m l e h (map (element k m) l ++ drop (length l) old) refl in (sym a.0, sym a.1)
 
   numbers : (k : Kind) (buffer : List ℤ) → decode (Only k) s ≡ column k m l → length l ≤ length buffer
@@ -173,16 +170,16 @@ module _ (s : List ℕ) (m : ℕ) (l : List ℤ) where
   says kind.Chars buffer e h = chars kind.Chars buffer e h
 
 -- an answer that counts n is of n elements, and they fit
-answered-count : (k room n : ℕ) → answered k room ≡ Count n → (k ≡ n) × (n ≤ room)
+answered-count : (k room n : ℕ) → answered k room ≡ Ok n → (k ≡ n) × (n ≤ room)
 answered-count k room n e = by (leb k room) refl e
   where
-    by : (t : Bool) → leb k room ≡ t → cond t (Count k) (Refused buffer_too_small) ≡ Count n → (k ≡ n) × (n ≤ room)
+    by : (t : Bool) → leb k room ≡ t → cond t (Ok k) (Err buffer_too_small) ≡ Ok n → (k ≡ n) × (n ≤ room)
     by true h q = let z : k ≡ n = cc in (z, rw z at (leb-true k room h))
     by false h q = let y : ◌≡◌ {A = ℕ} 0 1 = cc in absurd (omega arith)
 
-with-divisor : (m : ℕ) (x : Answer) (n : ℕ) (d : ℤ) → decoding.with_divisor m x ≡ fixed.Column n d → x ≡ Count n
-with-divisor m (Count k) n d e = let z : k ≡ n = cc in ap Count z
-with-divisor m (Refused r) n d e = let y : ◌≡◌ {A = ℕ} 0 1 = cc in absurd (omega arith)
+with-divisor : (m : ℕ) (x : Result ℕ ℕ) (n : ℕ) (d : ℤ) → decoding.with_divisor m x ≡ Ok (n, d) → x ≡ Ok n
+with-divisor m (Ok k) n d e = let z : ◌≡◌ {A = ℕ × ℤ} (k, to_z w32 m) (n, d) = cc in ap (λ (p : ℕ × ℤ). Ok p.0) z
+with-divisor m (Err r) n d e = let y : ◌≡◌ {A = ℕ} 0 1 = cc in absurd (omega arith)
 
 -- a decoder that wrote n elements had a column of them
 abbrev Gave : (k : Kind) → List ℕ → ℕ → ℕ → Type 0
@@ -193,7 +190,7 @@ module _ (s : List ℕ) (room n d : ℕ) where
   counted : (k : Kind) → decoding.with_divisor 0 (decoded_answer (decode (Only k) s) room) ≡ wrote n d → Gave k s room n
   counted k e = by (decode (Only k) s) refl (with-divisor 0 (decoded_answer (decode (Only k) s) room) n (to_z w32 d) e)
     where
-      by : (x : Decoding) → decode (Only k) s ≡ x → decoded_answer x room ≡ Count n → Gave k s room n
+      by : (x : Decoding) → decode (Only k) s ≡ x → decoded_answer x room ≡ Ok n → Gave k s room n
       by (refused r) q e = let y : ◌≡◌ {A = ℕ} 0 1 = cc in absurd (omega arith)
       by (column j m l) q e = let a = answered-count (length l) room n e in (m, l, q ∙ ap (λ (i : Kind). column i m l) (decode-kind k j s m l q), a.0, a.1)
 
@@ -210,12 +207,12 @@ module _ (s : List ℕ) (room n d : ℕ) where
   kept : OfKind kind.Float32 s → decoding.with_divisor 0 (decoded_answer (floats.exactly (decode Real s)) room) ≡ wrote n d → Gave kind.Float32 s room n
   kept o e = by (decode Real s) refl (with-divisor 0 (decoded_answer (floats.exactly (decode Real s)) room) n (to_z w32 d) e)
     where
-      by : (x : Decoding) → decode Real s ≡ x → decoded_answer (floats.exactly x) room ≡ Count n → Gave kind.Float32 s room n
+      by : (x : Decoding) → decode Real s ≡ x → decoded_answer (floats.exactly x) room ≡ Ok n → Gave kind.Float32 s room n
       by (refused r) q e = let y : ◌≡◌ {A = ℕ} 0 1 = cc in absurd (omega arith)
       by (column j m l) q e =
           let f : j ≡ kind.Float32 = codec-kind (unsigned_at 4 s 0) o (decode-rules Real s j m l q).known in
           let b : decode Real s ≡ column kind.Float32 m l = q ∙ ap (λ (i : Kind). column i m l) f in
-          let a = answered-count (length l) room n (subst (λ (i : Kind). decoded_answer (floats.exactly (column i m l)) room ≡ Count n) f e) in
+          let a = answered-count (length l) room n (subst (λ (i : Kind). decoded_answer (floats.exactly (column i m l)) room ≡ Ok n) f e) in
           (m, l, decode-wanted Real (Only kind.Float32) s kind.Float32 m l refl b, a.0, a.1)
 
   gave : (k : Kind) → OfKind k s → decoder_says k s room ≡ wrote n d → Gave k s room n
@@ -230,7 +227,7 @@ module _ (s : List ℕ) (room n d : ℕ) where
 -- An encoder's answer
 
 -- an encoder that answers n had n bytes to write, and room for them
-answer-bytes : (x : Encoding) (room n : ℕ) → encoded_answer x room ≡ Count n → (b : List ℕ) × (x ≡ bytes b) × (length b ≡ n) × (n ≤ room)
+answer-bytes : (x : Encoding) (room n : ℕ) → encoded_answer x room ≡ Ok n → (b : List ℕ) × (x ≡ bytes b) × (length b ≡ n) × (n ≤ room)
 answer-bytes (encoding.refused r) room n e = let y : ◌≡◌ {A = ℕ} 0 1 = cc in absurd (omega arith)
 answer-bytes (bytes b) room n e = let a = answered-count (length b) room n e in (b, refl, a.0, a.1)
 
@@ -244,7 +241,7 @@ module _ (k : Kind) (c m : ℕ) (ys : List (Element k)) where
   held-written : CanHold k c (taken k m) (cells_from k ys) → (n : ℕ) × ((room : ℕ) → encoder_says k c m ys room ≡ answered n room)
   held-written h = let r = (encode-exactly k c (taken k m) (cells_from k ys)).1 h in (length r.0, λ room. rw r.1)
 
-  written_held : (room n : ℕ) → encoder_says k c m ys room ≡ Count n → CanHold k c (taken k m) (cells_from k ys)
+  written_held : (room n : ℕ) → encoder_says k c m ys room ≡ Ok n → CanHold k c (taken k m) (cells_from k ys)
   written_held room n e =
       let r = answer-bytes (encode (Only k) c (taken k m) (cells_from k ys)) room n e in
       (encode-exactly k c (taken k m) (cells_from k ys)).0 (r.0, r.1)
@@ -272,7 +269,7 @@ module _ (k : Kind) (c m : ℕ) (ys : List (Element k)) where
           buffer-after = w.1 ∙ ap₂ (λ (x : List (Element k)) (i : ℕ). x ++ drop i buffer) (elements-back k ys t) (length-cells k ys);
         }
 
-  written_back : (old : List ℕ) (n : ℕ) → Typed k ys → encoder_says k c m ys (length old) ≡ Count n → (buffer : List (Element k)) → length ys ≤ length buffer
+  written_back : (old : List ℕ) (n : ℕ) → Typed k ys → encoder_says k c m ys (length old) ≡ Ok n → (buffer : List (Element k)) → length ys ≤ length buffer
       → Back k c m ys (take n (encoder_leaves k c m ys old)) buffer
   written_back old n t e buffer h =
       let r = answer-bytes (encode (Only k) c (taken k m) (cells_from k ys)) (length old) n e in

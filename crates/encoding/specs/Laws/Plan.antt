@@ -1,5 +1,5 @@
 -- Laws of an encoder's plan: its refusals in their order, and which forms each kind has. Assumes nothing.
-use Rattle.std.specs.Prelude.{◌≡◌, refl, Bool, true, false, List, ℕ, ◌<◌, ◌≤◌, ℤ}
+use Rattle.std.specs.Prelude.{◌≡◌, refl, Option, Some, None, Err, Bool, true, false, List, ℕ, ◌<◌, ◌≤◌, ℤ}
 use Rattle.std.proofs.Common.{sym, ap₂, subst, ◌∙◌}
 use Rattle.std.proofs.Math.Path.{ap}
 use borrow.Author.Tests.{le-leb, lt-leb}
@@ -15,10 +15,8 @@ use Rattle.columns.specs.declared.Wanted.{Wanted}
 use Rattle.columns.specs.declared.Wanted.TheVariants.{Only}
 use Rattle.columns.specs.declared.Parameter.{Parameter}
 use Rattle.columns.specs.declared.Codec.{Codec}
-use Rattle.columns.specs.declared.Codec.TheVariants.{Known, Unknown}
-use Rattle.columns.specs.Table.{table, codec_of, suits, length_limit, parameter_ok, used}
-use Rattle.columns.specs.declared.Plan.TheVariants.{Good, Refused}
-use Rattle.columns.specs.Encode.{results, whole_results, payload_of, plan_by, plan_of}
+use Rattle.columns.specs.Table.{codec_with, table, codec_of, suits, length_limit, parameter_ok, used}
+use Rattle.columns.specs.Encode.{results, whole_results, payload_of, plan_with, plan_by, plan_of}
 use Rattle.columns.proofs.Laws.Encode.{plan-rules}
 use Rattle.columns.proofs.Laws.Rows.{same_kind}
 use Rattle.columns.proofs.Laws.CanHold.{Rows, row_at}
@@ -26,28 +24,28 @@ use Rattle.encoding.specs.Steps.{NumberKind, NumberForm}
 
 -- The refusals
 
-pub plan-unknown : (w : Wanted) (c m e : ℕ) → codec_of c ≡ Unknown → plan_of w c m e ≡ Refused codec_unknown
+pub plan-unknown : (w : Wanted) (c m e : ℕ) → codec_of c ≡ None → plan_of w c m e ≡ Err codec_unknown
 unfolding plan_of
 plan-unknown w c m e q = ap (plan_by w m e) q
 
-module _ {k : Kind} {f : Form} {d : Bool} {p : Parameter} (w : Wanted) (c m e : ℕ) (q : codec_of c ≡ Known k f d p) where
-  pub plan-unwanted : suits w k ≡ false → plan_of w c m e ≡ Refused codec_unknown
+module _ {k : Kind} {f : Form} {d : Bool} {p : Parameter} (w : Wanted) (c m e : ℕ) (q : codec_of c ≡ codec_with k f d p) where
+  pub plan-unwanted : suits w k ≡ false → plan_of w c m e ≡ Err codec_unknown
   unfolding plan_of
   plan-unwanted a = ap (plan_by w m e) q ∙ rw a
 
-  pub plan-parameter : suits w k ≡ true → parameter_ok p m ≡ false → plan_of w c m e ≡ Refused header_range
+  pub plan-parameter : suits w k ≡ true → parameter_ok p m ≡ false → plan_of w c m e ≡ Err header_range
   unfolding plan_of
   plan-parameter a b = ap (plan_by w m e) q ∙ rw (a, b)
 
-  pub plan-part : suits w k ≡ true → parameter_ok p m ≡ true → whole_results f m e ≡ false → plan_of w c m e ≡ Refused header_range
+  pub plan-part : suits w k ≡ true → parameter_ok p m ≡ true → whole_results f m e ≡ false → plan_of w c m e ≡ Err header_range
   unfolding plan_of
   plan-part a b h = ap (plan_by w m e) q ∙ rw (a, b, h)
 
-  pub plan-long : suits w k ≡ true → parameter_ok p m ≡ true → whole_results f m e ≡ true → length_limit < results f m e → plan_of w c m e ≡ Refused header_range
+  pub plan-long : suits w k ≡ true → parameter_ok p m ≡ true → whole_results f m e ≡ true → length_limit < results f m e → plan_of w c m e ≡ Err header_range
   unfolding plan_of
   plan-long a b h l = ap (plan_by w m e) q ∙ rw (a, b, h, lt-leb (results f m e) length_limit l)
 
-  pub plan-good : suits w k ≡ true → parameter_ok p m ≡ true → whole_results f m e ≡ true → results f m e ≤ length_limit → plan_of w c m e ≡ Good f d (results f m e) (used p m)
+  pub plan-good : suits w k ≡ true → parameter_ok p m ≡ true → whole_results f m e ≡ true → results f m e ≤ length_limit → plan_of w c m e ≡ plan_with f d (results f m e) (used p m)
   unfolding plan_of
   plan-good a b h l = ap (plan_by w m e) q ∙ rw (a, b, h, le-leb (results f m e) length_limit l)
 
@@ -63,14 +61,14 @@ Row kind.Int32 f d = NumberForm f d
 Row kind.Strings f d = (f ≡ Names) × (d ≡ false)
 Row kind.Chars f d = (f ≡ Runs Ascii) × (d ≡ false)
 
-abbrev RowOf : Codec → Type 0
-RowOf Unknown = Unit {0}
-RowOf (Known k f d p) = Row k f d
+abbrev RowOf : Option Codec → Type 0
+RowOf None = Unit {0}
+RowOf (Some r) = Row r.kind r.form r.delta
 
 rows : Rows (λ (i : ℕ). RowOf) table
 rows = (tt, ((refl, refl), (refl, (refl, (refl, ((refl, refl), ((refl, refl), (tt, (tt, (tt, (tt, (refl, (tt, (tt, (tt, (tt, (tt, tt)))))))))))))))))
 
-pub row : {f : Form} {d : Bool} {n v : ℕ} (k : Kind) (c m e : ℕ) → plan_of (Only k) c m e ≡ Good f d n v → Row k f d
+pub row : {f : Form} {d : Bool} {n v : ℕ} (k : Kind) (c m e : ℕ) → plan_of (Only k) c m e ≡ plan_with f d n v → Row k f d
 unfolding codec_of
 row {f} {d} k c m e q =
     let r = plan-rules (Only k) c m e q in

@@ -9,11 +9,9 @@ use Rattle.fields.specs.Numbers.{type_table, table_byte}
 use Rattle.fields.specs.Laws.Numbers.{table-length}
 use Rattle.fields.proofs.cell.Goals as goal
 
-pub returns-then-i-lt-TABLE_SIZE : goal.returns-then-i-lt-TABLE_SIZE
+pub returns-then-i-lt-TABLE_SIZE-clause-is : goal.returns-then-i-lt-TABLE_SIZE-clause-is
 unfolding table_byte
-returns-then-i-lt-TABLE_SIZE c =
-    let i = c.args.i in
-    record { is = c.u8_to_usize.ensures.is ∙ ap (λ (l : List ℕ). get_or l i 0) c.requires; byte = c.u8_to_usize.ensures.bound }
+returns-then-i-lt-TABLE_SIZE-clause-is c = c.from.ensures ∙ ap (λ (l : List ℕ). get_or l c.args.i 0) c.requires
 
 pub returns-else-i-lt-TABLE_SIZE : goal.returns-else-i-lt-TABLE_SIZE
 unfolding table_byte

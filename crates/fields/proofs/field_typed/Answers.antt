@@ -12,4 +12,4 @@ pub returns-then-code-lt-PLAIN_TYPES : goal.returns-then-code-lt-PLAIN_TYPES
 returns-then-code-lt-PLAIN_TYPES c =
     let a = c.args in
     let code = c.cell-code.result in
-    row-says a.leads.now a.file.now (type_of type_depth) field_count first_field a.row c.if-row-lt-FIELD_COUNT.true c.cell-code.ensures.is (value_as (type_of type_depth code) (plain (code + 1)) (plain_type type_depth code (lit< tt) c.if-code-lt-PLAIN_TYPES.true) c.plain_at.ensures)
+    row-says a.file.now (type_of type_depth) field_count first_field a.row c.if-row-lt-FIELD_COUNT.true c.cell-code.ensures.is (value_as (type_of type_depth code) (plain (code + 1)) (plain_type type_depth code (lit< tt) c.if-code-lt-PLAIN_TYPES.true) c.plain_at.ensures)

@@ -4,4 +4,4 @@ use Rattle.fields.specs.Laws.Steps.{float_says}
 use Rattle.fields.proofs.float_end.Goals as goal
 
 pub returns : goal.returns
-returns c = λ h leads. float_says _ _ c.requires leads c.if-file-at.false (omega arith)
+returns c = λ h. float_says _ _ c.requires c.if-file-at.false (omega arith)

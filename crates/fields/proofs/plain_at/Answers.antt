@@ -2,4 +2,4 @@
 use Rattle.fields.proofs.plain_at.Goals as goal
 
 pub returns-then-end-gt0 : goal.returns-then-end-gt0
-returns-then-end-gt0 c = c.quick_end-end.ensures c.if-end-gt0.true c.args.leads.now
+returns-then-end-gt0 c = c.quick_end-end.ensures c.if-end-gt0.true

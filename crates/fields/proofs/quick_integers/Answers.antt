@@ -9,8 +9,8 @@ use Rattle.fields.proofs.quick_integers.Goals as goal
 pub returns-then-all_low : goal.returns-then-all_low
 returns-then-all_low c =
     let a = c.args in
-    let b = c.u8_to_usize-b.result in
-    let low : 0x90 ≤ get_or a.file.now a.at 0 = omega (arith, c.u8_to_usize-b.ensures.is) in
-    let high : get_or a.file.now a.at 0 < 0xa0 = omega (arith, c.u8_to_usize-b.ensures.is) in
-    let count-is : b - 0x90 ≡ get_or a.file.now a.at 0 - 0x90 = ap (λ (z : ℕ). z - 0x90) c.u8_to_usize-b.ensures.is in
-    λ h leads. integers-say leads a.file.now a.at (b - 0x90) c.if-file-at.false low high count-is (c.all_low.ensures.0 c.if-all_low.true)
+    let b = c.from-b.result in
+    let low : 0x90 ≤ get_or a.file.now a.at 0 = omega (arith, c.from-b.ensures) in
+    let high : get_or a.file.now a.at 0 < 0xa0 = omega (arith, c.from-b.ensures) in
+    let count-is : b - 0x90 ≡ get_or a.file.now a.at 0 - 0x90 = ap (λ (z : ℕ). z - 0x90) c.from-b.ensures in
+    λ h. integers-say a.file.now a.at (b - 0x90) c.if-file-at.false low high count-is (c.all_low.ensures.0 c.if-all_low.true)

@@ -1,7 +1,7 @@
 -- The named fields by their names, and the refusals by them: no number exactly when the fields are right, and no number above 24.
 -- Assumes nothing.
 use Rattle.std.specs.Prelude.{◌≡◌, refl, Bool, true, false, cond, ◌&&◌, List, [], ◌∷◌, ◌↔◌, ℕ, zero, suc, ◌+◌, ◌<◌, ◌≤◌, eqb, leb, take, drop}
-use Rattle.std.proofs.Common.{sym, subst, ◌∙◌, arith, add-zero, lit≤, get_or-take, get_or-drop, eqb-true, leb-true, ltb-true, le-leb}
+use Rattle.std.proofs.Common.{length, sym, subst, ◌∙◌, arith, add-zero, lit≤, get_or-take, get_or-drop, eqb-true, leb-true, ltb-true, le-leb}
 use Rattle.std.proofs.Math.Path.{ap}
 use Rattle.std.proofs.Math.Option.{some}
 use Prim.Native.String as Text
@@ -129,6 +129,13 @@ module _ (s : List ℕ) (a m : ℕ) where
   version-bytes le =
       let z : get_or (take m (drop a s)) 0 0 ≡ get_or s a 0 = byte 0 (omega arith) ∙ ap (λ (i : ℕ). get_or s i 0) (add-zero a) in
       rw (z, byte 1 (omega arith), byte 2 (omega arith))
+
+-- fewer than three bytes
+pub text-short : (t : List ℕ) → length t < 3 → is_version_one t ≡ false
+unfolding is_version_one
+text-short t lt =
+    let z : get_or t 2 0 ≡ 0 = get_or-eq_default t 0 (omega arith) in
+    and_none (eqb (get_or t 0 0) 0x31) (eqb (get_or t 1 0) 0x2e) (leb 0x30 (get_or t 2 0)) (leb (get_or t 2 0) 0x39) (rw z)
 
 -- no number exactly when all is right
 

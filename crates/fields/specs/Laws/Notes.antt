@@ -11,7 +11,6 @@ use Rattle.refusal.specs.Table.{accepted, field_missing, field_type, version_not
 use Rattle.text.specs.Ascii.{ascii}
 use Rattle.text.specs.Equal.{equal}
 use Rattle.text.specs.Laws.Equal.{equal-true}
-use Rattle.heads.specs.Table.{lead_table}
 use Rattle.messagepack.specs.Document.{Document, Entries, float, string, empty, entry, size}
 use Rattle.messagepack.specs.Rules.{NoKey}
 use Rattle.values.specs.Parts.{look}
@@ -40,25 +39,25 @@ use Rattle.fields.specs.Laws.Steps.{no_kind, passed, failed, or-marked, KeyRead,
 row_named : (i : ℕ) (x : Document) → row_test i (rows_from (type_of type_depth) field_count first_field) x ≡ row_test i named x
 row_named i x = ap (λ (z : Rows). row_test i z x) named-is
 
-module _ (i : ℕ) {leads s : List ℕ} {at : ℕ} {v : ℕ} (h : ValueSays leads s (row_test i (rows_from (type_of type_depth) field_count first_field)) at v) where
-  pub judge-right : (v ≡ 0 → ⊥) → RowSays leads s i at v true
+module _ (i : ℕ) {s : List ℕ} {at : ℕ} {v : ℕ} (h : ValueSays s (row_test i (rows_from (type_of type_depth) field_count first_field)) at v) where
+  pub judge-right : (v ≡ 0 → ⊥) → RowSays s i at v true
   judge-right is = record {
-    says = λ l x f a.
-        let k = passed (row_test i (rows_from (type_of type_depth) field_count first_field) x) is (h.says l x f a) in
+    says = λ x f a.
+        let k = passed (row_test i (rows_from (type_of type_depth) field_count first_field) x) is (h.says x f a) in
         (k.1, sym k.0 ∙ row_named i x);
   }
 
-  pub judge-wrong : (e : ℕ) → v ≡ 0 → (leads ≡ lead_table → (f : ℕ) → Standing s 1 at f → e ≡ f) → RowSays leads s i at e false
+  pub judge-wrong : (e : ℕ) → v ≡ 0 → ((f : ℕ) → Standing s 1 at f → e ≡ f) → RowSays s i at e false
   judge-wrong e is over = record {
-    says = λ l x f a.
-        (over l f (at-standing a), sym (failed (row_test i (rows_from (type_of type_depth) field_count first_field) x) a is (h.says l x f a)) ∙ row_named i x);
+    says = λ x f a.
+        (over f (at-standing a), sym (failed (row_test i (rows_from (type_of type_depth) field_count first_field) x) a is (h.says x f a)) ∙ row_named i x);
   }
 
 -- whether a field's value has its type, by that type
 
-pub is-typed : {leads s : List ℕ} {i at e : ℕ} {b : Bool} → RowSays leads s i at e b → i < field_count → leads ≡ lead_table → (x : Document) (f : ℕ) → At s at x f → b ≡ typed (field_type_of i) x
+pub is-typed : {s : List ℕ} {i at e : ℕ} {b : Bool} → RowSays s i at e b → i < field_count → (x : Document) (f : ℕ) → At s at x f → b ≡ typed (field_type_of i) x
 unfolding field_type_of
-is-typed {i = i} h lt l x f a = (h.says l x f a).1 ∙ row_type named i x (omega (arith, named_count))
+is-typed {i = i} h lt x f a = (h.says x f a).1 ∙ row_type named i x (omega (arith, named_count))
 
 pub is-untyped : (i : ℕ) → field_count ≤ i → (x : Document) → false ≡ typed (field_type_of i) x
 unfolding field_type_of
@@ -144,9 +143,9 @@ span-entry {s} k x es places ends p i q e is f long long2 pos key value j a b lt
 
 -- what is noted, one entry after another
 
-pub note-none : (leads s places ends : List ℕ) (presence : ℕ) (typed : Bool) (n p : ℕ) → n ≤ 0 → length places ≡ field_count → NoteSays leads s places ends presence typed n p (record { places = places; ends = ends; presence = presence; typed = typed })
+pub note-none : (s places ends : List ℕ) (presence : ℕ) (typed : Bool) (n p : ℕ) → n ≤ 0 → length places ≡ field_count → NoteSays s places ends presence typed n p (record { places = places; ends = ends; presence = presence; typed = typed })
 unfolding size look
-note-none leads s places ends presence typed n p le long = record { says = λ l es e a c. go es (omega (arith, c)) }
+note-none s places ends presence typed n p le long = record { says = λ es e a c. go es (omega (arith, c)) }
   where
     go : (es : Entries) → size es ≡ 0 → NotedFrom s p places ends presence typed es (record { places = places; ends = ends; presence = presence; typed = typed })
     go empty c = record {
@@ -158,13 +157,13 @@ note-none leads s places ends presence typed n p le long = record { says = λ l 
     go (entry k x es) c = absurd (omega (arith, c))
 
 -- the first key, by where it was read to end
-first_key : {leads s : List ℕ} {p e : ℕ} {key : Part} {es others : Entries} {k : List ℕ} {x : Document} → KeyRead leads s p key → leads ≡ lead_table → AtEntries s p es e → es ≡ entry k x others → At s p (string k) (key.at + key.count)
-first_key {s = s} {p = p} {e = e} {k = k} read l a is =
+first_key : {s : List ℕ} {p e : ℕ} {key : Part} {es others : Entries} {k : List ℕ} {x : Document} → KeyRead s p key → AtEntries s p es e → es ≡ entry k x others → At s p (string k) (key.at + key.count)
+first_key {s = s} {p = p} {e = e} {k = k} read a is =
     let o = open-entry (subst (λ (z : Entries). AtEntries s p z e) is a) in
-    subst (At s p (string k)) (read.says l (string k) o.q o.key).ends o.key
+    subst (At s p (string k)) (read.says (string k) o.q o.key).ends o.key
 
-pub note-next : (leads s places ends : List ℕ) (presence : ℕ) (typed : Bool) (n p i q : ℕ) (b : Bool) {key : Part} {after past : List ℕ} {next : ℕ} {right : Bool} {r : Fields} → 0 < n → length places ≡ field_count → length ends ≡ field_count → KeyRead leads s p key → ((f : ℕ → FieldType) → i ≡ find_row (take key.count (drop key.at s)) (rows_from f field_count first_field)) → RowSays leads s i (key.at + key.count) q b → after ≡ set places i (key.at + key.count) → past ≡ set ends i q → next ≡ marked field_count presence i → right ≡ (typed && b) → NoteSays leads s after past next right (n - 1) q r → NoteSays leads s places ends presence typed n p r
-note-next leads s places ends presence typed n p i q b {key} {after} {past} {next} {right} {r} pos long long2 read number here put put2 marks fit rest = record { says = λ l es e a c. go l es e a c }
+pub note-next : (s places ends : List ℕ) (presence : ℕ) (typed : Bool) (n p i q : ℕ) (b : Bool) {key : Part} {after past : List ℕ} {next : ℕ} {right : Bool} {r : Fields} → 0 < n → length places ≡ field_count → length ends ≡ field_count → KeyRead s p key → ((f : ℕ → FieldType) → i ≡ find_row (take key.count (drop key.at s)) (rows_from f field_count first_field)) → RowSays s i (key.at + key.count) q b → after ≡ set places i (key.at + key.count) → past ≡ set ends i q → next ≡ marked field_count presence i → right ≡ (typed && b) → NoteSays s after past next right (n - 1) q r → NoteSays s places ends presence typed n p r
+note-next s places ends presence typed n p i q b {key} {after} {past} {next} {right} {r} pos long long2 read number here put put2 marks fit rest = record { says = λ es e a c. go es e a c }
   where
     noted : (k : List ℕ) (x : Document) (es : Entries) (e : ℕ) → q ≡ e → i ≡ find_row k named → NoKey k es → 0 < key.at + key.count → At s p (string k) (key.at + key.count) → At s (key.at + key.count) x e → b ≡ row_test i named x → NotedFrom s e after past next right es r → NotedFrom s p places ends presence typed (entry k x es) r
     noted k x es e end j f large w v t m = record {
@@ -178,24 +177,24 @@ note-next leads s places ends presence typed n p i q b {key} {after} {past} {nex
           m.fit ∙ ap (λ (z : Bool). z && fitting named es) fit ∙ and_assoc typed b (fitting named es) ∙ ap (λ (z : Bool). typed && z) (sym u);
     }
 
-    go : leads ≡ lead_table → (es : Entries) (e : ℕ) → AtEntries s p es e → size es ≡ n → NotedFrom s p places ends presence typed es r
-    go l es e a c =
-        let o = first_entry read l es e n a c pos in
+    go : (es : Entries) (e : ℕ) → AtEntries s p es e → size es ≡ n → NotedFrom s p places ends presence typed es r
+    go es e a c =
+        let o = first_entry read es e n a c pos in
         let j : i ≡ find_row o.k named = number (type_of type_depth) ∙ ap (find_row (take key.count (drop key.at s))) named-is ∙ ap (λ (z : List ℕ). find_row z named) o.name in
-        let w = here.says l o.x o.end o.value in
-        let m = rest.says l o.others e (subst (λ (z : ℕ). AtEntries s z o.others e) (sym w.0) o.rest) o.counts in
-        subst (λ (z : Entries). NotedFrom s p places ends presence typed z r) (sym o.is) (noted o.k o.x o.others o.end w.0 j o.fresh o.positive (first_key read l a o.is) o.value w.1 (subst (λ (z : ℕ). NotedFrom s z after past next right o.others r) w.0 m))
+        let w = here.says o.x o.end o.value in
+        let m = rest.says o.others e (subst (λ (z : ℕ). AtEntries s z o.others e) (sym w.0) o.rest) o.counts in
+        subst (λ (z : Entries). NotedFrom s p places ends presence typed z r) (sym o.is) (noted o.k o.x o.others o.end w.0 j o.fresh o.positive (first_key read a o.is) o.value w.1 (subst (λ (z : ℕ). NotedFrom s z after past next right o.others r) w.0 m))
 
-module _ {leads s : List ℕ} {n p : ℕ} {r : Fields} (h : NoteSays leads s no_places no_places 0 true n p r) (l : leads ≡ lead_table) (es : Entries) (e : ℕ) (a : AtEntries s p es e) (c : size es ≡ n) where
+module _ {s : List ℕ} {n p : ℕ} {r : Fields} (h : NoteSays s no_places no_places 0 true n p r) (es : Entries) (e : ℕ) (a : AtEntries s p es e) (c : size es ≡ n) where
   -- in the end each field's span is noted
   pub note-spans : Spanned s p es r
-  note-spans = record { spans = λ i lt. subst (λ (z : ℕ). SpanFrom s (get_or field_names i []) p es z z (get_or r.places i 0) (get_or r.ends i 0)) (zeros-at field_count i) ((h.says l es e a c).span i lt) }
+  note-spans = record { spans = λ i lt. subst (λ (z : ℕ). SpanFrom s (get_or field_names i []) p es z z (get_or r.places i 0) (get_or r.ends i 0)) (zeros-at field_count i) ((h.says es e a c).span i lt) }
 
   -- and with it where its value stands
   pub note-done : Noted s es r
   unfolding presence_of
   note-done =
-      let m = h.says l es e a c in
+      let m = h.says es e a c in
       record { places = record { long = m.long; says = λ i lt. rw (field-name i es lt) (as_place (note-spans.spans i lt) refl) }; presence = m.present; typed = m.fit }
 
 -- the number by what is noted

@@ -1,7 +1,8 @@
 -- Strings of bytes that are compared four bytes at a time.
 -- Assumes nothing.
-use Rattle.std.specs.Prelude.{◌≡◌, true, false, List, ◌++◌, ℕ, ◌+◌, ◌≤◌, length, take, drop}
+use Rattle.std.specs.Prelude.{◌≡◌, refl, Bool, true, false, List, ◌++◌, ℕ, ◌+◌, ◌≤◌, eqb, length, take, drop}
 use Rattle.std.proofs.Common.{sym, ap, subst, ◌∙◌, arith, take-add, take-take, take_all}
+use borrow.Author.Tests.{eqb-true, eqb-false}
 use Rattle.numbers.specs.BigEndian.{Bytes, number_of, bytes_of, unsigned_at}
 use Rattle.numbers.specs.Laws.BigEndian.{bytes_of-number_of, part_bytes, unsigned_at-in}
 use Rattle.text.specs.Equal.{equal}
@@ -11,6 +12,9 @@ use Rattle.heads.proofs.Laws.Span.{part_length_lem}
 -- bytes that hold the same number, in as many bytes, are the same
 number_same : (x y : List ℕ) → Bytes x → Bytes y → length x ≡ length y → number_of x ≡ number_of y → x ≡ y
 number_same x y bx by l e = sym (bytes_of-number_of x bx) ∙ ap (λ (n : ℕ). bytes_of n (number_of x)) l ∙ ap (bytes_of (length y)) e ∙ bytes_of-number_of y by
+
+pub words-not : (x y : List ℕ) (i : ℕ) → (unsigned_at 4 x i ≡ unsigned_at 4 y i → ⊥) → equal x y ≡ false
+words-not x y i h = equal-false x y (λ e. h (ap (λ (z : List ℕ). unsigned_at 4 z i) e))
 
 module _ (x y : List ℕ) (bx : Bytes x) (by : Bytes y) (same : length x ≡ length y) where
   word_same : (i : ℕ) → i + 4 ≤ length x → unsigned_at 4 x i ≡ unsigned_at 4 y i → take 4 (drop i x) ≡ take 4 (drop i y)
@@ -27,5 +31,10 @@ module _ (x y : List ℕ) (bx : Bytes x) (by : Bytes y) (same : length x ≡ len
       let is : x ≡ y = sym (take_all (last + 4) x (omega arith)) ∙ words-next last (omega arith) before e ∙ take_all (last + 4) y (omega arith) in
       subst (λ (z : List ℕ). equal x z ≡ true) is (equal-refl x)
 
-pub words-not : (x y : List ℕ) (i : ℕ) → (unsigned_at 4 x i ≡ unsigned_at 4 y i → ⊥) → equal x y ≡ false
-words-not x y i h = equal-false x y (λ e. h (ap (λ (z : List ℕ). unsigned_at 4 z i) e))
+  -- the last word decides
+  pub words-last : (i last : ℕ) → last + 4 ≡ length x → last ≤ i → take i x ≡ take i y → eqb (unsigned_at 4 x last) (unsigned_at 4 y last) ≡ equal x y
+  words-last i last whole le h = go (eqb (unsigned_at 4 x last) (unsigned_at 4 y last)) refl
+    where
+      go : (t : Bool) → eqb (unsigned_at 4 x last) (unsigned_at 4 y last) ≡ t → t ≡ equal x y
+      go true e = sym (words-end i last whole le h (eqb-true (unsigned_at 4 x last) (unsigned_at 4 y last) e))
+      go false e = sym (words-not x y last (eqb-false (unsigned_at 4 x last) (unsigned_at 4 y last) e))

@@ -1,11 +1,8 @@
 -- The columns before are long enough; the one at hand is judged.
-use Rattle.std.proofs.Common.{◌≡◌, ◌-◌, drop}
+use Rattle.std.proofs.Common.{◌≡◌, drop}
 use Rattle.file_columns.specs.Columns.{columns, lengths_in, lengths_fit}
-use Rattle.file_columns.specs.Steps.{WalkedColumns, column_count}
+use Rattle.file_columns.specs.Steps.{WalkedColumns}
 use Rattle.file_columns.proofs.lengths_fit.Given as goal
 
 abbrev pub invariant-loop-i : goal.invariant-loop-i
-invariant-loop-i l = WalkedColumns l.leads l.file l.places (λ es. lengths_fit (lengths_in columns es) l.atoms l.groups l.chains ≡ lengths_fit (lengths_in (drop l.i columns) es) l.atoms l.groups l.chains)
-
-abbrev pub decreases-loop-i : goal.decreases-loop-i
-decreases-loop-i l = column_count - l.i
+invariant-loop-i l = WalkedColumns l.file l.places (λ es. lengths_fit (lengths_in columns es) l.atoms l.groups l.chains ≡ lengths_fit (lengths_in (drop l.i columns) es) l.atoms l.groups l.chains)

@@ -3,6 +3,7 @@
 -- Assumes nothing.
 use Rattle.std.specs.Prelude.{◌≡◌, ℕ, ◌-◌, ◌≤◌, Bool, true, false, cond, ◌&&◌, ◌↔◌, List, [], ◌∷◌, length, drop, ℤ, ◌==◌, nat_le, nat_lt, refl}
 use Rattle.std.proofs.Common.{ap, subst, arith, lit≤}
+use Rattle.std.specs.Prelude.{Option as Answer, Some, None, Result, Ok, Err}
 use Rattle.std.proofs.Math.Option.{Option, some, none as nothing}
 use Prim.Native.String as Text
 use Rattle.refusal.specs.Table.{column_short, length_differs}
@@ -15,9 +16,7 @@ use Rattle.steps.specs.Payload.{held_in}
 use Rattle.columns.specs.declared.Kind.{Kind}
 use Rattle.columns.specs.declared.Wanted.{Wanted}
 use Rattle.columns.specs.declared.Codec.{Codec}
-use Rattle.columns.specs.declared.Codec.TheVariants.{Known, Unknown}
 use Rattle.columns.specs.declared.Header.{Header}
-use Rattle.columns.specs.declared.Header.TheVariants.{Good, Refused}
 use Rattle.columns.specs.Table.{codec_of, suits, length_limit, parameter_ok, size_right, elements}
 use Rattle.columns.specs.Header.{header_size, header_of, judged}
 use Rattle.columns.specs.Decode.{Decoding, refused, column, judged_values, judged_payload, decode}
@@ -34,19 +33,19 @@ abbrev pub OfColumn : ℕ → Type 0
 OfColumn r = (column_short ≤ r) × (r ≤ length_differs)
 
 -- a header's refusal has one of them
-abbrev HeaderSure : Header → Type 0
-HeaderSure (Refused r) = OfColumn r
-HeaderSure (Good n m k f d) = Unit {0}
+abbrev HeaderSure : Result Header ℕ → Type 0
+HeaderSure (Err r) = OfColumn r
+HeaderSure (Ok h) = Unit {0}
 
 -- a decoding's refusal has one of them
 abbrev pub Sure : Decoding → Type 0
 Sure (refused r) = OfColumn r
 Sure (column k m xs) = Unit {0}
 
-judged-sure : (w : Wanted) (c : Codec) (n m b : ℕ) → HeaderSure (judged w c n m b)
-judged-sure w Unknown n m b = (lit≤ tt, lit≤ tt)
-judged-sure w (Known k f d p) n m b =
-    either HeaderSure (suits w k) (either HeaderSure (nat_le n length_limit && parameter_ok p m) (either HeaderSure (size_right f n m b) tt (lit≤ tt, lit≤ tt)) (lit≤ tt, lit≤ tt)) (lit≤ tt, lit≤ tt)
+judged-sure : (w : Wanted) (c : Answer Codec) (n m b : ℕ) → HeaderSure (judged w c n m b)
+judged-sure w None n m b = (lit≤ tt, lit≤ tt)
+judged-sure w (Some c) n m b =
+    either HeaderSure (suits w c.kind) (either HeaderSure (nat_le n length_limit && parameter_ok c.parameter m) (either HeaderSure (size_right c.form n m b) tt (lit≤ tt, lit≤ tt)) (lit≤ tt, lit≤ tt)) (lit≤ tt, lit≤ tt)
 
 header-sure : (w : Wanted) (s : List ℕ) → HeaderSure (header_of w s)
 unfolding header_of
@@ -56,9 +55,9 @@ values-sure : (e m : ℕ) (k : Kind) (d : Bool) (o : Option (List ℤ)) → Sure
 values-sure e m k d nothing = (lit≤ tt, lit≤ tt)
 values-sure e m k d (some l) = either Sure (length l == e) tt (lit≤ tt, lit≤ tt)
 
-payload-sure : (h : Header) (p : List ℕ) → HeaderSure h → Sure (judged_payload h p)
-payload-sure (Refused r) p o = o
-payload-sure (Good n m k f d) p o = values-sure (elements f n m) m k d (held_in f m p)
+payload-sure : (h : Result Header ℕ) (p : List ℕ) → HeaderSure h → Sure (judged_payload h p)
+payload-sure (Err r) p o = o
+payload-sure (Ok h) p o = values-sure (elements h.form h.length h.parameter) h.parameter h.kind h.delta (held_in h.form h.parameter p)
 
 pub decode-sure : (w : Wanted) (s : List ℕ) → Sure (decode w s)
 unfolding decode

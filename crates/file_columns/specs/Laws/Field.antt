@@ -1,6 +1,6 @@
 -- Laws of columns of named fields: what the header's rules say of names, what a check answers, and what a column that decodes keeps.
 -- Assumes nothing.
-use Rattle.std.specs.Prelude.{◌≡◌, ℕ, ◌-◌, ◌*◌, ◌/◌, Bool, true, false, cond, not, List, length, take, drop, ℤ, ◌==◌}
+use Rattle.std.specs.Prelude.{◌≡◌, ℕ, ◌-◌, ◌*◌, ◌/◌, Bool, true, false, cond, not, Ok, Err, List, length, take, drop, ℤ, ◌==◌}
 use Rattle.std.proofs.Math.Path.{refl}
 use Rattle.std.proofs.Common.{sym, ap, ◌∙◌, arith}
 use borrow.Author.Tests.{le-leb, eqb-true, not-false}
@@ -13,16 +13,15 @@ use Rattle.columns.specs.declared.Wanted.{Wanted}
 use Rattle.columns.specs.declared.Wanted.TheVariants.{Only}
 use Rattle.columns.specs.declared.Parameter.{Parameter}
 use Rattle.columns.specs.declared.Parameter.TheVariants.{Unused, Divisor, NameSize}
-use Rattle.columns.specs.declared.Header.TheVariants as header
 use Rattle.columns.specs.Table.{is_strings, suits, is_name_size, used, elements}
-use Rattle.columns.specs.Header.{header_size, header_of}
+use Rattle.columns.specs.Header.{header_with, header_size, header_of}
 use Rattle.columns.specs.Decode.{Decoding, refused, column, judged_payload, decode}
 use Rattle.columns.proofs.Laws.Table.{Passes, header-passes, other_row, strings-row}
 use Rattle.columns.proofs.Laws.Rows.{same_kind}
 use Rattle.columns.proofs.Laws.Decode.{Decoded, decode-rules, decode-refused, decode-good}
 use Rattle.payloads.specs.Laws.Scan.{elements-one}
-use Rattle.file_columns.specs.declared.whole.Checked.TheVariants.{Good, Refused}
-use Rattle.file_columns.specs.Field.{field_name_size, other_names, field_column, length_of, checked_of}
+use Rattle.file_columns.specs.declared.whole.Checked.{Checked}
+use Rattle.file_columns.specs.Field.{field_name_size, other_names, field_column, length_of, checked_with, checked_of}
 
 -- Kinds
 
@@ -60,31 +59,30 @@ module _ (w : Wanted) (s : List ℕ) where
 
   -- by the header, where names have no other size
   module _ (o : other_names w s ≡ false) where
-    pub field-refused : (r : ℕ) → header_of w s ≡ header.Refused r → field_column w s ≡ refused r
+    pub field-refused : (r : ℕ) → header_of w s ≡ Err r → field_column w s ≡ refused r
     field-refused r e = field-same o ∙ decode-refused w s r e
 
-    pub field-good : (n m : ℕ) (k : Kind) (f : Form) (d : Bool) → header_of w s ≡ header.Good n m k f d
-        → field_column w s ≡ judged_payload (header.Good n m k f d) (take (length s - header_size) (drop header_size s))
+    pub field-good : (n m : ℕ) (k : Kind) (f : Form) (d : Bool) → header_of w s ≡ header_with n m k f d
+        → field_column w s ≡ judged_payload (header_with n m k f d) (take (length s - header_size) (drop header_size s))
     field-good n m k f d e = field-same o ∙ decode-good w s n m k f d e
 
-pub checked_refused : (x : Decoding) (r : ℕ) → x ≡ refused r → Refused r ≡ checked_of x
-checked_refused x r e = rw e
+pub checked_refused : (x : Decoding) (r : ℕ) → x ≡ refused r → checked_of x ≡ Err r
+checked_refused x r e = ap checked_of e
 
 -- cells are results, but in strings
 pub length-cells : (k : Kind) (xs : List ℤ) → is_strings k ≡ false → length_of k xs ≡ length xs
 length-cells k xs e = rw e
 
 -- what is answered says what the column is
-pub checked-refusal : (x : Decoding) (r : ℕ) → checked_of x ≡ Refused r → x ≡ refused r
+pub checked-refusal : (x : Decoding) (r : ℕ) → checked_of x ≡ Err r → x ≡ refused r
 checked-refusal (refused q) r e = let z : q ≡ r = cc in ap refused z
 checked-refusal (column k m xs) r e = let y : ◌≡◌ {A = ℕ} 0 1 = cc in absurd (omega arith)
 
-pub checked-column : (x : Decoding) (n m : ℕ) → checked_of x ≡ Good n m → (k : Kind) × (xs : List ℤ) × (x ≡ column k m xs) × (length_of k xs ≡ n)
-checked-column (refused q) n m e = let y : ◌≡◌ {A = ℕ} 0 1 = cc in absurd (omega arith)
-checked-column (column k u xs) n m e =
-    let a : u ≡ m = cc in
-    let b : length_of k xs ≡ n = cc in
-    (k, xs, ap (λ (i : ℕ). column k i xs) a, b)
+pub checked-column : (x : Decoding) (c : Checked) → checked_of x ≡ Ok c → (k : Kind) × (xs : List ℤ) × (x ≡ column k c.parameter xs) × (length_of k xs ≡ c.length)
+checked-column (refused q) c e = let y : ◌≡◌ {A = ℕ} 0 1 = cc in absurd (omega arith)
+checked-column (column k u xs) c e =
+    let z : ◌≡◌ {A = Checked} (record { length = length_of k xs; parameter = u }) c = cc in
+    (k, xs, ap (λ (y : Checked). column k y.parameter xs) z, ap (λ (y : Checked). y.length) z)
 
 -- What a column that decodes keeps
 
@@ -135,8 +133,8 @@ module _ (w : Wanted) (s : List ℕ) (k : Kind) (m : ℕ) (xs : List ℤ) where
       by false h = counted r ∙ elements-one r.form (unsigned_at 4 s 4) m (other_row w s (unsigned_at 4 s 4) m k r.form r.delta (passes r) h)
 
 -- a column that decodes has the length that was read
-pub checked-fine : (w : Wanted) (s : List ℕ) (n m : ℕ) (k : Kind) (f : Form) (d : Bool) (xs : List ℤ) → header_of w s ≡ header.Good n m k f d → field_column w s ≡ column k m xs → Good n m ≡ checked_of (field_column w s)
+pub checked-fine : (w : Wanted) (s : List ℕ) (n m : ℕ) (k : Kind) (f : Form) (d : Bool) (xs : List ℤ) → header_of w s ≡ header_with n m k f d → field_column w s ≡ column k m xs → checked_with n m ≡ checked_of (field_column w s)
 checked-fine w s n m k f d xs h e =
     let p = header-passes w s n m k f d h in
     let q : n ≡ length_of k xs = p.5 ∙ sym (field_column-stated w s k m xs e) in
-    ap (λ (i : ℕ). Good i m) q ∙ sym (ap checked_of e)
+    ap (λ (i : ℕ). checked_with i m) q ∙ sym (ap checked_of e)

@@ -2,6 +2,7 @@
 use Rattle.std.specs.Prelude.{◌≡◌, ℕ, ◌+◌, ◌-◌, ◌*◌, ◌/◌, ◌<◌, ◌≤◌, Bool, true, false, cond, ◌&&◌, List, [], ◌∷◌, ◌++◌, length, drop, replicate, ℤ, pos, FitsSigned, ◌==◌, ◌≢◌, nat_eq, nat_le}
 use Rattle.std.proofs.Math.Path.{refl, sym, ap, ap₂}
 use Rattle.std.proofs.Common.{subst, ◌∙◌, length-append, to_z, of_z, to_z-of_z}
+use Rattle.std.specs.Prelude.{Option as Answer, Some, None}
 use Rattle.std.proofs.Math.Option.{Option, none, some, map}
 use native.Mathlib.Omega.{arith}
 use Rattle.std.proofs.lemmas.List.{length-replicate}
@@ -31,8 +32,7 @@ use Rattle.payloads.specs.Laws.Scan.{held-read, elements-one}
 use Rattle.decoding.specs.Laws.Names.{names-read}
 use Rattle.file_columns.specs.declared.whole.Sums.{Sums}
 use Rattle.file_columns.specs.declared.whole.Tally.{Tally}
-use Rattle.file_columns.specs.declared.whole.Step.TheVariants.{On, Off}
-use Rattle.file_columns.specs.Cells.{cells_pass, total, no_sums, holds, sums_over, sums_of}
+use Rattle.file_columns.specs.Cells.{cells_pass, total, holds, sums_over, sums_of}
 use Rattle.file_columns.specs.Passing.{held_pass, held_sums, to_come, sums_in, Hold, Sound, Adds}
 use Rattle.file_columns.specs.Laws.Cells.{total-append}
 
@@ -54,12 +54,12 @@ pub sums-judged : (n : ℕ) (atoms bonds : List ℕ) (c m : ℕ) (k : Kind) (d :
 sums-judged n atoms bonds c m k d none h = refl
 sums-judged n atoms bonds c m k d (some l) h = by (length l == c)
   where
-    by : (t : Bool) → sums_of n atoms bonds (cond t (column k m (sums_if d l)) (refused length_differs)) ≡ cond t (sums_over n atoms bonds (sums_if d l)) no_sums
+    by : (t : Bool) → sums_of n atoms bonds (cond t (column k m (sums_if d l)) (refused length_differs)) ≡ cond t (sums_over n atoms bonds (sums_if d l)) None
     by true = rw h
     by false = refl
 
 -- tables that are too short have no sums
-pub sums-short : (n : ℕ) (atoms bonds : List ℕ) (x : Decoding) → holds n atoms bonds ≡ false → sums_of n atoms bonds x ≡ no_sums
+pub sums-short : (n : ℕ) (atoms bonds : List ℕ) (x : Decoding) → holds n atoms bonds ≡ false → sums_of n atoms bonds x ≡ None
 sums-short n atoms bonds (refused r) h = refl
 sums-short n atoms bonds (column k m xs) h = rw h
 
@@ -231,20 +231,20 @@ module _ (n : ℕ) (atoms bonds : List ℕ) (t : Tally) (xs : List ℤ) where
   onward-start = (refl, refl, refl, refl)
 
   module _ (u : Tally) (ps qs : List ℤ) (z : ℤ) (w : Onward u (ps ++ qs)) where
-    pub onward-on : (v : Tally) → Adds n atoms bonds u ps z (On v) → Onward v qs
+    pub onward-on : (v : Tally) → Adds n atoms bonds u ps z (Some v) → Onward v qs
     onward-on v a =
         let l = length-append ps qs in
         let i = total-append atoms ps qs in
         let j = total-append bonds ps qs in
         (w.0 ∙ all_pass-on _ ps qs a.0, omega (arith, w.1, a.1), omega (arith, w.2, a.2), omega (arith, w.3, a.3))
 
-    pub onward-off : Adds n atoms bonds u ps z Off → length xs ≤ t.left → all_below n xs ≡ false
+    pub onward-off : Adds n atoms bonds u ps z None → length xs ≤ t.left → all_below n xs ≡ false
     onward-off a h =
         let l = length-append ps qs in
         w.0 ∙ all_pass-off _ ps qs (a (omega (arith, w.1)))
 
   -- where none are to come all are added
-  pub onward-end : (u : Tally) → Onward u [] → Sound u → Adds n atoms bonds t xs u.last (On u)
+  pub onward-end : (u : Tally) → Onward u [] → Sound u → Adds n atoms bonds t xs u.last (Some u)
   unfolding all_pass total
   onward-end u w h = (w.0, omega (arith, w.1), omega (arith, w.2), omega (arith, w.3), h, refl)
 
@@ -253,14 +253,14 @@ module _ (n : ℕ) (atoms bonds : List ℕ) (t : Tally) (xs : List ℤ) where
     next : Onward u ((y ∷ []) ++ results_from true y (replicate (k - 1) v))
     next = rw e (subst (Onward u) (results-first true u.last v k h) w)
 
-    pub sums_on : (u' : Tally) → Adds n atoms bonds u (replicate 1 y) y (On u') → Onward u' (results_from true u'.last (replicate (k - 1) v))
+    pub sums_on : (u' : Tally) → Adds n atoms bonds u (replicate 1 y) y (Some u') → Onward u' (results_from true u'.last (replicate (k - 1) v))
     sums_on u' a = rw a.5 (onward-on u (y ∷ []) (results_from true y (replicate (k - 1) v)) y next u' a)
 
-    pub sums-off : Adds n atoms bonds u (replicate 1 y) y Off → length xs ≤ t.left → all_below n xs ≡ false
+    pub sums-off : Adds n atoms bonds u (replicate 1 y) y None → length xs ≤ t.left → all_below n xs ≡ false
     sums-off a = onward-off u (y ∷ []) (results_from true y (replicate (k - 1) v)) y next a
 
   -- none are left
-  pub sums-end : (u : Tally) (v : ℤ) (k : ℕ) → Onward u (results_from true u.last (replicate k v)) → k ≡ 0 → Sound u → (z : ℤ) → z ≡ last_from true u.last (replicate k v) → Adds n atoms bonds t xs z (On u)
+  pub sums-end : (u : Tally) (v : ℤ) (k : ℕ) → Onward u (results_from true u.last (replicate k v)) → k ≡ 0 → Sound u → (z : ℤ) → z ≡ last_from true u.last (replicate k v) → Adds n atoms bonds t xs z (Some u)
   unfolding results_from last_from
   sums-end u v k w e h z q = let g = onward-end u (rw e at w) h in (g.0, g.1, g.2, g.3, g.4, sym (rw e at q))
 
@@ -268,29 +268,29 @@ module _ (n : ℕ) (atoms bonds : List ℕ) (t : Tally) (xs : List ℤ) where
 
 module _ (n : ℕ) (atoms bonds : List ℕ) where
   -- the answer by whether the cells are as many as are to come, whether they are indices, and their sums
-  abbrev answer : Bool → Bool → ℕ → ℕ → Sums
-  answer t u a b = cond (t && u) (record { inside = true; atoms = a; bonds = b }) no_sums
+  abbrev answer : Bool → Bool → ℕ → ℕ → Answer Sums
+  answer t u a b = cond (t && u) (Some (record { atoms = a; bonds = b })) None
 
   -- the answer of a tally with the cells ys to come
-  abbrev pub sums_after : Tally → List ℤ → Sums
+  abbrev pub sums_after : Tally → List ℤ → Answer Sums
   sums_after t ys = answer (length ys == t.left) (all_below n ys) (t.atoms + total atoms ys) (t.bonds + total bonds ys)
 
   -- the answer of a tally with the results of values to come
-  abbrev pub rest_sums : Bool → Tally → Option (List ℤ) → Sums
-  rest_sums d t none = no_sums
+  abbrev pub rest_sums : Bool → Tally → Option (List ℤ) → Answer Sums
+  rest_sums d t none = None
   rest_sums d t (some r) = sums_after t (results_from d t.last r)
 
   pub sums-all : (c : ℕ) (d : Bool) (o : Option (List ℤ)) → held_sums n atoms bonds c d o ≡ rest_sums d (to_come c) o
   sums-all c d none = refl
   sums-all c d (some l) =
-      ap (λ (k : ℕ). cond (k == c) (sums_over n atoms bonds (results_from d (pos 0) l)) no_sums) (sym (length-results d (pos 0) l))
+      ap (λ (k : ℕ). cond (k == c) (sums_over n atoms bonds (results_from d (pos 0) l)) None) (sym (length-results d (pos 0) l))
       ∙ by (results_from d (pos 0) l)
     where
-      joined : (t u : Bool) (a b : ℕ) → cond t (cond u (record { inside = true; atoms = a; bonds = b }) no_sums) no_sums ≡ answer t u a b
+      joined : (t u : Bool) (a b : ℕ) → cond t (cond u (Some (record { atoms = a; bonds = b })) None) None ≡ answer t u a b
       joined true u a b = refl
       joined false u a b = refl
 
-      by : (ys : List ℤ) → cond (length ys == c) (sums_over n atoms bonds ys) no_sums ≡ sums_after (to_come c) ys
+      by : (ys : List ℤ) → cond (length ys == c) (sums_over n atoms bonds ys) None ≡ sums_after (to_come c) ys
       by ys =
           let a : total atoms ys ≡ 0 + total atoms ys = omega arith in
           let b : total bonds ys ≡ 0 + total bonds ys = omega arith in
@@ -298,7 +298,7 @@ module _ (n : ℕ) (atoms bonds : List ℕ) where
 
   module _ (t : Tally) (ps qs : List ℤ) (z : ℤ) where
     -- some cells that are added
-    pub after_on : (u : Tally) → Adds n atoms bonds t ps z (On u) → sums_after t (ps ++ qs) ≡ sums_after u qs
+    pub after_on : (u : Tally) → Adds n atoms bonds t ps z (Some u) → sums_after t (ps ++ qs) ≡ sums_after u qs
     after_on u a =
         let l = length-append ps qs in
         let i = total-append atoms ps qs in
@@ -311,10 +311,10 @@ module _ (n : ℕ) (atoms bonds : List ℕ) where
         ap₂ (λ (v w : Bool). answer v w (t.atoms + total atoms (ps ++ qs)) (t.bonds + total bonds (ps ++ qs))) c (all_pass-on _ ps qs a.0) ∙ ap₂ (answer (length qs == u.left) (all_below n qs)) x y
 
     -- some that are not
-    pub after-off : Adds n atoms bonds t ps z Off → sums_after t (ps ++ qs) ≡ no_sums
+    pub after-off : Adds n atoms bonds t ps z None → sums_after t (ps ++ qs) ≡ None
     after-off a = by (length (ps ++ qs) == t.left) refl
       where
-        by : (b : Bool) → (length (ps ++ qs) == t.left) ≡ b → sums_after t (ps ++ qs) ≡ no_sums
+        by : (b : Bool) → (length (ps ++ qs) == t.left) ≡ b → sums_after t (ps ++ qs) ≡ None
         by false e = rw e
         by true e =
             let l = length-append ps qs in
@@ -330,13 +330,13 @@ module _ (n : ℕ) (atoms bonds : List ℕ) where
       let b : t.bonds + 0 ≡ t.bonds = omega arith in
       ap₂ (answer (0 == t.left) true) a b ∙ by (t.left == 0) refl
     where
-      by : (b : Bool) → (t.left == 0) ≡ b → answer (0 == t.left) true t.atoms t.bonds ≡ cond b (record { inside = true; atoms = t.atoms; bonds = t.bonds }) no_sums
+      by : (b : Bool) → (t.left == 0) ≡ b → answer (0 == t.left) true t.atoms t.bonds ≡ cond b (Some (record { atoms = t.atoms; bonds = t.bonds })) None
       by true q = let z = eqb-true t.left 0 q in rw (eq-eqb 0 t.left (sym z))
       by false q = let z = eqb-false t.left 0 q in rw (ne_eqb 0 t.left (λ y. z (sym y)))
 
   -- the next run after a tally's last
   module _ (d : Bool) (t : Tally) (v : ℤ) (k : ℕ) (left left' : Option (List ℤ)) (e : left ≡ map (λ (l : List ℤ). replicate k v ++ l) left') where
-    pub run_on : (u : Tally) → Adds n atoms bonds t (results_from d t.last (replicate k v)) (last_from d t.last (replicate k v)) (On u) → rest_sums d t left ≡ rest_sums d u left'
+    pub run_on : (u : Tally) → Adds n atoms bonds t (results_from d t.last (replicate k v)) (last_from d t.last (replicate k v)) (Some u) → rest_sums d t left ≡ rest_sums d u left'
     run_on u a = ap (rest_sums d t) e ∙ by left'
       where
         by : (o : Option (List ℤ)) → rest_sums d t (map (λ (l : List ℤ). replicate k v ++ l) o) ≡ rest_sums d u o
@@ -346,10 +346,10 @@ module _ (n : ℕ) (atoms bonds : List ℕ) where
             ∙ after_on t (results_from d t.last (replicate k v)) (results_from d (last_from d t.last (replicate k v)) r) (last_from d t.last (replicate k v)) u a
             ∙ ap (λ (z : ℤ). sums_after u (results_from d z r)) (sym a.5)
 
-    pub run-off : Adds n atoms bonds t (results_from d t.last (replicate k v)) (last_from d t.last (replicate k v)) Off → rest_sums d t left ≡ no_sums
+    pub run-off : Adds n atoms bonds t (results_from d t.last (replicate k v)) (last_from d t.last (replicate k v)) None → rest_sums d t left ≡ None
     run-off a = ap (rest_sums d t) e ∙ by left'
       where
-        by : (o : Option (List ℤ)) → rest_sums d t (map (λ (l : List ℤ). replicate k v ++ l) o) ≡ no_sums
+        by : (o : Option (List ℤ)) → rest_sums d t (map (λ (l : List ℤ). replicate k v ++ l) o) ≡ None
         by none = refl
         by (some r) =
             ap (sums_after t) (results-append d t.last (replicate k v) r)
@@ -365,11 +365,11 @@ module _ (n : ℕ) (atoms bonds : List ℕ) where
   numbers-all c z s = sums-all c false (some (numbers_in z s)) ∙ ap (sums_after (to_come c)) (results-plain (pos 0) (numbers_in z s))
 
   module _ (z : Size) (s : List ℕ) (at : ℕ) (t : Tally) where
-    pub numbers_on : at + size_of z ≤ length s → (u : Tally) → Adds n atoms bonds t (replicate 1 (signed_at (width_of z) s at)) (signed_at (width_of z) s at) (On u)
+    pub numbers_on : at + size_of z ≤ length s → (u : Tally) → Adds n atoms bonds t (replicate 1 (signed_at (width_of z) s at)) (signed_at (width_of z) s at) (Some u)
         → sums_after t (numbers_in z (drop at s)) ≡ sums_after u (numbers_in z (drop (at + size_of z) s))
     numbers_on h u a = ap (sums_after t) (numbers-step z s at h) ∙ after_on t (signed_at (width_of z) s at ∷ []) (numbers_in z (drop (at + size_of z) s)) (signed_at (width_of z) s at) u a
 
-    pub numbers-off : at + size_of z ≤ length s → Adds n atoms bonds t (replicate 1 (signed_at (width_of z) s at)) (signed_at (width_of z) s at) Off → sums_after t (numbers_in z (drop at s)) ≡ no_sums
+    pub numbers-off : at + size_of z ≤ length s → Adds n atoms bonds t (replicate 1 (signed_at (width_of z) s at)) (signed_at (width_of z) s at) None → sums_after t (numbers_in z (drop at s)) ≡ None
     numbers-off h a = ap (sums_after t) (numbers-step z s at h) ∙ after-off t (signed_at (width_of z) s at ∷ []) (numbers_in z (drop (at + size_of z) s)) (signed_at (width_of z) s at) a
 
     pub numbers-none : length s - at < size_of z → sums_after t (numbers_in z (drop at s)) ≡ sums_in t

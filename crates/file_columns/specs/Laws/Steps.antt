@@ -3,6 +3,7 @@
 use Rattle.std.specs.Prelude.{◌≡◌, ℕ, zero, suc, ◌+◌, ◌-◌, ◌<◌, ◌≤◌, Bool, true, ◌&&◌, List, [], ◌∷◌, map, length, get_or, take, drop, ℤ, nat_lt, slice_index, slice_index_or, refl}
 use Rattle.std.proofs.Common.{sym, subst, ◌∙◌, arith, add-one, ltb-true, drop-cons}
 use Rattle.std.proofs.Math.Path.{ap}
+use Rattle.std.specs.Prelude.{Option as Answer, Some, Ok, Err}
 use Rattle.std.proofs.Math.Option.{Option, some}
 use Rattle.refusal.specs.Table.{accepted}
 use Rattle.refusal.specs.First.{or_else}
@@ -15,7 +16,6 @@ use Rattle.values.specs.Places.{At, TextAt, PlaceSays}
 use Rattle.values.specs.Integers.{list_in}
 use Rattle.values.specs.Laws.Places.{Stands, place-some}
 use Rattle.values.specs.declared.Part.{Part}
-use Rattle.values.specs.declared.lists.Length.{Length}
 use Rattle.fields.specs.Table.{named, field_count}
 use Rattle.fields.specs.Fields.{field_at, find_row, field, row_value}
 use Rattle.columns.specs.declared.Kind.{Kind}
@@ -23,7 +23,7 @@ use Rattle.columns.specs.declared.Wanted.{Wanted}
 use Rattle.columns.specs.declared.Wanted.TheVariants.{Real}
 use Rattle.columns.specs.Decode.{refused, column, decode}
 use Rattle.file_columns.specs.Field.{field_column, checked_of}
-use Rattle.file_columns.specs.declared.whole.Checked.TheVariants.{Good, Refused}
+use Rattle.file_columns.specs.declared.whole.Checked.{Checked}
 use Rattle.file_columns.specs.Laws.Field.{checked-refusal, checked-column, field_column-stated, field_column-decode}
 use Rattle.file_columns.specs.Columns.{Column, Level, atom, bond, columns, column_of, decoded, decoding_number, ColumnRight, AllRight, column_number, first_number, cells_of, cells_in, length_in, column_length, lengths_in, fits_level, lengths_fit}
 use Rattle.file_columns.specs.Steps.{column_count, field_numbers, wanted_numbers, level_numbers, wanted_from, level_from, column_at}
@@ -110,7 +110,7 @@ module _ (i : ℕ) (es : Entries) where
 
 -- the lengths
 module _ (i a g c : ℕ) (es : Entries) where
-  pub length-next : i < column_count → {v : ℕ} {l : Length} {b : Bool} → v ≡ slice_index level_numbers i → l ≡ column_length (wanted_from (slice_index wanted_numbers i)) (value_at i es) → fits_level (level_from v) a g c l ≡ b → lengths_fit (lengths_in (drop i columns) es) a g c ≡ b && lengths_fit (lengths_in (drop (i + 1) columns) es) a g c
+  pub length-next : i < column_count → {v : ℕ} {l : Answer ℕ} {b : Bool} → v ≡ slice_index level_numbers i → l ≡ column_length (wanted_from (slice_index wanted_numbers i)) (value_at i es) → fits_level (level_from v) a g c l ≡ b → lengths_fit (lengths_in (drop i columns) es) a g c ≡ b && lengths_fit (lengths_in (drop (i + 1) columns) es) a g c
   unfolding lengths_fit lengths_in
   length-next lt p q r = rw (← r, p, q, kind-is i lt, level-is i lt, field_is i lt es) (ap (λ (l : List Column). lengths_fit (lengths_in l es) a g c) (column-next i lt))
 
@@ -139,15 +139,15 @@ module _ {s : List ℕ} {at : ℕ} {o : Option Document} (p : PlaceSays s at o) 
   bytes : take (part.at + part.count - part.at) (drop part.at s) ≡ text_of stands.x
   bytes = part-take s part.at part.count ∙ (says stands.x stands.end stands.at).is
 
-  pub read-refused : (w : Wanted) (r : ℕ) → checked_of (field_column w (take (part.at + part.count - part.at) (drop part.at s))) ≡ Refused r → r ≡ column_number w o
+  pub read-refused : (w : Wanted) (r : ℕ) → checked_of (field_column w (take (part.at + part.count - part.at) (drop part.at s))) ≡ Err r → r ≡ column_number w o
   read-refused w r e =
       let q : field_column w (text_of stands.x) ≡ refused r = sym (ap (field_column w) bytes) ∙ checked-refusal _ r e in
       sym (ap (column_number w) stands.is ∙ ap decoding_number q)
 
-  pub read-good : (w : Wanted) (n m : ℕ) → checked_of (field_column w (take (part.at + part.count - part.at) (drop part.at s))) ≡ Good n m → 0 ≡ column_number w o
-  read-good w n m e =
-      let c = checked-column _ n m e in
-      let q : field_column w (text_of stands.x) ≡ column c.0 m c.1 = sym (ap (field_column w) bytes) ∙ c.2 in
+  pub read-good : (w : Wanted) (d : Checked) → checked_of (field_column w (take (part.at + part.count - part.at) (drop part.at s))) ≡ Ok d → 0 ≡ column_number w o
+  read-good w d e =
+      let c = checked-column _ d e in
+      let q : field_column w (text_of stands.x) ≡ column c.0 d.parameter c.1 = sym (ap (field_column w) bytes) ∙ c.2 in
       sym (ap (column_number w) stands.is ∙ ap decoding_number q)
 
   -- where it decodes
@@ -155,11 +155,11 @@ module _ {s : List ℕ} {at : ℕ} {o : Option Document} (p : PlaceSays s at o) 
     here : ColumnRight w (some stands.x)
     here = subst (ColumnRight w) stands.is right
 
-    pub read_length : record { there = true; count = unsigned_at 4 (take (part.at + part.count - part.at) (drop part.at s)) 4 } ≡ column_length w o
+    pub read_length : Some (unsigned_at 4 (take (part.at + part.count - part.at) (drop part.at s)) 4) ≡ column_length w o
     read_length =
         let c : field_column w (text_of stands.x) ≡ column here.k here.m here.cells = here.is in
         let l : length_in (decoded w stands.x) ≡ unsigned_at 4 (text_of stands.x) 4 = ap length_in c ∙ field_column-stated w (text_of stands.x) here.k here.m here.cells c in
-        ap (λ (n : ℕ). record { there = true; count = n }) (ap (λ (t : List ℕ). unsigned_at 4 t 4) bytes ∙ sym l) ∙ sym (ap (column_length w) stands.is)
+        ap Some (ap (λ (t : List ℕ). unsigned_at 4 t 4) bytes ∙ sym l) ∙ sym (ap (column_length w) stands.is)
 
     -- its cells
     pub read-cells : (P : List ℤ → Type 0) → ((k : Kind) (m : ℕ) (xs : List ℤ) → decode w (take (part.at + part.count - part.at) (drop part.at s)) ≡ column k m xs → P xs) → P (list_in (cells_in w o))

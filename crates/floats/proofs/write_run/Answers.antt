@@ -1,14 +1,26 @@
--- Four floats that are the run and more (`covered-four`), or the run alone.
-use Prim.Native.Nat.{◌≤◌}
-use Rattle.payloads.specs.Laws.Runs.{short-run, covered-four}
-use Rattle.floats.proofs.write_run.Lts as lts
-use Rattle.floats.proofs.write_run.Reads as reads
-use Rattle.floats.proofs.write_run.Tie as tie
+-- The run, or four floats that are the run and more (`part-filled`).
+use mathlib.Core.Path.{refl}
+use Prim.Native.Nat.{◌+◌}
+use native.Mathlib.Omega.{arith}
+use Rattle.payloads.specs.Laws.Runs.{short-run}
+use Rattle.floats.specs.Laws.Filled.{part-filled}
 use Rattle.floats.proofs.write_run.Goals as goal
 
--- a run of at most four where four are left
-short : (c : lts.Then2 tie.the-claims reads.Pre reads.Post) → (c.args.count ≤ 4) × (4 ≤ c.args.left)
-short c = let a = c.args in short-run a.count a.left c.is_short.result c.is_short.ensures c.if-is_short.true
+pub returns-then-count-gt4 : goal.returns-then-count-gt4
+returns-then-count-gt4 c =
+    let a = c.args in
+    let r = c.requires in
+    (a.count, omega arith, r.0, part-filled a.bits a.buffer.now c.fill.new.self a.from (a.from + a.count) a.count refl (omega arith) (c.fill.ensures.after (λ y e. e)))
 
 pub returns-then-is_short : goal.returns-then-is_short
-returns-then-is_short c = let a = c in covered-four a.args.bits 0 a.args.buffer.now a.args.from a.args.count a.args.left (short c).0 (short c).1 a.requires.1
+returns-then-is_short c =
+    let a = c.args in
+    let r = c.requires in
+    let s = short-run a.count a.left c.is_short.result c.is_short.ensures c.if-is_short.true in
+    (4, s.0, s.1, part-filled a.bits a.buffer.now c.fill-then-is_short.new.self a.from (a.from + 4) 4 refl (omega (arith, s.1)) (c.fill-then-is_short.ensures.after (λ y e. e)))
+
+pub returns-else-is_short : goal.returns-else-is_short
+returns-else-is_short c =
+    let a = c.args in
+    let r = c.requires in
+    (a.count, omega arith, r.0, part-filled a.bits a.buffer.now c.fill-else-is_short.new.self a.from (a.from + a.count) a.count refl (omega arith) (c.fill-else-is_short.ensures.after (λ y e. e)))

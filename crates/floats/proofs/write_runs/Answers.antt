@@ -1,6 +1,6 @@
 -- The runs before the place stand at the buffer's start, and beyond the results nothing has changed (`begun-run`); the value of a run
 -- is exact since all results are (`next-exact`).
-use mathlib.Core.Path.{◌≡◌, refl, ap, ◌∙◌}
+use mathlib.Core.Path.{◌≡◌, refl, sym, ap, ◌∙◌}
 use mathlib.Core.Bool.{false}
 use mathlib.Core.Option.{map}
 use mathlib.Core.List.{List, ◌++◌}
@@ -11,7 +11,7 @@ use lib.ListN.{length, drop, replicate}
 use lib.IntN.{ℤ, pos}
 use mir.Syntax.{w32}
 use mir.Val.{to_z, of_z}
-use mir.Facts.{to_z-of_z}
+use mir.Facts.{to_z-of_z, of_z-to_z}
 use Rattle.numbers.specs.BigEndian.{signed_at}
 use Rattle.steps.specs.declared.Range.{Range}
 use Rattle.steps.specs.declared.Form.TheVariants.{Runs}
@@ -44,21 +44,23 @@ value : (c : lts.After-read_i32 tie.the-claims reads.Pre reads.Post goal.the-inv
 value c = to_z-of_z {w = w32} (record { sfits = c.read_i32.type_inv }) ∙ c.read_i32.ensures ∙ part-number c.args.payload.now c.loop-at.at 0 (omega arith) ∙ ap (signed_at w32 c.args.payload.now) (add-zero c.loop-at.at)
 
 -- its count
-count : (c : lts.After-to_u32 tie.the-claims reads.Pre reads.Post goal.the-invariant-loop-at goal.the-decreases-loop-at) → c.to_u32-count.result ≡ of_z w32 (signed_at w32 c.args.payload.now (c.loop-at.at + 4))
-count c = c.to_u32-count.ensures ∙ ap (of_z w32) (to_z-of_z {w = w32} (record { sfits = c.read_i32-in-loop-at.type_inv }) ∙ c.read_i32-in-loop-at.ensures ∙ part-number c.args.payload.now c.loop-at.at 4 (omega arith))
+count : (c : lts.After-read_u32 tie.the-claims reads.Pre reads.Post goal.the-invariant-loop-at goal.the-decreases-loop-at) → c.read_u32-count.result ≡ of_z w32 (signed_at w32 c.args.payload.now (c.loop-at.at + 4))
+unfolding signed_at
+count c =
+    sym (of_z-to_z {w = w32} (record { fits = c.read_u32-count.type_inv })) ∙ ap (of_z w32) (ap (to_z w32) c.read_u32-count.ensures ∙ part-number c.args.payload.now c.loop-at.at 4 (omega arith))
 
-here : (c : lts.After-to_u32 tie.the-claims reads.Pre reads.Post goal.the-invariant-loop-at goal.the-decreases-loop-at) (r : Range) → HasResults (Runs r) c.args.payload.now c.args.n
+here : (c : lts.After-read_u32 tie.the-claims reads.Pre reads.Post goal.the-invariant-loop-at goal.the-decreases-loop-at) (r : Range) → HasResults (Runs r) c.args.payload.now c.args.n
     → read_in (Runs r) (drop c.loop-at.at c.args.payload.now)
-    ≡ map (λ (l : List ℤ). replicate c.to_u32-count.result (signed_at w32 c.args.payload.now c.loop-at.at) ++ l) (read_in (Runs r) (drop (c.loop-at.at + 8) c.args.payload.now))
-here c r held = rw (count c) (next c.before.before.before r held).1
+    ≡ map (λ (l : List ℤ). replicate c.read_u32-count.result (signed_at w32 c.args.payload.now c.loop-at.at) ++ l) (read_in (Runs r) (drop (c.loop-at.at + 8) c.args.payload.now))
+here c r held = rw (count c) (next c.before.before r held).1
 
 -- there is room for it
-has_room : (c : lts.After-to_u32 tie.the-claims reads.Pre reads.Post goal.the-invariant-loop-at goal.the-decreases-loop-at) → (c.loop-at.o + c.to_u32-count.result ≤ c.args.n) × (length c.loop-at.buffer ≡ length c.args.buffer.now)
+has_room : (c : lts.After-read_u32 tie.the-claims reads.Pre reads.Post goal.the-invariant-loop-at goal.the-decreases-loop-at) → (c.loop-at.o + c.read_u32-count.result ≤ c.args.n) × (length c.loop-at.buffer ≡ length c.args.buffer.now)
 has_room c =
     let a = c in
     let p = c.loop-at in
     let w = p.invariant.1 a.args.range a.requires.0 a.requires.1 in
-    (begun-room (bits_by a.args.divisor) (Runs a.args.range) a.args.payload.now a.args.buffer.now a.args.n a.requires.0 a.requires.1 p.at p.o p.buffer w (signed_at w32 a.args.payload.now p.at) c.to_u32-count.result (p.at + 8) (here c a.args.range a.requires.0), w.3)
+    (begun-room (bits_by a.args.divisor) (Runs a.args.range) a.args.payload.now a.args.buffer.now a.args.n a.requires.0 a.requires.1 p.at p.o p.buffer w (signed_at w32 a.args.payload.now p.at) c.read_u32-count.result (p.at + 8) (here c a.args.range a.requires.0), w.3)
 
 pub quotient_bits-bits-requires : goal.quotient_bits-bits-requires
 quotient_bits-bits-requires c =
@@ -80,9 +82,9 @@ pub loop-at-preserved : goal.loop-at-preserved
 loop-at-preserved c =
     let a = c in
     let p = c.loop-at in
-    let v = c.quotient_bits-bits.ensures ∙ ap (bits_by a.args.divisor) (value c.before.before.before.before.before.before.before.before) in (
+    let v = c.quotient_bits-bits.ensures ∙ ap (bits_by a.args.divisor) (value c.before.before.before.before.before.before.before) in (
       omega arith,
-      (λ r held room. begun-run (bits_by a.args.divisor) (Runs r) a.args.payload.now a.args.buffer.now a.args.n held room p.at p.o p.buffer (p.invariant.1 r held room) (signed_at w32 a.args.payload.now p.at) c.to_u32-count.result (p.at + 8) (here c.before.before.before.before.before r held) c.write_run.new.buffer (rw v at c.write_run.ensures)),
+      (λ r held room. begun-run (bits_by a.args.divisor) (Runs r) a.args.payload.now a.args.buffer.now a.args.n held room p.at p.o p.buffer (p.invariant.1 r held room) (signed_at w32 a.args.payload.now p.at) c.read_u32-count.result (p.at + 8) (here c.before.before.before.before.before r held) c.write_run.new.buffer (rw v at c.write_run.ensures)),
     )
 
 pub returns : goal.returns

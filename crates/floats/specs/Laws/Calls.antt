@@ -5,7 +5,7 @@ use Rattle.refusal.specs.Table.{not_exact}
 use Rattle.steps.specs.declared.Form.{Form}
 use Rattle.steps.specs.Delta.{sums_if}
 use Rattle.columns.specs.declared.Kind.{Kind}
-use Rattle.columns.specs.declared.Header.TheVariants.{Good}
+use Rattle.columns.specs.Header.{header_with}
 use Rattle.columns.specs.Table.{divides}
 use Rattle.columns.specs.Decode.{refused, column, judged_payload}
 use Rattle.payloads.specs.Exact.{exact, all_exact}
@@ -23,8 +23,8 @@ module _ (n m : ℕ) (k : Kind) (f : Form) (d : Bool) (s : List ℕ) (h : Holds 
   all_results a l q = let z : h.0 ≡ l = cc in ap (λ (t : List ℤ). all_exact (sums_if d t)) (sym z) ∙ a
 
   -- 27
-  pub exactly-refused : divides k ≡ true → (all_exact (sums_if d h.0) && exact (pos m)) ≡ false → exactly (judged_payload (Good n m k f d) s) ≡ refused not_exact
+  pub exactly-refused : divides k ≡ true → (all_exact (sums_if d h.0) && exact (pos m)) ≡ false → exactly (judged_payload (header_with n m k f d) s) ≡ refused not_exact
   exactly-refused a b = rw (h.3, a, b)
 
-  pub exactly-column : (divides k && not (all_exact (sums_if d h.0) && exact (pos m))) ≡ false → exactly (judged_payload (Good n m k f d) s) ≡ column k m (sums_if d h.0)
+  pub exactly-column : (divides k && not (all_exact (sums_if d h.0) && exact (pos m))) ≡ false → exactly (judged_payload (header_with n m k f d) s) ≡ column k m (sums_if d h.0)
   exactly-column e = rw (h.3, e)

@@ -1,5 +1,5 @@
 -- Laws of the table's rows: what the codecs of real columns have in common. Assumes nothing.
-use Rattle.std.specs.Prelude.{◌≡◌, refl, Bool, true, false, not, ◌&&◌, ℕ, ◌≤◌, leb}
+use Rattle.std.specs.Prelude.{Option, Some, None, ◌≡◌, refl, Bool, true, false, not, ◌&&◌, ℕ, ◌≤◌, leb}
 use Rattle.std.proofs.Common.{sym, ap, ◌∙◌, arith, leb-true}
 use Rattle.std.proofs.Math.Bool.{and-eq-true_iff}
 use Rattle.std.proofs.lemmas.Bool.{not-true}
@@ -13,8 +13,7 @@ use Rattle.columns.specs.declared.Kind.TheVariants as kind
 use Rattle.columns.specs.declared.Parameter.{Parameter}
 use Rattle.columns.specs.declared.Parameter.TheVariants.{Unused, Divisor, NameSize}
 use Rattle.columns.specs.declared.Codec.{Codec}
-use Rattle.columns.specs.declared.Codec.TheVariants.{Known, Unknown}
-use Rattle.columns.specs.Table.{codec_of, parameter_ok, is_names}
+use Rattle.columns.specs.Table.{codec_with, codec_of, parameter_ok, is_names}
 use Rattle.columns.proofs.Laws.Rows.{every-codec}
 use Rattle.payloads.specs.Scan.{judges_exact}
 use Rattle.floats.specs.Steps.{is_divided}
@@ -42,16 +41,16 @@ row_ok kind.Int32 f d p = true
 row_ok kind.Strings f d p = true
 row_ok kind.Chars f d p = true
 
-abbrev codec_ok : Codec → Bool
-codec_ok Unknown = true
-codec_ok (Known k f d p) = row_ok k f d p
+abbrev codec_ok : Option Codec → Bool
+codec_ok None = true
+codec_ok (Some c) = row_ok c.kind c.form c.delta c.parameter
 
 every-row : (c : ℕ) → codec_ok (codec_of c) ≡ true
 every-row = every-codec codec_ok refl refl
 
 module _ (c : ℕ) (f : Form) (d : Bool) (p : Parameter) where
   -- a codec with a divisor
-  pub fixed-row : (m : ℕ) → codec_of c ≡ Known kind.FixedPoint f d p → parameter_ok p m ≡ true → (is_divided f d ≡ true) × (1 ≤ m)
+  pub fixed-row : (m : ℕ) → codec_of c ≡ codec_with kind.FixedPoint f d p → parameter_ok p m ≡ true → (is_divided f d ≡ true) × (1 ≤ m)
   fixed-row m e g = let w = (and-eq-true_iff (is_divided f d) (is_divisor p)).0 (sym (ap codec_ok e) ∙ every-row c) in (w.0, by p w.1 g)
     where
       by : (p : Parameter) → is_divisor p ≡ true → parameter_ok p m ≡ true → 1 ≤ m
@@ -60,7 +59,7 @@ module _ (c : ℕ) (f : Form) (d : Bool) (p : Parameter) where
       by NameSize h g = let y : ◌≡◌ {A = ℕ} 0 1 = cc in absurd (omega arith)
 
   -- codec 1
-  pub float-row : codec_of c ≡ Known kind.Float32 f d p → (f ≡ Plain Four) × (d ≡ false)
+  pub float-row : codec_of c ≡ codec_with kind.Float32 f d p → (f ≡ Plain Four) × (d ≡ false)
   float-row e = by f d (sym (ap codec_ok e) ∙ every-row c)
     where
       by : (f : Form) (d : Bool) → is_four f d ≡ true → (f ≡ Plain Four) × (d ≡ false)

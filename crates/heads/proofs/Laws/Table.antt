@@ -1,6 +1,6 @@
 -- The tables of lead bytes: their rows, and that kind and head by it are those of the lead-byte rule.
 -- Assumes nothing.
-use Rattle.std.specs.Prelude.{◌≡◌, Bool, ◌&&◌, ◌||◌, List, [], ◌∷◌, eqb, length}
+use Rattle.std.specs.Prelude.{◌≡◌, Option, None, Bool, ◌&&◌, ◌||◌, List, [], ◌∷◌, eqb, length}
 use Rattle.std.proofs.Math.Path.{refl}
 use Rattle.std.proofs.Common.{sym, ap, subst, ◌∙◌, arith, add-zero, zero-add, add-suc, suc-add, le_of_suc-le-suc, not-suc-le-zero, ext_get_or, leb-true, eqb-true, ltb-true, ltb-false, lt-ltb, le-ltb}
 use Rattle.std.proofs.Math.Bool.{true, false, cond}
@@ -12,7 +12,7 @@ use Rattle.std.proofs.Math.ListN.{get_or}
 use Rattle.numbers.specs.BigEndian.{Bytes}
 use Rattle.numbers.specs.Laws.BigEndian.{unsigned_at-in, byte_at}
 use Rattle.heads.specs.Lead.{Row, row, lead_bytes, in_row, row_in, kind_of, more_of, held_by}
-use Rattle.heads.specs.Head.{kind_at, head_number, head_from, head_at}
+use Rattle.heads.specs.Head.{kind_at, head_number, some_head, head_from, head_at}
 use Rattle.heads.specs.Table.{kind_cell, kind_from, values_from, kind_table, size_table, lead_table, kind_by, sized_number, sized_head, head_by}
 use Rattle.heads.specs.declared.Kind.{Kind}
 use Rattle.heads.specs.declared.Head.{Head}
@@ -210,14 +210,14 @@ module _ (s : List ℕ) (bytes : Bytes s) (at : ℕ) where
       b : ℕ
       b = get_or s at 0
 
-      whole : (t : Bool) → ltb (length s - (at + 1)) (more_of b) ≡ t → at < length s → sized_head s b at (more_of b + 1) ≡ cond t Head.Cut (Head.At (head_number s b (more_of b) (at + 1)) (at + 1 + more_of b))
+      whole : (t : Bool) → ltb (length s - (at + 1)) (more_of b) ≡ t → at < length s → sized_head s b at (more_of b + 1) ≡ cond t None (some_head (head_number s b (more_of b) (at + 1)) (at + 1 + more_of b))
       whole true e lt = rw (lt-ltb (length s - at) (more_of b + 1) (omega (arith, ltb-true (length s - (at + 1)) (more_of b) e)))
       whole false e lt =
           let le : more_of b ≤ length s - (at + 1) = ltb-false (length s - (at + 1)) (more_of b) e in
           let i : at + (more_of b + 1) ≡ at + 1 + more_of b = omega arith in
           rw (le-ltb (length s - at) (more_of b + 1) (omega arith), sized (more_of b) refl (omega arith), i)
 
-      go : (t : Bool) → ltb at (length s) ≡ t → cond t (sized_head s b at (get_or lead_table b 0 % 8)) Head.Cut ≡ cond t (head_from s b (more_of b) (at + 1)) Head.Cut
+      go : (t : Bool) → ltb at (length s) ≡ t → cond t (sized_head s b at (get_or lead_table b 0 % 8)) None ≡ cond t (head_from s b (more_of b) (at + 1)) None
       go true e =
           let lt : at < length s = ltb-true at (length s) e in
           ap (sized_head s b at) (row-size b (byte_at s bytes at lt)) ∙ whole (ltb (length s - (at + 1)) (more_of b)) refl lt
@@ -228,5 +228,5 @@ module _ (s : List ℕ) (bytes : Bytes s) (at : ℕ) {table : List ℕ} where
   pub kind-rule : {r : Kind} → r ≡ kind_by table s at → table ≡ lead_table → r ≡ kind_at s at
   kind-rule e t = e ∙ ap (λ (l : List ℕ). kind_by l s at) t ∙ kind_by-leads s bytes at
 
-  pub head-rule : {r : Head} → r ≡ head_by table s at → table ≡ lead_table → r ≡ head_at s at
+  pub head-rule : {r : Option Head} → r ≡ head_by table s at → table ≡ lead_table → r ≡ head_at s at
   head-rule e t = e ∙ ap (λ (l : List ℕ). head_by l s at) t ∙ head_by-leads s bytes at

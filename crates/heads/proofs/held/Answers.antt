@@ -1,20 +1,29 @@
--- The ranges of the tests are those of `held-ranges`.
+-- The ranges of the arms are those of `held-ranges`.
 use native.Mathlib.Omega.{arith}
 use borrow.Author.Tests.{lt-ltb, le-ltb}
 use Rattle.heads.proofs.Laws.Table.{held-ranges}
 use Rattle.heads.proofs.held.Goals as goal
+use Rattle.heads.proofs.held.Goals.{then-b-lt192, else-b-lt192+else-b-lt224}
 
-pub returns-then-b-lt128 : goal.returns-then-b-lt128
-returns-then-b-lt128 c = rw (held-ranges c.args.b (omega arith), lt-ltb _ 0x80 c.if-b-lt128.true) c.u8_to_usize.ensures.is
+pub returns-in-0-to-127 : goal.returns-in-0-to-127
+returns-in-0-to-127 c = let b = c.args.b in rw (held-ranges b (omega arith), lt-ltb b 0x80 (omega arith)) c.from.ensures
 
-pub returns-then-b-lt160 : goal.returns-then-b-lt160
-returns-then-b-lt160 c = rw (held-ranges c.args.b (omega arith), le-ltb _ 0x80 c.if-b-lt128.false, lt-ltb _ 0xa0 c.if-b-lt160.true) c.u8_to_usize-then-b-lt160.ensures.is
+pub returns-in-128-to-159 : goal.returns-in-128-to-159
+returns-in-128-to-159 c =
+    let b = c.args.b in
+    rw (held-ranges b (omega arith), le-ltb b 0x80 (omega arith), lt-ltb b 0xa0 (omega arith)) c.from-in-128-to-159.ensures
 
-pub returns-then-b-lt192 : goal.returns-then-b-lt192
-returns-then-b-lt192 c = rw (held-ranges c.args.b (omega arith), le-ltb _ 0x80 c.if-b-lt128.false, le-ltb _ 0xa0 c.if-b-lt160.false, lt-ltb _ 0xc0 c.if-b-lt192.true) c.u8_to_usize-then-b-lt192.ensures.is
+pub returns-in-160-to-191 : goal.returns-in-160-to-191
+returns-in-160-to-191 c =
+    let b = c.args.b in
+    elim c.in-160-to-191-1.branch [
+      | then-b-lt192 w ↦
+          rw (held-ranges b (omega arith), le-ltb b 0x80 (omega arith), le-ltb b 0xa0 (omega arith), lt-ltb b 0xc0 (omega arith)) c.from-in-160-to-191.ensures
+      | else-b-lt192+else-b-lt224 w ↦
+          rw (held-ranges b (omega arith), le-ltb b 0x80 (omega arith), le-ltb b 0xa0 (omega arith), le-ltb b 0xc0 (omega arith), le-ltb b 0xe0 (omega arith)) c.from-in-160-to-191.ensures
+    ]
 
-pub returns-then-b-lt224 : goal.returns-then-b-lt224
-returns-then-b-lt224 c = rw (held-ranges c.args.b (omega arith), le-ltb _ 0x80 c.if-b-lt128.false, le-ltb _ 0xa0 c.if-b-lt160.false, le-ltb _ 0xc0 c.if-b-lt192.false, lt-ltb _ 0xe0 c.if-b-lt224.true)
-
-pub returns : goal.returns
-returns c = rw (held-ranges c.args.b (omega arith), le-ltb _ 0x80 c.if-b-lt128.false, le-ltb _ 0xa0 c.if-b-lt160.false, le-ltb _ 0xc0 c.if-b-lt192.false, le-ltb _ 0xe0 c.if-b-lt224.false) c.u8_to_usize-2.ensures.is
+pub returns-in-192-to-223 : goal.returns-in-192-to-223
+returns-in-192-to-223 c =
+    let b = c.args.b in
+    rw (held-ranges b (omega arith), le-ltb b 0x80 (omega arith), le-ltb b 0xa0 (omega arith), le-ltb b 0xc0 (omega arith), lt-ltb b 0xe0 (omega arith))

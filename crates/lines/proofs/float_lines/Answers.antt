@@ -1,5 +1,7 @@
 -- The lines of the values before i stand in the buffer.
+use mathlib.Core.Path.{◌≡◌}
 use native.Mathlib.Omega.{arith}
+use lib.ListN.{length}
 use Rattle.text.specs.Laws.Put.{put-length}
 use Rattle.lines.specs.Decimals.{float_in}
 use Rattle.lines.specs.Laws.Decimals.{notation-few}
@@ -19,4 +21,4 @@ loop-i-preserved c =
     at_more (float_in _) 192 _ p.invariant 0 (omega arith) (omega arith) (notation-few _) c.put_in-at.ensures
 
 pub returns : goal.returns
-returns c = at_done (float_in _) 192 _ c.loop-i.invariant (omega arith)
+returns c = let e : length c.args.values.now ≡ c.loop-i.i = omega arith in rw e (at_done (float_in _) 192 _ c.loop-i.invariant (omega arith))

@@ -1,8 +1,8 @@
 -- The lines of the values before i stand in the buffer.
-use mathlib.Core.Path.{sym, ap}
+use mathlib.Core.Path.{◌≡◌, sym, ap}
 use native.Mathlib.Omega.{arith}
 use lib.IntN.{pos}
-use lib.ListN.{get_or}
+use lib.ListN.{length, get_or}
 use mir.Syntax.{w32}
 use mir.Facts.{to_z-of_z}
 use Rattle.text.specs.Laws.Put.{put-length, put_as}
@@ -28,4 +28,4 @@ loop-i-preserved c =
     (put_as c.put_number-at.ensures (ap (line (number_text d)) (sym (to_z-of_z {w = w32} {z = get_or values p.i (pos 0)} (record { sfits = c.put_number-arg-in-loop-i-1.given })))))
 
 pub returns : goal.returns
-returns c = at_done (number_text _) 32 _ c.loop-i.invariant (omega arith)
+returns c = let e : length c.args.values.now ≡ c.loop-i.i = omega arith in rw e (at_done (number_text _) 32 _ c.loop-i.invariant (omega arith))

@@ -1,12 +1,10 @@
 -- Laws of the texts of values: digit by digit, the places of a divisor, and how long a line can be. Assumes nothing.
-use Rattle.std.specs.Prelude.{◌≡◌, refl, Bool, true, false, cond, List, [], ◌∷◌, ◌++◌, ℕ, zero, suc, ◌+◌, ◌-◌, ◌*◌, ◌/◌, ◌%◌, ◌^◌, ◌<◌, ◌≤◌, eqb, ltb, ℤ, pos, negsuc, length}
+use Rattle.std.specs.Prelude.{Option, Some, None, ◌≡◌, refl, Bool, true, false, cond, List, [], ◌∷◌, ◌++◌, ℕ, zero, suc, ◌+◌, ◌-◌, ◌*◌, ◌/◌, ◌%◌, ◌^◌, ◌<◌, ◌≤◌, eqb, ltb, ℤ, pos, negsuc, length}
 use Rattle.std.proofs.Common.{sym, ap, subst, ◌∙◌, arith, sub-one, length-append, SFits, of_z, eqb-true, eq-eqb, ne_eqb}
 use Rattle.std.proofs.Math.Nat.{one-le-pow}
 use Rattle.std.specs.Int.{w32}
 use Rattle.text.specs.Decimal.{glyph, decimal}
 use Rattle.text.specs.Laws.Decimal.{decimal-few}
-use Rattle.lines.specs.declared.Places.{Places}
-use Rattle.lines.specs.declared.Places.TheVariants.{Exactly, Endless}
 use Rattle.lines.specs.Texts.{digits, places_below, places_of, fraction_text, quotient_text, magnitude_text, number_text, exponent_of, fraction_of, sign_text, scaled_of, special_text, exponent_text, finite_text, bits_text, name_text}
 use Rattle.lines.specs.Lines.{line}
 
@@ -43,20 +41,20 @@ fraction-few (suc k) n = let e = digits-length 10 (suc k) n in omega arith
 -- The places of a divisor
 
 -- a divisor with places is their power of ten
-places_below-power : (m k d : ℕ) → places_below m d ≡ Exactly k → (d ≡ 10 ^ k) × (k < m)
+places_below-power : (m k d : ℕ) → places_below m d ≡ Some k → (d ≡ 10 ^ k) × (k < m)
 unfolding places_below
 places_below-power zero k d h = let z : ◌≡◌ {A = ℕ} 0 1 = cc in absurd (omega arith)
 places_below-power (suc m) k d h = go (eqb d (10 ^ m)) refl (places_below-power m k d) h
   where
-    go : (test : Bool) → eqb d (10 ^ m) ≡ test → (places_below m d ≡ Exactly k → (d ≡ 10 ^ k) × (k < m)) → cond test (Exactly m) (places_below m d) ≡ Exactly k → (d ≡ 10 ^ k) × (k < suc m)
+    go : (test : Bool) → eqb d (10 ^ m) ≡ test → (places_below m d ≡ Some k → (d ≡ 10 ^ k) × (k < m)) → cond test (Some m) (places_below m d) ≡ Some k → (d ≡ 10 ^ k) × (k < suc m)
     go true e f q = let s : m ≡ k = cc in (eqb-true d (10 ^ m) e ∙ ap (λ (i : ℕ). 10 ^ i) s, omega arith)
     go false e f q = ((f q).0, omega (arith, (f q).1))
 
-pub places-positive : (k d : ℕ) → Exactly k ≡ places_of d → 1 ≤ d
+pub places-positive : (k d : ℕ) → Some k ≡ places_of d → 1 ≤ d
 unfolding places_of
 places-positive k d h = subst (λ (n : ℕ). 1 ≤ n) (sym (places_below-power 10 k d (sym h)).0) (one-le-pow k 10 (omega arith))
 
-places-few : (k d : ℕ) → places_of d ≡ Exactly k → k ≤ 9
+places-few : (k d : ℕ) → places_of d ≡ Some k → k ≤ 9
 unfolding places_of
 places-few k d h = omega (arith, (places_below-power 10 k d h).1)
 
@@ -77,13 +75,13 @@ number-negative d (negsuc n) f h = let e : 0xffff_ffff - (0x1_0000_0000 - suc n)
 
 -- How long a line can be
 
-quotient-few : (p : Places) (d n : ℕ) → places_of d ≡ p → length (quotient_text p d n) ≤ 21
-quotient-few (Exactly k) d n h =
+quotient-few : (p : Option ℕ) (d n : ℕ) → places_of d ≡ p → length (quotient_text p d n) ≤ 21
+quotient-few (Some k) d n h =
     let a = decimal-few (n / d) in
     let b = fraction-few k n in
     let c = places-few k d h in
     simp length-append (omega arith)
-quotient-few Endless d n h =
+quotient-few None d n h =
     let a = decimal-few n in
     let b = decimal-few d in
     simp length-append (omega arith)

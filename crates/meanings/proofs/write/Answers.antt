@@ -1,7 +1,7 @@
 -- No such number, too little room, or the page's bytes in the buffer.
 use mathlib.Core.Path.{refl, ap, sym, ◌∙◌}
 use native.Mathlib.Omega.{arith}
-use Rattle.refusal.specs.declared.Answer.TheVariants.{Count}
+use Rattle.std.specs.Prelude.{Ok}
 use Rattle.meanings.specs.Laws.Meanings.{page-holds, wrote-28, wrote-25, wrote-all}
 use Rattle.meanings.proofs.write.Goals as goal
 
@@ -24,4 +24,4 @@ returns c =
     let a = c.args in
     let page = page-holds a.number refl c.put_meaning-end.ensures in
     let w = wrote-all a.number a.buffer.now (omega (arith, page.0, c.if-end-eq0.false)) (omega (arith, page.0, c.if-buffer-end.false)) page.1 c.put.ensures in
-    record { answer = ap Count page.0 ∙ w.0; buffer = w.1 }
+    record { answer = ap Ok page.0 ∙ w.0; buffer = w.1 }

@@ -1,6 +1,6 @@
 -- A value is walked by its kind, an array and a map by loops whose invariants say that what is left from here on decides, and that the rows of
 -- the maps that are open stay. The levels left fall with each array and map: three times the levels left, and more before a value is taken up.
-use Rattle.std.proofs.Common.{◌≡◌, ◌+◌, ◌-◌, ◌*◌}
+use Rattle.std.proofs.Common.{◌≡◌, ◌+◌, ◌*◌}
 use Rattle.messagepack.specs.Walk.{value_at, many_at}
 use Rattle.messagepack.specs.Keys.{Kept}
 use Rattle.messagepack.proofs.Laws.Tables.{Going}
@@ -27,7 +27,4 @@ abbrev pub decreases-array-loop-left : goal.decreases-array-loop-left
 decreases-array-loop-left l = l.left
 
 abbrev pub invariant-map-loop-row : goal.invariant-map-loop-row
-invariant-map-loop-row l = Going l.leads l.file l.n l.at l.depth l.initial.starts l.initial.prints l.starts l.prints l.row l.p
-
-abbrev pub decreases-map-loop-row : goal.decreases-map-loop-row
-decreases-map-loop-row l = l.end - l.row
+invariant-map-loop-row l = Going l.file l.n l.at l.depth l.initial.starts l.initial.prints l.starts l.prints l.row l.p

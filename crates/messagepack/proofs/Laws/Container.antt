@@ -1,7 +1,7 @@
 -- The container's number is 0 exactly for a container: the walk ends at the end of the file exactly for a writing of a document that keeps
 -- the rules. It is at most 11.
 -- Assumes nothing.
-use Rattle.std.specs.Prelude.{◌≡◌, ℕ, ◌≤◌, Bool, true, false, cond, ◌↔◌, List, [], ◌++◌, length, ◌==◌, nat_le}
+use Rattle.std.specs.Prelude.{◌≡◌, ℕ, ◌≤◌, Bool, true, false, cond, ◌↔◌, List, [], ◌++◌, length, ◌==◌, nat_le, Result, Ok, Err}
 use Rattle.std.proofs.Math.Path.{refl, ap, subst}
 use Rattle.std.proofs.Common.{sym, ◌∙◌, append-nil, zero-add, arith, lit<, lit≤}
 use Rattle.std.proofs.Math.Seq.{drop-length}
@@ -16,7 +16,6 @@ use Rattle.messagepack.specs.Limits.{file_limit, nesting_limit}
 use Rattle.messagepack.specs.Document.{Entries, map, Writes}
 use Rattle.messagepack.specs.Rules.{Container}
 use Rattle.messagepack.specs.Walk.{value_at, ended, outer, container_number}
-use Rattle.messagepack.specs.declared.Walk.{Walk}
 use Rattle.messagepack.proofs.Laws.Walk as w
 use Rattle.messagepack.proofs.Laws.Refused.{Sure, refused, value-sure}
 use Rattle.messagepack.proofs.Laws.Sound.{MapIn, map-in, value_in}
@@ -24,15 +23,15 @@ use Rattle.messagepack.proofs.Laws.Complete.{value-of}
 
 module _ (s : List ℕ) (bytes : Bytes s) where
   -- a number that is 0 says that the walk ended at the end
-  ended-zero : (v : Walk) → value_at s nesting_limit 0 ≡ v → Sure v → ended s v ≡ 0 → value_at s nesting_limit 0 ≡ Walk.End (length s)
-  ended-zero (Walk.Refused n) q (refused h l) k = absurd (omega arith)
-  ended-zero (Walk.End p) q o k = go (p == length s) refl k
+  ended-zero : (v : Result ℕ ℕ) → value_at s nesting_limit 0 ≡ v → Sure v → ended s v ≡ 0 → value_at s nesting_limit 0 ≡ Ok (length s)
+  ended-zero (Err n) q (refused h l) k = absurd (omega arith)
+  ended-zero (Ok p) q o k = go (p == length s) refl k
     where
-      go : (b : Bool) → (p == length s) ≡ b → cond b accepted bytes_after ≡ 0 → value_at s nesting_limit 0 ≡ Walk.End (length s)
-      go true e k = q ∙ ap Walk.End (eqb-true p (length s) e)
+      go : (b : Bool) → (p == length s) ≡ b → cond b accepted bytes_after ≡ 0 → value_at s nesting_limit 0 ≡ Ok (length s)
+      go true e k = q ∙ ap Ok (eqb-true p (length s) e)
       go false e k = absurd (omega arith)
 
-  outer-zero : (k : Kind) → kind_at s 0 ≡ k → outer s k ≡ 0 → (kind_at s 0 ≡ Kind.Map) × (value_at s nesting_limit 0 ≡ Walk.End (length s))
+  outer-zero : (k : Kind) → kind_at s 0 ≡ k → outer s k ≡ 0 → (kind_at s 0 ≡ Kind.Map) × (value_at s nesting_limit 0 ≡ Ok (length s))
   outer-zero Kind.Map e h = (e, ended-zero (value_at s nesting_limit 0) refl (value-sure s nesting_limit 0) h)
   outer-zero Kind.Missing e h = absurd (omega arith)
   outer-zero Kind.Outside e h = absurd (omega arith)
@@ -70,7 +69,7 @@ module _ (s : List ℕ) (bytes : Bytes s) where
     where
       back : Container s → cond (nat_le (length s) file_limit) (outer s (kind_at s 0)) file_over_limit ≡ 0
       back c =
-          let v : value_at s nesting_limit 0 ≡ Walk.End (length s) = value-of s (map c.entries) s nesting_limit 0 [] c.writes c.nested c.keeps (sym (append-nil s)) ∙ ap Walk.End (zero-add (length s)) in
+          let v : value_at s nesting_limit 0 ≡ Ok (length s) = value-of s (map c.entries) s nesting_limit 0 [] c.writes c.nested c.keeps (sym (append-nil s)) ∙ ap Ok (zero-add (length s)) in
           rw (le-leb (length s) file_limit c.fits, map_first c.entries c.writes, v, eq-eqb (length s) (length s) refl)
 
 -- the number is at most 11
@@ -81,9 +80,9 @@ container-most s = either Most (nat_le (length s) file_limit) (outer-most (kind_
     Most : ℕ → Type 0
     Most n = n ≤ bytes_after
 
-    ended-most : (v : Walk) → Sure v → ended s v ≤ bytes_after
-    ended-most (Walk.End p) o = either Most (p == length s) (lit≤ tt) (lit≤ tt)
-    ended-most (Walk.Refused n) (refused h l) = l
+    ended-most : (v : Result ℕ ℕ) → Sure v → ended s v ≤ bytes_after
+    ended-most (Ok p) o = either Most (p == length s) (lit≤ tt) (lit≤ tt)
+    ended-most (Err n) (refused h l) = l
 
     outer-most : (k : Kind) → outer s k ≤ bytes_after
     outer-most Kind.Map = ended-most (value_at s nesting_limit 0) (value-sure s nesting_limit 0)

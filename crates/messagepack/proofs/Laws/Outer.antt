@@ -1,27 +1,25 @@
 -- The outer keys of a file: one entry after another, and what the call answers and leaves.
 -- Assumes nothing.
-use Rattle.std.specs.Prelude.{◌≡◌, ℕ, zero, suc, ◌+◌, ◌-◌, ◌<◌, ◌≤◌, Bool, true, false, cond, List, [], ◌∷◌, ◌++◌, length, take, drop, ◌==◌, ◌≢◌, nat_le}
+use Rattle.std.specs.Prelude.{◌≡◌, ℕ, zero, suc, ◌+◌, ◌-◌, ◌<◌, ◌≤◌, Bool, true, false, cond, List, [], ◌∷◌, ◌++◌, length, take, drop, ◌==◌, ◌≢◌, nat_le, Result, Ok, Err, Option, None, Some}
 use Rattle.std.proofs.Math.Path.{refl, ap}
 use Rattle.std.proofs.Common.{sym, subst, ◌∙◌, append_assoc, append-nil, arith, lit<}
 use Rattle.std.proofs.Math.Numerals.{sub-one}
 use Rattle.std.proofs.Math.Seq.{take-append_seam}
 use borrow.Author.Tests.{eqb-true, eqb-false, eq-eqb, ne_eqb, leb-true, le-leb}
 use Rattle.refusal.specs.Table.{accepted, cut_short, bytes_after, buffer_too_small}
-use Rattle.refusal.specs.Answer.{answered, leaves, answer_number}
-use Rattle.refusal.specs.declared.Answer.{Answer}
+use Rattle.refusal.specs.Outcome.{answered, answer_number}
+use Rattle.refusal.specs.Answer.{leaves}
 use Rattle.numbers.specs.BigEndian.{Bytes}
-use Rattle.heads.specs.Head.{kind_at, head_at}
+use Rattle.heads.specs.Head.{kind_at, head_at, some_head}
 use Rattle.heads.specs.declared.Kind.{Kind}
 use Rattle.heads.specs.declared.Head.{Head}
 use Rattle.messagepack.specs.Limits.{file_limit, nesting_limit, entry_limit}
 use Rattle.heads.proofs.Laws.Span.{follows}
-use Rattle.heads.proofs.Laws.Head.{head-told}
+use Rattle.heads.proofs.Laws.Head.{head-told, same-parts}
 use Rattle.messagepack.specs.Document.{Document, Entries, empty, entry, size, TextOf, Writes, WritesEntries}
 use Rattle.messagepack.specs.Rules.{depth, depth_entries, Keeps, KeepsEntries, Container}
-use Rattle.messagepack.specs.Walk.{key_at, value_at, container_number}
+use Rattle.messagepack.specs.Walk.{key_at, value_at, container_number, ok_text}
 use Rattle.messagepack.specs.Outer.{outer_levels, entry_end, keys_from, keys_of, keys_answer, keys_leave}
-use Rattle.messagepack.specs.declared.Walk.{Walk}
-use Rattle.messagepack.specs.declared.Text.{Text}
 use Rattle.messagepack.proofs.Laws.Walk as w
 use Rattle.messagepack.proofs.Laws.Refused.{Sure, refused, value-sure}
 use Rattle.messagepack.proofs.Laws.Complete.{past, text-there, key-there, value-of}
@@ -38,10 +36,10 @@ module _ (s : List ℕ) (levels : ℕ) where
   keys-first (suc n) at h = rw sub-one
 
   -- an entry whose key and value end
-  pub entry-end : (at : ℕ) {a m e : ℕ} → key_at s at ≡ Text.At a m → value_at s levels (a + m) ≡ Walk.End e → entry_end s levels at ≡ e
+  pub entry-end : (at : ℕ) {a m e : ℕ} → key_at s at ≡ ok_text a m → value_at s levels (a + m) ≡ Ok e → entry_end s levels at ≡ e
   entry-end at k v = rw (k, v)
 
-  pub keys-next : (n at : ℕ) {a m e : ℕ} → 0 < n → key_at s at ≡ Text.At a m → value_at s levels (a + m) ≡ Walk.End e → keys_from s levels n at ≡ at ∷ keys_from s levels (n - 1) e
+  pub keys-next : (n at : ℕ) {a m e : ℕ} → 0 < n → key_at s at ≡ ok_text a m → value_at s levels (a + m) ≡ Ok e → keys_from s levels n at ≡ at ∷ keys_from s levels (n - 1) e
   keys-next n at h k v = keys-first n at h ∙ rw (k, v)
 
   pub keys-count : (n at : ℕ) → length (keys_from s levels n at) ≡ n
@@ -51,30 +49,30 @@ module _ (s : List ℕ) (levels : ℕ) where
 
 -- the number of a file that begins with a map, by the walk of that map
 module _ (s : List ℕ) (small : length s ≤ file_limit) (kind : kind_at s 0 ≡ Kind.Map) where
-  pub map-cut : head_at s 0 ≡ Head.Cut → container_number s ≡ cut_short
+  pub map-cut : head_at s 0 ≡ None → container_number s ≡ cut_short
   map-cut h = w.file-by s small kind ∙ rw (w.map-cut s nesting_limit 0 (lit< tt) kind h)
 
-  pub map-refused : {e : ℕ} → value_at s nesting_limit 0 ≡ Walk.Refused e → (container_number s ≡ e) × (0 < e)
+  pub map-refused : {e : ℕ} → value_at s nesting_limit 0 ≡ Err e → (container_number s ≡ e) × (0 < e)
   map-refused {e} v = (w.file-by s small kind ∙ rw v, above (subst Sure v (value-sure s nesting_limit 0)))
     where
-      above : Sure (Walk.Refused e) → 0 < e
+      above : Sure (Err e) → 0 < e
       above (refused h l) = h
 
-  pub map-ended : {p : ℕ} → value_at s nesting_limit 0 ≡ Walk.End p → p ≡ length s → container_number s ≡ accepted
+  pub map-ended : {p : ℕ} → value_at s nesting_limit 0 ≡ Ok p → p ≡ length s → container_number s ≡ accepted
   map-ended {p} v e = w.file-by s small kind ∙ rw (v, eq-eqb p (length s) e)
 
-  pub map-after : {p : ℕ} → value_at s nesting_limit 0 ≡ Walk.End p → (p ≢ length s) → container_number s ≡ bytes_after
+  pub map-after : {p : ℕ} → value_at s nesting_limit 0 ≡ Ok p → (p ≢ length s) → container_number s ≡ bytes_after
   map-after {p} v e = w.file-by s small kind ∙ rw (v, ne_eqb p (length s) e)
 
 module _ (s : List ℕ) where
   -- a file that is refused
-  pub keys-refused : (old : List ℕ) {n : ℕ} → container_number s ≡ n → 0 < n → (Answer.Refused n ≡ keys_answer s (length old)) × (old ≡ keys_leave s old)
+  pub keys-refused : (old : List ℕ) {n : ℕ} → container_number s ≡ n → 0 < n → (Err n ≡ keys_answer s (length old)) × (old ≡ keys_leave s old)
   unfolding keys_answer keys_leave keys_of
   keys-refused old c h =
       let ne : container_number s ≡ accepted → ⊥ = λ z. absurd (omega arith) in
-      (rw (ne_eqb _ _ ne) (ap Answer.Refused (sym c)), rw (ne_eqb _ _ ne, le-leb 0 (length old) (omega arith)))
+      (rw (ne_eqb _ _ ne) (ap Err (sym c)), rw (ne_eqb _ _ ne, le-leb 0 (length old) (omega arith)))
 
-  module _ {n p : ℕ} (z : container_number s ≡ accepted) (h : head_at s 0 ≡ Head.At n p) where
+  module _ {n p : ℕ} (z : container_number s ≡ accepted) (h : head_at s 0 ≡ some_head n p) where
     pub keys-are : keys_of s ≡ keys_from s outer_levels n p
     unfolding keys_of
     keys-are = rw (eq-eqb _ _ z, h)
@@ -92,55 +90,55 @@ module _ (s : List ℕ) where
     keys-left old = rw keys-are
 
 -- the outer map of a container has as many entries as its head says, and no more than a map may have
-pub outer-few : {s : List ℕ} {n p : ℕ} → Container s → head_at s 0 ≡ Head.At n p → n ≤ entry_limit
+pub outer-few : {s : List ℕ} {n p : ℕ} → Container s → head_at s 0 ≡ some_head n p → n ≤ entry_limit
 unfolding Writes Keeps
 outer-few {s} {n} c h =
     let t = (head-told s 0 c.writes.v c.writes.head c.writes.is).head in
-    let e : n ≡ size c.entries = cc in
+    let e : n ≡ size c.entries = (same-parts (sym h ∙ t)).0 in
     omega (arith, c.keeps.0)
 
 pub keys-few : (s : List ℕ) → Bytes s → container_number s ≡ accepted → length (keys_of s) ≤ entry_limit
 unfolding keys_of
 keys-few s bytes z = go (head_at s 0) refl
   where
-    go : (h : Head) → head_at s 0 ≡ h → length (keys_of s) ≤ entry_limit
-    go (Head.At n p) h = rw (keys-many s z h) (outer-few ((container-exactly s bytes).0 z) h)
-    go Head.Cut h = rw (eq-eqb _ _ z, h) (omega arith)
+    go : (h : Option Head) → head_at s 0 ≡ h → length (keys_of s) ≤ entry_limit
+    go (Some x) h = rw (keys-many s z h) (outer-few ((container-exactly s bytes).0 z) h)
+    go None h = rw (eq-eqb _ _ z, h) (omega arith)
 
 -- where there is room for all keys, the number of the answer is the container's
 pub keys-number : (s : List ℕ) (room : ℕ) → (container_number s ≡ accepted → length (keys_of s) ≤ room) → answer_number (keys_answer s room) ≡ container_number s
 unfolding keys_answer
 keys-number s room few = go (container_number s == accepted) refl
   where
-    go : (b : Bool) → (container_number s == accepted) ≡ b → answer_number (cond b (answered (length (keys_of s)) room) (Answer.Refused (container_number s))) ≡ container_number s
+    go : (b : Bool) → (container_number s == accepted) ≡ b → answer_number (cond b (answered (length (keys_of s)) room) (Err (container_number s))) ≡ container_number s
     go true e = let z = eqb-true (container_number s) accepted e in rw (le-leb (length (keys_of s)) room (few z)) (sym z)
     go false e = refl
 
 -- where there is room for as many keys as a map may have, the answer is how many there are, or the container's number
 
-pub keys-counted : (s : List ℕ) {n : ℕ} (room : ℕ) → Answer.Count n ≡ keys_answer s room → (container_number s ≡ accepted) × (n ≡ length (keys_of s)) × (n ≤ room)
+pub keys-counted : (s : List ℕ) {n : ℕ} (room : ℕ) → Ok n ≡ keys_answer s room → (container_number s ≡ accepted) × (n ≡ length (keys_of s)) × (n ≤ room)
 unfolding keys_answer
 keys-counted s {n} room h = go (container_number s == accepted) (nat_le (length (keys_of s)) room) refl refl h
   where
-    go : (b t : Bool) → (container_number s == accepted) ≡ b → nat_le (length (keys_of s)) room ≡ t → Answer.Count n ≡ cond b (cond t (Answer.Count (length (keys_of s))) (Answer.Refused buffer_too_small)) (Answer.Refused (container_number s)) → (container_number s ≡ accepted) × (n ≡ length (keys_of s)) × (n ≤ room)
+    go : (b t : Bool) → (container_number s == accepted) ≡ b → nat_le (length (keys_of s)) room ≡ t → Ok n ≡ cond b (cond t (Ok (length (keys_of s))) (Err buffer_too_small)) (Err (container_number s)) → (container_number s ≡ accepted) × (n ≡ length (keys_of s)) × (n ≤ room)
     go true true e l q = let i : n ≡ length (keys_of s) = cc in (eqb-true (container_number s) accepted e, i, omega (arith, leb-true (length (keys_of s)) room l))
     go true false e l q = let z : ◌≡◌ {A = ℕ} 0 1 = cc in absurd (omega arith)
     go false t e l q = let z : ◌≡◌ {A = ℕ} 0 1 = cc in absurd (omega arith)
 
-pub keys-uncounted : (s : List ℕ) {n : ℕ} (room : ℕ) → (container_number s ≡ accepted → length (keys_of s) ≤ room) → Answer.Refused n ≡ keys_answer s room → (container_number s ≡ n) × (container_number s ≢ accepted)
+pub keys-uncounted : (s : List ℕ) {n : ℕ} (room : ℕ) → (container_number s ≡ accepted → length (keys_of s) ≤ room) → Err n ≡ keys_answer s room → (container_number s ≡ n) × (container_number s ≢ accepted)
 unfolding keys_answer
 keys-uncounted s {n} room few h = go (container_number s == accepted) refl h
   where
-    go : (b : Bool) → (container_number s == accepted) ≡ b → Answer.Refused n ≡ cond b (answered (length (keys_of s)) room) (Answer.Refused (container_number s)) → (container_number s ≡ n) × (container_number s ≢ accepted)
+    go : (b : Bool) → (container_number s == accepted) ≡ b → Err n ≡ cond b (answered (length (keys_of s)) room) (Err (container_number s)) → (container_number s ≡ n) × (container_number s ≢ accepted)
     go true e q =
         let y = le-leb (length (keys_of s)) room (few (eqb-true _ _ e)) in
-        let k : Answer.Refused n ≡ Answer.Count (length (keys_of s)) = rw y at q in
+        let k : Err n ≡ Ok (length (keys_of s)) = rw y at q in
         let z : ◌≡◌ {A = ℕ} 0 1 = cc in
         absurd (omega arith)
     go false e q = let i : container_number s ≡ n = cc in (i, λ z. eqb-false _ _ e z)
 
 -- the count of an answer is within a buffer of the same length
-pub keys-within : (s : List ℕ) (r : Answer) (room n k : ℕ) → r ≡ keys_answer s room → n ≡ room → r ≡ Answer.Count k → k ≤ n
+pub keys-within : (s : List ℕ) (r : Result ℕ ℕ) (room n k : ℕ) → r ≡ keys_answer s room → n ≡ room → r ≡ Ok k → k ≤ n
 keys-within s r room n k e q c = omega (arith, (keys-counted s room (sym c ∙ e)).2)
 
 -- the places that were put are those of the outer keys
@@ -164,7 +162,7 @@ keys_from_lem s (entry k d es) p x t wr n ky h =
     let q : drop p s ≡ wr.a ++ ((wr.u ++ wr.v) ++ t) = past s p wr.a (wr.u ++ wr.v) t x wr.is h in
     let g = text-there s Kind.Str k wr.a ((wr.u ++ wr.v) ++ t) p wr.key q in
     let f : drop (p + length wr.a) s ≡ wr.u ++ (wr.v ++ t) = follows s p wr.a ((wr.u ++ wr.v) ++ t) q ∙ append_assoc wr.u wr.v t in
-    let v : value_at s outer_levels (p + length wr.a) ≡ Walk.End (p + length wr.a + length wr.u) = value-of s d wr.u outer_levels (p + length wr.a) (wr.v ++ t) wr.first (omega arith) ky.1 f in
+    let v : value_at s outer_levels (p + length wr.a) ≡ Ok (p + length wr.a + length wr.u) = value-of s d wr.u outer_levels (p + length wr.a) (wr.v ++ t) wr.first (omega arith) ky.1 f in
     let e : entry_end s outer_levels p ≡ p + length wr.a + length wr.u = entry-end s outer_levels p (key-there s k p (p + length wr.a) (p + length wr.key.h) g ky.0) (ap (value_at s outer_levels) g.end ∙ v) in
     let rest = keys_from_lem s es (p + length wr.a + length wr.u) wr.v t wr.rest (omega arith) ky.2 (follows s (p + length wr.a) wr.u (wr.v ++ t) f) in
     stands wr.a ((wr.u ++ wr.v) ++ t) wr.key q (subst (λ (i : ℕ). KeysStand s (keys_from s outer_levels (size es) i) es) (sym e) rest)

@@ -1,6 +1,6 @@
 -- The tables of keys: rows that hold keys, a row more, and the loop over a map's entries.
 -- Assumes nothing.
-use Rattle.std.specs.Prelude.{◌≡◌, ℕ, zero, suc, ◌+◌, ◌-◌, ◌*◌, ◌%◌, ◌<◌, ◌≤◌, Bool, false, ◌||◌, ◌≢◌, List, [], ◌∷◌, ◌++◌, length, take, drop, set, slice_index, slice_index_or, slice_range, slice_set}
+use Rattle.std.specs.Prelude.{◌≡◌, ℕ, zero, suc, ◌+◌, ◌-◌, ◌*◌, ◌%◌, ◌<◌, ◌≤◌, Bool, false, ◌||◌, ◌≢◌, List, [], ◌∷◌, ◌++◌, length, take, drop, set, slice_index, slice_index_or, slice_range, slice_set, Result, Ok, Err, None}
 use Rattle.std.proofs.Math.Path.{refl, ap, subst}
 use Rattle.std.proofs.Common.{sym, ◌∙◌, append-nil, ⊎_elim, not-suc-le-zero, eq-or-lt_of_le, le_of_suc-le-suc, mod-eq_of_lt, add-one, length-set, length-drop, drop-drop, get_or-set_same, get_or-set_other, drop-set-lt, take-suc, take-suc-set, drop-cons, length-take-le}
 use Rattle.std.proofs.Math.Nat.{add-zero}
@@ -9,22 +9,19 @@ use Rattle.std.proofs.Math.Seq.{get_or-drop, append_snoc}
 use Rattle.std.proofs.lemmas.List.{drop-set-add, set_at}
 use borrow.Author.Tests.{le-leb, lt-leb}
 use Rattle.refusal.specs.Table.{buffer_too_small}
-use Rattle.refusal.specs.Answer.{answered, leaves}
-use Rattle.refusal.specs.declared.Answer.{Answer}
+use Rattle.refusal.specs.Outcome.{answered}
+use Rattle.refusal.specs.Answer.{leaves}
 use Rattle.numbers.specs.BigEndian.{unsigned_at}
 use Rattle.numbers.specs.Laws.BigEndian.{unsigned_at-part, unsigned_at-out}
 use Rattle.text.specs.Equal.{equal}
 use Rattle.text.specs.Laws.Equal.{equal-false}
-use Rattle.heads.specs.Head.{head_at}
-use Rattle.heads.specs.Table.{lead_table}
-use Rattle.heads.specs.declared.Head.{Head}
+use Rattle.heads.specs.Head.{head_at, some_head}
 use Rattle.heads.proofs.Laws.Span.{part_length_lem}
 use Rattle.messagepack.specs.Limits.{file_limit, nesting_limit, entry_limit}
-use Rattle.messagepack.specs.Walk.{among, key_at, entries_from, entries_at, value_at}
+use Rattle.heads.proofs.Laws.Head.{same-parts}
+use Rattle.messagepack.specs.Walk.{among, key_at, entries_from, entries_at, value_at, ok_text}
 use Rattle.messagepack.specs.Outer.{keys_from}
 use Rattle.messagepack.specs.Keys.{table_length, print_of, key_bytes, key_here, keys_of, keys_in, KeyThere, RowHolds, Stored, Free, Kept, Rows, Sought, refused, repeated, noted, KeyNoted, KeysWalked, MapNoted, EntriesNoted, ValueNoted}
-use Rattle.messagepack.specs.declared.Walk.{Walk}
-use Rattle.messagepack.specs.declared.Text.{Text}
 use Rattle.messagepack.proofs.Laws.Walk as w
 use Rattle.messagepack.proofs.Laws.Outer as o
 
@@ -106,17 +103,18 @@ module _ (s starts : List ℕ) (base : ℕ) where
         rw e (keys-next s (drop base starts) k (i - 1 - base) t (rw a h))
 
 -- a key that stands at a place: its head is read, and its bytes are inside
-pub there-read : {s : List ℕ} {at n p : ℕ} → KeyThere s at → head_at s at ≡ Head.At n p → (p + n ≤ length s) × (key_here s at ≡ take n (drop p s))
+pub there-read : {s : List ℕ} {at n p : ℕ} → KeyThere s at → head_at s at ≡ some_head n p → (p + n ≤ length s) × (key_here s at ≡ take n (drop p s))
 there-read {s} {at} {n} {p} k g =
     let i = w.text-is s at (w.key-is s at k.is).1 in
-    let h : head_at s at ≡ Head.At k.m k.a = i.head in
-    let m : k.m ≡ n = cc in
-    let a : k.a ≡ p = cc in
+    let h : head_at s at ≡ some_head k.m k.a = i.head in
+    let same = same-parts (sym h ∙ g) in
+    let m : k.m ≡ n = same.0 in
+    let a : k.a ≡ p = same.1 in
     (rw (m, a) at i.inside, ap (key_bytes s) k.is ∙ rw (m, a))
 
-pub there-head : {s : List ℕ} (at : ℕ) → KeyThere s at → head_at s at ≢ Head.Cut
+pub there-head : {s : List ℕ} (at : ℕ) → KeyThere s at → head_at s at ≢ None
 there-head {s} at k g =
-    let h : head_at s at ≡ Head.At k.m k.a = (w.text-is s at (w.key-is s at k.is).1).head in
+    let h : head_at s at ≡ some_head k.m k.a = (w.text-is s at (w.key-is s at k.is).1).head in
     let z : ◌≡◌ {A = ℕ} 0 1 = cc in
     omega arith
 
@@ -142,7 +140,7 @@ module _ (s starts prints : List ℕ) (base end : ℕ) (st : Stored s (drop base
   none_seen le = let e : base + (end - base) ≡ end = omega arith in subst (λ (i : ℕ). among k (keys_in s starts base i) ≡ false) e (none_below (end - base) (omega arith))
 
 -- the key whose bytes and print were read
-pub sought : {s starts prints : List ℕ} {at base end a m print : ℕ} → Rows s base end starts prints → key_at s at ≡ Text.At a m → print ≡ print_of (take m (drop a s)) → Sought s base end starts prints at print
+pub sought : {s starts prints : List ℕ} {at base end a m print : ℕ} → Rows s base end starts prints → key_at s at ≡ ok_text a m → print ≡ print_of (take m (drop a s)) → Sought s base end starts prints at print
 sought {s} {a = a} {m = m} r k p = record { rows = r; key = record { a = a; m = m; is = k }; is = rw k p }
 
 -- a row more
@@ -185,10 +183,10 @@ row_copied rows old i v h k is =
 
 -- the first n rows, if there is room for them
 module _ (rows old : List ℕ) (n : ℕ) (h : n ≤ length rows) where
-  pub rows-refused : length old < n → (Answer.Refused buffer_too_small ≡ answered n (length old)) × (old ≡ leaves (take n rows) old)
+  pub rows-refused : length old < n → (Err buffer_too_small ≡ answered n (length old)) × (old ≡ leaves (take n rows) old)
   rows-refused l = (rw (lt-leb n (length old) l), rw (length-take-le n rows h, lt-leb n (length old) l))
 
-  pub rows-copied : n ≤ length old → (Answer.Count n ≡ answered n (length old)) × (take n rows ++ drop n old ≡ leaves (take n rows) old)
+  pub rows-copied : n ≤ length old → (Ok n ≡ answered n (length old)) × (take n rows ++ drop n old ≡ leaves (take n rows) old)
   rows-copied l = (rw (le-leb n (length old) l), rw (length-take-le n rows h, le-leb n (length old) l))
 
 -- tables that are kept
@@ -209,31 +207,31 @@ pub kept_at : {d e : ℕ} {t u : List ℕ} → d ≡ e → Kept d t u → Kept e
 kept_at {d} {e} {t} {u} q k = subst (λ (i : ℕ). Kept i t u) q k
 
 -- a walk with fewer levels left may begin too, and with tables that were kept
-pub free-less : {leads s : List ℕ} {d e : ℕ} {starts prints : List ℕ} → d ≤ e → Free leads s e starts prints → Free leads s d starts prints
-free-less le x = record { small = x.small; table = x.table; levels = omega (arith, x.levels); starts-long = x.starts-long; prints-long = x.prints-long }
+pub free-less : {s : List ℕ} {d e : ℕ} {starts prints : List ℕ} → d ≤ e → Free s e starts prints → Free s d starts prints
+free-less le x = record { small = x.small; levels = omega (arith, x.levels); starts-long = x.starts-long; prints-long = x.prints-long }
 
-pub free-kept : {leads s : List ℕ} {d : ℕ} {starts prints starts' prints' : List ℕ} → Free leads s d starts prints → Kept d starts starts' → Kept d prints prints' → Free leads s d starts' prints'
-free-kept x ks kp = record { small = x.small; table = x.table; levels = x.levels; starts-long = ks.long; prints-long = kp.long }
+pub free-kept : {s : List ℕ} {d : ℕ} {starts prints starts' prints' : List ℕ} → Free s d starts prints → Kept d starts starts' → Kept d prints prints' → Free s d starts' prints'
+free-kept x ks kp = record { small = x.small; levels = x.levels; starts-long = ks.long; prints-long = kp.long }
 
 -- an answer by its case, and one for a value with more levels left
-pub walked_as : {expected : Walk} {d : ℕ} {starts prints starts' prints' : List ℕ} {r q : Walk} → r ≡ q → KeysWalked expected d starts prints r starts' prints' → KeysWalked expected d starts prints q starts' prints'
+pub walked_as : {expected : Result ℕ ℕ} {d : ℕ} {starts prints starts' prints' : List ℕ} {r q : Result ℕ ℕ} → r ≡ q → KeysWalked expected d starts prints r starts' prints' → KeysWalked expected d starts prints q starts' prints'
 walked_as e v = record { answer = sym e ∙ v.answer; starts-kept = v.starts-kept; prints-kept = v.prints-kept }
 
-pub walked-in : {inner outer : Walk} {d e : ℕ} {starts prints starts' prints' : List ℕ} {r : Walk} → d ≡ e → outer ≡ inner → KeysWalked inner d starts prints r starts' prints' → KeysWalked outer e starts prints r starts' prints'
+pub walked-in : {inner outer : Result ℕ ℕ} {d e : ℕ} {starts prints starts' prints' : List ℕ} {r : Result ℕ ℕ} → d ≡ e → outer ≡ inner → KeysWalked inner d starts prints r starts' prints' → KeysWalked outer e starts prints r starts' prints'
 walked-in q o v = record { answer = v.answer ∙ sym o; starts-kept = kept_at q v.starts-kept; prints-kept = kept_at q v.prints-kept }
 
-pub walked_more : {expected : Walk} {d : ℕ} {starts prints starts' prints' : List ℕ} {r : Walk} → KeysWalked expected d starts prints r starts' prints' → KeysWalked expected (d + 1) starts prints r starts' prints'
+pub walked_more : {expected : Result ℕ ℕ} {d : ℕ} {starts prints starts' prints' : List ℕ} {r : Result ℕ ℕ} → KeysWalked expected d starts prints r starts' prints' → KeysWalked expected (d + 1) starts prints r starts' prints'
 walked_more v = record { answer = v.answer; starts-kept = kept_more v.starts-kept; prints-kept = kept_more v.prints-kept }
 
-pub noted-as : {s : List ℕ} {at base end : ℕ} {starts prints starts' prints' : List ℕ} {r q : Walk} → r ≡ q → KeyNoted s at base end starts prints r starts' prints' → KeyNoted s at base end starts prints q starts' prints'
-noted-as {s} {at} {base} {end} {starts} {prints} {starts'} {prints'} e n = subst (λ (v : Walk). KeyNoted s at base end starts prints v starts' prints') e n
+pub noted-as : {s : List ℕ} {at base end : ℕ} {starts prints starts' prints' : List ℕ} {r q : Result ℕ ℕ} → r ≡ q → KeyNoted s at base end starts prints r starts' prints' → KeyNoted s at base end starts prints q starts' prints'
+noted-as {s} {at} {base} {end} {starts} {prints} {starts'} {prints'} e n = subst (λ (v : Result ℕ ℕ). KeyNoted s at base end starts prints v starts' prints') e n
 
 -- nothing is noted of entries that are refused, nor of a value that is refused or no map
 
-pub entries-unnoted : {s : List ℕ} {levels n at k : ℕ} {starts : List ℕ} → EntriesNoted s levels n at (Walk.Refused k) starts
+pub entries-unnoted : {s : List ℕ} {levels n at k : ℕ} {starts : List ℕ} → EntriesNoted s levels n at (Err k) starts
 entries-unnoted = record { says = λ e q. let z : ◌≡◌ {A = ℕ} 0 1 = cc in absurd (omega arith) }
 
-pub value-unnoted : {s : List ℕ} {depth at k : ℕ} {starts : List ℕ} → ValueNoted s depth at (Walk.Refused k) starts
+pub value-unnoted : {s : List ℕ} {depth at k : ℕ} {starts : List ℕ} → ValueNoted s depth at (Err k) starts
 value-unnoted = record { says = λ n p e m h q. let z : ◌≡◌ {A = ℕ} 0 1 = cc in absurd (omega arith) }
 
 -- a row of the level itself is not among those that are kept
@@ -243,12 +241,11 @@ kept_set depth i v t l lt = record { long = length-set t i v ∙ l; same = drop-
 -- the loop over a map's entries
 
 -- the bytes of a key by its place and size
-among-key : (s : List ℕ) (at : ℕ) (keys : List (List ℕ)) {a m : ℕ} {t : Bool} → key_at s at ≡ Text.At a m → among (key_here s at) keys ≡ t → among (take m (drop a s)) keys ≡ t
+among-key : (s : List ℕ) (at : ℕ) (keys : List (List ℕ)) {a m : ℕ} {t : Bool} → key_at s at ≡ ok_text a m → among (key_here s at) keys ≡ t → among (take m (drop a s)) keys ≡ t
 among-key s at keys k b = rw k at b
 
 -- the rows of the map's level hold its first keys, and the entries from here on decide
-pub record Going (leads s : List ℕ) (n at depth : ℕ) (starts₀ prints₀ starts prints : List ℕ) (row p : ℕ) : Type 0 where
-  pub table : leads ≡ lead_table
+pub record Going (s : List ℕ) (n at depth : ℕ) (starts₀ prints₀ starts prints : List ℕ) (row p : ℕ) : Type 0 where
   pub levels : depth < nesting_limit
   pub small : length s ≤ file_limit
   pub few : n ≤ entry_limit
@@ -260,14 +257,13 @@ pub record Going (leads s : List ℕ) (n at depth : ℕ) (starts₀ prints₀ st
   pub places : take (row - depth * entry_limit) (drop (depth * entry_limit) starts) ++ keys_from s depth (depth * entry_limit + n - row) p ≡ keys_from s depth n at
   pub goes : entries_at s (value_at s depth) n at ≡ entries_from s (value_at s depth) (depth * entry_limit + n - row) (keys_in s starts (depth * entry_limit) row) p
 
-module _ {leads s : List ℕ} {n at depth : ℕ} where
-  pub going-first : {starts prints : List ℕ} → Free leads s (depth + 1) starts prints → n ≤ entry_limit → Going leads s n at depth starts prints starts prints (depth * entry_limit) at
+module _ {s : List ℕ} {n at depth : ℕ} where
+  pub going-first : {starts prints : List ℕ} → Free s (depth + 1) starts prints → n ≤ entry_limit → Going s n at depth starts prints starts prints (depth * entry_limit) at
   unfolding Stored keys_of
   going-first {starts} {prints} x few =
       let e : depth * entry_limit + n - depth * entry_limit ≡ n = omega arith in
       let z : depth * entry_limit - depth * entry_limit ≡ 0 = omega arith in
       record {
-        table = x.table;
         levels = omega (arith, x.levels);
         small = x.small;
         few = few;
@@ -280,7 +276,7 @@ module _ {leads s : List ℕ} {n at depth : ℕ} where
         goes = rw (e, z) (w.entries-few s (value_at s depth) n at few);
       }
 
-  module _ {starts₀ prints₀ starts prints : List ℕ} {row p : ℕ} (g : Going leads s n at depth starts₀ prints₀ starts prints row p) where
+  module _ {starts₀ prints₀ starts prints : List ℕ} {row p : ℕ} (g : Going s n at depth starts₀ prints₀ starts prints row p) where
     -- the rows hold the places of all keys
     pub going-noted : depth * entry_limit + n ≤ row → MapNoted s depth n at starts
     going-noted le =
@@ -288,7 +284,7 @@ module _ {leads s : List ℕ} {n at depth : ℕ} where
         let z : depth * entry_limit + n - row ≡ 0 = omega arith in
         record { few = g.few; places = sym (append-nil (take n (drop (depth * entry_limit) starts))) ∙ rw (e, z, o.keys_none s depth p) at g.places }
 
-    pub going-last : depth * entry_limit + n ≤ row → KeysWalked (entries_at s (value_at s depth) n at) (depth + 1) starts₀ prints₀ (Walk.End p) starts prints
+    pub going-last : depth * entry_limit + n ≤ row → KeysWalked (entries_at s (value_at s depth) n at) (depth + 1) starts₀ prints₀ (Ok p) starts prints
     going-last le = record {
       answer = sym (g.goes ∙ w.entries_none s (value_at s depth) (depth * entry_limit + n - row) p (keys_in s starts (depth * entry_limit) row) (omega arith));
       starts-kept = g.starts-kept;
@@ -307,7 +303,7 @@ module _ {leads s : List ℕ} {n at depth : ℕ} where
       }
 
       -- a key that is refused
-      pub going-key : {e : ℕ} {starts' prints' : List ℕ} → KeyNoted s p (depth * entry_limit) row starts prints (Walk.Refused e) starts' prints' → KeysWalked (entries_at s (value_at s depth) n at) (depth + 1) starts₀ prints₀ (Walk.Refused e) starts' prints'
+      pub going-key : {e : ℕ} {starts' prints' : List ℕ} → KeyNoted s p (depth * entry_limit) row starts prints (Err e) starts' prints' → KeysWalked (entries_at s (value_at s depth) n at) (depth + 1) starts₀ prints₀ (Err e) starts' prints'
       going-key (refused k) = record {
         answer = sym (g.goes ∙ w.entries-key s (value_at s depth) (depth * entry_limit + n - row) p (keys_in s starts (depth * entry_limit) row) (omega arith) k);
         starts-kept = g.starts-kept;
@@ -320,10 +316,9 @@ module _ {leads s : List ℕ} {n at depth : ℕ} where
       }
 
       -- a key that is new: its value may be walked
-      pub going-free : {q : ℕ} {starts' prints' : List ℕ} → KeyNoted s p (depth * entry_limit) row starts prints (Walk.End q) starts' prints' → Free leads s depth starts' prints'
+      pub going-free : {q : ℕ} {starts' prints' : List ℕ} → KeyNoted s p (depth * entry_limit) row starts prints (Ok q) starts' prints' → Free s depth starts' prints'
       going-free (noted k x b) = record {
         small = g.small;
-        table = g.table;
         levels = omega (arith, g.levels);
         starts-long = length-set starts row _ ∙ g.starts-kept.long;
         prints-long = length-set prints row _ ∙ g.prints-kept.long;
@@ -337,7 +332,7 @@ module _ {leads s : List ℕ} {n at depth : ℕ} where
       kept-past {t₀} {t} {t'} v a b = kept_then a (kept_then (kept_set depth row v t a.long row_below) (kept_more b))
 
       -- its value is refused
-      pub going-value : {q e : ℕ} {starts' prints' starts'' prints'' : List ℕ} → KeyNoted s p (depth * entry_limit) row starts prints (Walk.End q) starts' prints' → KeysWalked (value_at s depth q) depth starts' prints' (Walk.Refused e) starts'' prints'' → KeysWalked (entries_at s (value_at s depth) n at) (depth + 1) starts₀ prints₀ (Walk.Refused e) starts'' prints''
+      pub going-value : {q e : ℕ} {starts' prints' starts'' prints'' : List ℕ} → KeyNoted s p (depth * entry_limit) row starts prints (Ok q) starts' prints' → KeysWalked (value_at s depth q) depth starts' prints' (Err e) starts'' prints'' → KeysWalked (entries_at s (value_at s depth) n at) (depth + 1) starts₀ prints₀ (Err e) starts'' prints''
       going-value (noted k x b) v = record {
         answer = sym (g.goes ∙ w.entries-value s (value_at s depth) (depth * entry_limit + n - row) p (keys_in s starts (depth * entry_limit) row) (omega arith) k (among-key s p (keys_in s starts (depth * entry_limit) row) k b) (sym v.answer));
         starts-kept = kept-past _ g.starts-kept v.starts-kept;
@@ -345,13 +340,12 @@ module _ {leads s : List ℕ} {n at depth : ℕ} where
       }
 
       -- its value ends: one entry more is done
-      pub going_next : {q e : ℕ} {starts' prints' starts'' prints'' : List ℕ} → KeyNoted s p (depth * entry_limit) row starts prints (Walk.End q) starts' prints' → KeysWalked (value_at s depth q) depth starts' prints' (Walk.End e) starts'' prints'' → Going leads s n at depth starts₀ prints₀ starts'' prints'' (row + 1) e
+      pub going_next : {q e : ℕ} {starts' prints' starts'' prints'' : List ℕ} → KeyNoted s p (depth * entry_limit) row starts prints (Ok q) starts' prints' → KeysWalked (value_at s depth q) depth starts' prints' (Ok e) starts'' prints'' → Going s n at depth starts₀ prints₀ starts'' prints'' (row + 1) e
       going_next {e = e} (noted k x b) v =
           let d : depth * entry_limit + n - row - 1 ≡ depth * entry_limit + n - (row + 1) = omega arith in
           let left : List ℕ = keys_from s depth (depth * entry_limit + n - (row + 1)) e in
           let one : keys_from s depth (depth * entry_limit + n - row) p ≡ p ∷ left = o.keys-next s depth (depth * entry_limit + n - row) p (omega arith) k (sym v.answer) ∙ ap (λ (j : ℕ). p ∷ keys_from s depth j e) d in
           record {
-            table = g.table;
             levels = g.levels;
             small = g.small;
             few = g.few;

@@ -4,9 +4,8 @@
 use Rattle.std.specs.Prelude.{◌≡◌, ℕ, zero, suc, ◌+◌, ◌≤◌, max, ◌⊎◌, List, [], ◌++◌, length, take, drop, ℤ, slice_index_or, refl}
 use Rattle.std.proofs.Common.{sym, ap, ◌∙◌, append_assoc, append-nil, inl, inr, arith, zero-add, take_at, drop_at}
 use Rattle.heads.specs.Lead.{more_of}
-use Rattle.heads.specs.Head.{HeadOf, kind_at, head_at}
+use Rattle.heads.specs.Head.{HeadOf, kind_at, head_at, some_head}
 use Rattle.heads.specs.declared.Kind.{Kind}
-use Rattle.heads.specs.declared.Head.{Head}
 use Rattle.heads.proofs.Laws.Span.{starts}
 use Rattle.heads.proofs.Laws.Head.{Told, head-told}
 use Rattle.numbers.specs.BigEndian.{bytes_of}
@@ -19,7 +18,7 @@ use Rattle.messagepack.specs.Read.{read, read_all, read_entries, read_kind, read
 record First (k : Kind) (n b : ℕ) (s t : List ℕ) : Type 0 where
   kind : kind_at s 0 ≡ k
   p : ℕ
-  head : head_at s 0 ≡ Head.At n p
+  head : head_at s 0 ≡ some_head n p
   rest : drop p s ≡ t
   lead : slice_index_or s 0 0 ≡ b
 

@@ -10,11 +10,11 @@ returns-then-file-at c = other
 pub returns-then-b-lt128 : goal.returns-then-b-lt128
 returns-then-b-lt128 c = low-ends _ _ c.if-file-at.false c.if-b-lt128.true
 
-pub returns-in_default : goal.returns-in_default
-returns-in_default c = other
+pub returns-in_err-text : goal.returns-in_err-text
+returns-in_err-text c = rw c.from_residual.ensures other
 
 pub overflow_add-result-2 : goal.overflow_add-result-2
-overflow_add-result-2 c = omega (arith, short-inside c.short_at.ensures c.in-At.is)
+overflow_add-result-2 c = omega (arith, short-inside c.short_at.ensures c.in_ok-text.was)
 
 pub returns : goal.returns
-returns c = short-ends c.short_at.ensures c.in-At.is
+returns c = short-ends c.short_at.ensures c.in_ok-text.was

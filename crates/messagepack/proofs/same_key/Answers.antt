@@ -5,31 +5,29 @@ use Rattle.messagepack.proofs.Laws.Tables.{there-read, there-head}
 use Rattle.messagepack.proofs.same_key.Goals as goal
 
 pub returns-in_default : goal.returns-in_default
-returns-in_default c = absurd (there-head _ c.requires.1 (sym (c.head_at.ensures.rule c.requires.0) ∙ c.in_default.is))
+returns-in_default c = absurd (there-head _ c.requires.0 (sym (c.head_at.ensures.rule) ∙ c.in_default.is))
 
 pub returns-in_default-head_at : goal.returns-in_default-head_at
-returns-in_default-head_at c = absurd (there-head _ c.requires.2 (sym (c.head_at-2.ensures.rule c.requires.0) ∙ c.in_default-head_at.is))
+returns-in_default-head_at c = absurd (there-head _ c.requires.1 (sym (c.head_at-2.ensures.rule) ∙ c.in_default-head_at.is))
 
 pub overflow_add-a : goal.overflow_add-a
-overflow_add-a c = omega (arith, (there-read c.requires.1 (sym (c.head_at.ensures.rule c.requires.0) ∙ c.in-At.is)).0)
+overflow_add-a c = omega (arith, (there-read c.requires.0 (sym (c.head_at.ensures.rule) ∙ c.in-Some.is)).0)
 
 pub slice_bounds-same_bytes-end : goal.slice_bounds-same_bytes-end
-slice_bounds-same_bytes-end c = (there-read c.requires.1 (sym (c.head_at.ensures.rule c.requires.0) ∙ c.in-At.is)).0
+slice_bounds-same_bytes-end c = (there-read c.requires.0 (sym (c.head_at.ensures.rule) ∙ c.in-Some.is)).0
 
 pub overflow_add-b : goal.overflow_add-b
-overflow_add-b c = omega (arith, (there-read c.requires.2 (sym (c.head_at-2.ensures.rule c.requires.0) ∙ c.in-At-head_at.is)).0)
+overflow_add-b c = omega (arith, (there-read c.requires.1 (sym (c.head_at-2.ensures.rule) ∙ c.in-Some-head_at.is)).0)
 
 pub slice_bounds-same_bytes-end-2 : goal.slice_bounds-same_bytes-end-2
-slice_bounds-same_bytes-end-2 c = (there-read c.requires.2 (sym (c.head_at-2.ensures.rule c.requires.0) ∙ c.in-At-head_at.is)).0
+slice_bounds-same_bytes-end-2 c = (there-read c.requires.1 (sym (c.head_at-2.ensures.rule) ∙ c.in-Some-head_at.is)).0
 
 pub returns : goal.returns
 returns c =
-    let x = there-read c.requires.1 (sym (c.head_at.ensures.rule c.requires.0) ∙ c.in-At.is) in
-    let y = there-read c.requires.2 (sym (c.head_at-2.ensures.rule c.requires.0) ∙ c.in-At-head_at.is) in
-    let m = c.in-At.m in
-    let a = c.in-At.a in
-    let n = c.in-At-head_at.n in
-    let b = c.in-At-head_at.b in
-    let i : a + m - a ≡ m = omega arith in
-    let j : b + n - b ≡ n = omega arith in
+    let x = there-read c.requires.0 (sym (c.head_at.ensures.rule) ∙ c.in-Some.is) in
+    let y = there-read c.requires.1 (sym (c.head_at-2.ensures.rule) ∙ c.in-Some-head_at.is) in
+    let a = c.in-Some.a in
+    let b = c.in-Some-head_at.b in
+    let i : a.end + a.number - a.end ≡ a.number = omega arith in
+    let j : b.end + b.number - b.end ≡ b.number = omega arith in
     rw (i, j) at c.same_bytes.ensures ∙ ap₂ equal (sym x.1) (sym y.1)

@@ -8,6 +8,3 @@ use Rattle.messagepack.proofs.seen.Given as goal
 abbrev pub invariant-loop-i : goal.invariant-loop-i
 invariant-loop-i l =
     (l.base ≤ l.i) × (l.i ≤ l.end) × (among (key_here l.file l.at) (keys_in l.file l.starts l.base l.end) ≡ among (key_here l.file l.at) (keys_in l.file l.starts l.base l.i))
-
-abbrev pub decreases-loop-i : goal.decreases-loop-i
-decreases-loop-i l = l.i

@@ -8,4 +8,4 @@ use Rattle.numbers.proofs.read_i16.Goals as goal
 
 pub returns : goal.returns
 unfolding signed_at
-returns c = to_z-of_z {w = w16} (record { sfits = c.to_i16.type_inv }) ∙ c.to_i16.ensures ∙ ap (to_z w16) c.read_u16.ensures
+returns c = to_z-of_z {w = w16} (record { sfits = c.cast_signed.type_inv }) ∙ c.cast_signed.ensures ∙ ap (to_z w16) c.read_u16.ensures

@@ -8,4 +8,4 @@ use Rattle.numbers.proofs.read_i32.Goals as goal
 
 pub returns : goal.returns
 unfolding signed_at
-returns c = to_z-of_z {w = w32} (record { sfits = c.to_i32.type_inv }) ∙ c.to_i32.ensures ∙ ap (to_z w32) c.read_u32.ensures
+returns c = to_z-of_z {w = w32} (record { sfits = c.cast_signed.type_inv }) ∙ c.cast_signed.ensures ∙ ap (to_z w32) c.read_u32.ensures

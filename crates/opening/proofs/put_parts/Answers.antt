@@ -15,7 +15,7 @@ loop-i-preserved c =
     let a = c.args in
     let l = c.loop-i in
     let t : l.i < field_count = c.loop-i-test.true in
-    let n = c.requires.1 in
+    let n = c.requires in
     let e = c.part_at-part.ensures in (
       omega arith,
       length-set l.starts l.i _ ∙ l.invariant.1,

@@ -1,7 +1,7 @@
 -- The first i elements of each buffer are those of the first i fields, and from i on nothing has changed.
 use mathlib.Core.Path.{◌≡◌}
 use mathlib.Core.List.{◌++◌}
-use Prim.Native.Nat.{◌-◌, ◌≤◌}
+use Prim.Native.Nat.{◌≤◌}
 use lib.ListN.{length, take, drop}
 use Rattle.fields.specs.Table.{field_count}
 use Rattle.opening.specs.Opening.{starts_of, lengths_of}
@@ -14,6 +14,3 @@ invariant-loop-i l =
     × (length l.lengths ≡ length l.initial.lengths)
     × (l.starts ≡ take l.i (starts_of l.file) ++ drop l.i l.initial.starts)
     × (l.lengths ≡ take l.i (lengths_of l.file) ++ drop l.i l.initial.lengths)
-
-abbrev pub decreases-loop-i : goal.decreases-loop-i
-decreases-loop-i l = field_count - l.i

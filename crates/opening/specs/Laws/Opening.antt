@@ -1,6 +1,6 @@
 -- A file opened: the answer by what is read, what the buffers hold, and how both go with the verdict, the set of fields and the views.
 -- Assumes nothing.
-use Rattle.std.specs.Prelude.{◌≡◌, refl, false, ◌&&◌, List, [], ◌∷◌, map, ℕ, zero, suc, ◌≤◌, ◌<◌, leb, length, get_or}
+use Rattle.std.specs.Prelude.{◌≡◌, refl, Ok, Err, false, ◌&&◌, List, [], ◌∷◌, map, ℕ, zero, suc, ◌≤◌, ◌<◌, leb, length, get_or}
 use Rattle.std.proofs.Common.{sym, ap, ◌∙◌, arith, eq-eqb, ne_eqb, le-leb}
 use Rattle.std.proofs.Math.Path.{ap₂}
 use Rattle.std.proofs.lemmas.List.{length-map}
@@ -15,7 +15,6 @@ use Rattle.fields.specs.Table.{named, field_count}
 use Rattle.fields.specs.Fields.{names_of, field_names, presence_of}
 use Rattle.structure.specs.Accepted.{Accepted, entries_number, verdict_of}
 use Rattle.structure.proofs.Laws.Accepted.{accepted-exactly, container-document, one-document, verdict-container, verdict-document}
-use Rattle.opening.specs.declared.Opening.{Opening}
 use Rattle.opening.specs.Opening.{fields_room, part_start, part_length, starts_of, lengths_of, opening_by, opening_of}
 use Rattle.opening.specs.Steps.{span_place, SpansSay}
 
@@ -65,7 +64,7 @@ module _ {s places ends : List ℕ} (h : SpansSay s places ends) (i : ℕ) (lt :
 -- The answer
 
 -- by the container's number
-pub opening-container : (s : List ℕ) (a b n : ℕ) → (n ≡ accepted → ⊥) → n ≡ container_number s → Opening.Refused n ≡ opening_of s a b
+pub opening-container : (s : List ℕ) (a b n : ℕ) → (n ≡ accepted → ⊥) → n ≡ container_number s → Err n ≡ opening_of s a b
 unfolding opening_of
 opening-container s a b n h q =
     let e : n ≡ verdict_of s = verdict-container s n h q in
@@ -77,23 +76,23 @@ module _ {s : List ℕ} (c : Container s) (z : container_number s ≡ accepted) 
   unfolding opening_of
   by-document = ap₂ (λ (m : ℕ) (es : Entries). opening_by m es a b) (verdict-document s n c z q) (ap entries_of (sym (container-document c)))
 
-  pub opening-document : (n ≡ accepted → ⊥) → Opening.Refused n ≡ opening_of s a b
+  pub opening-document : (n ≡ accepted → ⊥) → Err n ≡ opening_of s a b
   opening-document h = rw (ne_eqb n accepted h) at by-document
 
-  pub opening-short : n ≡ accepted → (leb field_count a && leb field_count b) ≡ false → Opening.Refused buffer_too_small ≡ opening_of s a b
+  pub opening-short : n ≡ accepted → (leb field_count a && leb field_count b) ≡ false → Err buffer_too_small ≡ opening_of s a b
   opening-short e f = rw (eq-eqb n accepted e, f) at by-document
 
-  pub opening-accepted : n ≡ accepted → field_count ≤ a → field_count ≤ b → {set : ℕ} → set ≡ presence_of c.entries → Opening.Presence set ≡ opening_of s a b
-  opening-accepted e f g p = ap Opening.Presence p ∙ (rw (eq-eqb n accepted e, le-leb field_count a f, le-leb field_count b g) at by-document)
+  pub opening-accepted : n ≡ accepted → field_count ≤ a → field_count ≤ b → {set : ℕ} → set ≡ presence_of c.entries → Ok set ≡ opening_of s a b
+  opening-accepted e f g p = ap Ok p ∙ (rw (eq-eqb n accepted e, le-leb field_count a f, le-leb field_count b g) at by-document)
 
 -- by the verdict: a refused file is refused with its number, whatever the room
 
-pub opening-refused : (s : List ℕ) (a b : ℕ) → (verdict_of s ≡ accepted → ⊥) → opening_of s a b ≡ Opening.Refused (verdict_of s)
+pub opening-refused : (s : List ℕ) (a b : ℕ) → (verdict_of s ≡ accepted → ⊥) → opening_of s a b ≡ Err (verdict_of s)
 unfolding opening_of
 opening-refused s a b h = rw (ne_eqb (verdict_of s) accepted h)
 
 -- and an accepted one is opened with the set of its fields, where there is room
-pub opening-present : {s : List ℕ} → Bytes s → (f : Accepted s) (a b : ℕ) → field_count ≤ a → field_count ≤ b → opening_of s a b ≡ Opening.Presence (presence_of f.entries)
+pub opening-present : {s : List ℕ} → Bytes s → (f : Accepted s) (a b : ℕ) → field_count ≤ a → field_count ≤ b → opening_of s a b ≡ Ok (presence_of f.entries)
 unfolding opening_of
 opening-present {s} bytes f a b k l =
     rw ((accepted-exactly s bytes).1 f, le-leb field_count a k, le-leb field_count b l, one-document f)

@@ -6,8 +6,8 @@ use Rattle.payloads.proofs.add_times.Goals as goal
 pub returns : goal.returns
 returns c =
     let k = c in
-    let a : c.to_u32-a.result ≡ of_z w32 k.args.sum = c.to_u32-a.ensures ∙ ap (of_z w32) (to_z-of_z {w = w32} k.ranges.sum) in
-    let d : c.to_u32-d.result ≡ of_z w32 k.args.value = c.to_u32-d.ensures ∙ ap (of_z w32) (to_z-of_z {w = w32} k.ranges.value) in
-    let e : (c.to_u32-a.result + k.args.count % 4294967296 * c.to_u32-d.result) % 4294967296 ≡ (of_z w32 k.args.sum + k.args.count * of_z w32 k.args.value) % 2 ^ 32 =
+    let a : c.from-a.result ≡ of_z w32 k.args.sum = c.from-a.ensures ∙ c.cast_unsigned.ensures ∙ ap (of_z w32) (to_z-of_z {w = w32} k.ranges.sum) in
+    let d : c.from-d.result ≡ of_z w32 k.args.value = c.from-d.ensures ∙ c.cast_unsigned-2.ensures ∙ ap (of_z w32) (to_z-of_z {w = w32} k.ranges.value) in
+    let e : (c.from-a.result + k.args.count % 4294967296 * c.from-d.result) % 4294967296 ≡ (of_z w32 k.args.sum + k.args.count * of_z w32 k.args.value) % 2 ^ 32 =
     rw (a, d) (times_mod (of_z w32 k.args.sum) (of_z w32 k.args.value) k.args.count) in
-    to_z-of_z {w = w32} (record { sfits = c.to_i32.type_inv }) ∙ c.to_i32.ensures ∙ ap (to_z w32) e
+    to_z-of_z {w = w32} (record { sfits = c.cast_signed.type_inv }) ∙ c.cast_signed.ensures ∙ ap (to_z w32) e

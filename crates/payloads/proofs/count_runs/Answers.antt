@@ -1,10 +1,10 @@
 -- What is kept of the runs before the place (`kept_run`) says the refusal at the end (`kept-end`).
+use Rattle.std.specs.Prelude.{Ok, Err}
 use Rattle.std.proofs.Common.{◌≡◌, Bool, true, false, cond, not, ◌&&◌, ◌||◌, eqb, refl, ap, ◌∙◌, arith}
 use Rattle.refusal.specs.Table.{length_differs}
 use Rattle.steps.specs.declared.Form.TheVariants.{Runs}
 use Rattle.steps.specs.Payload.{read_in}
 use Rattle.payloads.specs.Exact.{exact}
-use Rattle.payloads.specs.declared.Outcome.TheVariants.{Fine, Refused}
 use Rattle.payloads.specs.Items.{outcome_refusal}
 use Rattle.payloads.specs.Laws.Items.{item-read}
 use Rattle.payloads.specs.Laws.Scan.{kept-start, kept_run, kept-wrong, kept-end}
@@ -12,7 +12,7 @@ use Rattle.payloads.specs.Laws.Refusal.{outcome-scan}
 use Rattle.payloads.proofs.count_runs.Goals as goal
 
 -- whether the results are exact is not told
-same : (b ok : Bool) → outcome_refusal (cond b (Refused length_differs) (Fine false)) ≡ outcome_refusal (cond b (Refused length_differs) (Fine ok))
+same : (b ok : Bool) → outcome_refusal (cond b (Err length_differs) (Ok false)) ≡ outcome_refusal (cond b (Err length_differs) (Ok ok))
 same true ok = refl
 same false ok = refl
 
@@ -27,7 +27,7 @@ loop-count-preserved c =
     let a = c.args in
     let p = c.loop-count in
     let g = item-read (Runs c.args.range) c.args.payload.now c.loop-count.at c.run_item.ensures c.in-Run.is in
-    (g.1, p.invariant.1 && exact c.in-Run.field-0, rw (c.less-left.ensures, c.either-over.ensures) (kept_run a.range false a.length a.payload.now p.at p.left p.over p.invariant.1 p.invariant.2 c.in-Run.field-0 c.in-Run.count c.in-Run.next g.2 g.3))
+    (g.1, p.invariant.1 && exact c.in-Run.field-0, rw c.saturating_sub-left.ensures (kept_run a.range false a.length a.payload.now p.at p.left p.over p.invariant.1 p.invariant.2 c.in-Run.field-0 c.in-Run.count c.in-Run.next g.2 g.3))
 
 pub returns-in-Wrong : goal.returns-in-Wrong
 returns-in-Wrong c =

@@ -8,16 +8,16 @@ use Rattle.payloads.specs.Laws.Limits.{count-within, rows-judged}
 use Rattle.payloads.specs.Laws.Small.{few-judged}
 use Rattle.payloads.proofs.has_short_rows.Goals as goal
 
-pub returns-then-less-exact_limits : goal.returns-then-less-exact_limits
-returns-then-less-exact_limits c e r =
+pub returns-then-saturating_sub-exact_limits : goal.returns-then-saturating_sub-exact_limits
+returns-then-saturating_sub-exact_limits c e r =
     let a = c.args in
-    let l = ap (λ (n : ℕ). n - a.length) (sym c.count_of-count.ensures) ∙ sym c.less.ensures in
+    let l = ap (λ (n : ℕ). n - a.length) (sym c.count_of-count.ensures) ∙ sym c.saturating_sub.ensures in
     let k = c.exact_limits.ensures in
-    let h : count_in (packed_size a.two) a.payload.now - a.length ≤ exact_limits a.two = omega (arith, c.if-less-exact_limits.true) in
+    let h : count_in (packed_size a.two) a.payload.now - a.length ≤ exact_limits a.two = omega (arith, c.if-saturating_sub-exact_limits.true) in
     few-judged a.two _ a.payload.now a.length refl r h
 
-pub returns : goal.returns
-returns c e r =
+pub returns-else-saturating_sub-exact_limits : goal.returns-else-saturating_sub-exact_limits
+returns-else-saturating_sub-exact_limits c e r =
     let a = c.args in
     let w = count-within (packed_size a.two) (length a.payload.now) in
     let h : size_of (packed_size a.two) * c.count_of-count.result ≤ length a.payload.now = rw c.count_of-count.ensures w.0 in

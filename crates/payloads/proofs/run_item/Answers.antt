@@ -41,7 +41,7 @@ returns-then-is_in c =
     let t = ap (λ (z : ℤ). lt_z z (pos 1)) (sym q) ∙ c.if-count-lt1.false in
     let h : in_range a.range (signed_at w32 a.payload.now a.at) ≡ true = ap (in_range a.range) (sym v) ∙ sym c.is_in.ensures ∙ c.if-is_in.true in
     let b = count_bits (signed_at w32 a.payload.now (a.at + 4)) t in
-    let m : c.to_u32.result ≡ nat_abs (signed_at w32 a.payload.now (a.at + 4)) = c.to_u32.ensures ∙ ap (of_z w32) q ∙ b.0 in
+    let m : c.cast_unsigned.result ≡ nat_abs (signed_at w32 a.payload.now (a.at + 4)) = c.cast_unsigned.ensures ∙ ap (of_z w32) q ∙ b.0 in
     rw (m, v) (sym (run-item a.range a.payload.now a.at (omega arith) ∙ rw (t, h)))
 
 pub returns : goal.returns

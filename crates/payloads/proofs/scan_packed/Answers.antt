@@ -34,8 +34,8 @@ loop-i-preserved c =
     let z = to_z-of_z {w = w32} {z = c.in-Done.s} (record { sfits = omega arith }) in
     let y = to_z-of_z {w = w32} (record { sfits = c.next_result-sum.type_inv }) in
     let q = y ∙ c.next_result-sum.ensures ∙ ap (advance a.delta (to_z w32 p.sum-bits)) z in
-    let b = c.both-exact.ensures ∙ ap (λ (t : Bool). p.exact && t) c.is_exact.ensures in
-    (omega arith, omega (arith, p.invariant.1), rw (e, b) (unpacked-done a.size a.delta a.length a.payload.now p.i (to_z w32 p.part-bits) p.begun p.count (to_z w32 p.sum-bits) p.exact p.invariant.2 (room c.before.before.before.before.before) c.in-Done.s (to_z w32 (of_z w32 c.next_result-sum.result)) (sym (c.unpack_one.ensures ∙ ap (turn_of a.size (to_z w32 p.part-bits)) (to_z-of_z {w = w32} (record { sfits = c.number_at-number.type_inv }) ∙ c.number_at-number.ensures)) ∙ c.in-Done.is) q))
+    let b = ap (λ (t : Bool). p.exact && t) c.is_exact-exact.ensures in
+    (omega arith, omega (arith, p.invariant.1), rw (e, b) (unpacked-done a.size a.delta a.length a.payload.now p.i (to_z w32 p.part-bits) p.begun p.count (to_z w32 p.sum-bits) p.exact p.invariant.2 (room c.before.before.before.before) c.in-Done.s (to_z w32 (of_z w32 c.next_result-sum.result)) (sym (c.unpack_one.ensures ∙ ap (turn_of a.size (to_z w32 p.part-bits)) (to_z-of_z {w = w32} (record { sfits = c.number_at-number.type_inv }) ∙ c.number_at-number.ensures)) ∙ c.in-Done.is) q))
 
 pub returns-in-Wrong : goal.returns-in-Wrong
 returns-in-Wrong c =

@@ -1,6 +1,6 @@
 -- The count of plain numbers is the payload's size (`plain_other`, `plain-right`).
+use Rattle.std.specs.Prelude.{Ok}
 use Rattle.std.proofs.Common.{ℕ, ◌/◌, length, sym, ap, ◌∙◌}
-use Rattle.payloads.specs.declared.Outcome.TheVariants.{Fine}
 use Rattle.payloads.specs.Laws.Plain.{plain_other, plain-right}
 use Rattle.payloads.proofs.scan_plain.Goals as goal
 
@@ -13,4 +13,4 @@ pub returns : goal.returns
 returns c =
     let a = c.args in
     let l = sym (ap (λ (k : ℕ). length a.payload.now / k) c.bytes-k.ensures) ∙ c.if-payload-k.false in
-    ap Fine c.judges_exact.ensures ∙ sym (plain-right a.size a.delta a.payload.now a.length l)
+    ap Ok c.judges_exact.ensures ∙ sym (plain-right a.size a.delta a.payload.now a.length l)

@@ -18,8 +18,8 @@ loop-value-preserved c =
     let p = c.loop-value in
     let g = item-read (Runs c.args.range) c.args.payload.now c.loop-value.at c.run_item.ensures c.in-Run.is in
     let v = to_z-of_z {w = w32} {z = c.in-Run.value} (record { sfits = omega arith }) in
-    let e = c.both-exact.ensures ∙ ap (λ (t : Bool). p.exact && t) (c.is_exact.ensures ∙ ap exact v) in
-    (g.1, rw (c.less-left.ensures, c.either-over.ensures, e) (kept_run a.range a.delta a.length a.payload.now p.at p.left p.over p.exact p.invariant.1 c.in-Run.value c.in-Run.count c.in-Run.next g.2 g.3))
+    let e = ap (λ (t : Bool). p.exact && t) (c.is_exact-exact.ensures ∙ ap exact v) in
+    (g.1, rw (c.saturating_sub-left.ensures, e) (kept_run a.range a.delta a.length a.payload.now p.at p.left p.over p.exact p.invariant.1 c.in-Run.value c.in-Run.count c.in-Run.next g.2 g.3))
 
 pub returns-in-Wrong : goal.returns-in-Wrong
 returns-in-Wrong c =

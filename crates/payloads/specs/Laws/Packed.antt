@@ -1,5 +1,5 @@
 -- Laws of scans and of writing of packed numbers, number by number. Assumes nothing.
-use Rattle.std.specs.Prelude.{◌≡◌, ℕ, ◌+◌, ◌-◌, ◌<◌, ◌≤◌, Bool, true, false, cond, ◌&&◌, List, [], ◌∷◌, ◌++◌, length, take, drop, ℤ, pos, ◌≢◌, slice_set, refl}
+use Rattle.std.specs.Prelude.{Ok, Err, ◌≡◌, ℕ, ◌+◌, ◌-◌, ◌<◌, ◌≤◌, Bool, true, false, cond, ◌&&◌, List, [], ◌∷◌, ◌++◌, length, take, drop, ℤ, pos, ◌≢◌, slice_set, refl}
 use Rattle.std.proofs.Common.{sym, ap, subst, ◌∙◌, append-nil, append_assoc, add-zero, arith, length-append, eq-eqb, ne_eqb}
 use Rattle.std.proofs.Math.Option.{Option, none, some, map}
 use Rattle.refusal.specs.Table.{number_not_allowed, length_differs}
@@ -14,7 +14,6 @@ use Rattle.steps.specs.Steps.{turn_of}
 use Rattle.steps.proofs.Laws.Allowed.{and-true}
 use Rattle.steps.specs.Payload.{read_in}
 use Rattle.steps.proofs.Laws.Delta.{results-one, last_one}
-use Rattle.payloads.specs.declared.Outcome.TheVariants.{Fine, Refused}
 use Rattle.payloads.specs.Exact.{exact, all_exact}
 use Rattle.payloads.specs.Scan.{scan_of}
 use Rattle.payloads.specs.Results.{HasRoom, Wrote}
@@ -70,7 +69,7 @@ module _ (z : Size) (d : Bool) (n : ℕ) (s : List ℕ) (at : ℕ) (part : ℤ) 
         )
 
     -- a sum outside 32 bits
-    pub unpacked-wrong : turn_of z part (signed_at (width_of z) s at) ≡ Wrong → Refused number_not_allowed ≡ scan_of (Packed z) d n (read_in (Packed z) s)
+    pub unpacked-wrong : turn_of z part (signed_at (width_of z) s at) ≡ Wrong → Err number_not_allowed ≡ scan_of (Packed z) d n (read_in (Packed z) s)
     unpacked-wrong e = sym (ap (scan_of (Packed z) d n) (turned Wrong e))
 
   module _ (h : length s - at < size_of z) where
@@ -78,7 +77,7 @@ module _ (z : Size) (d : Bool) (n : ℕ) (s : List ℕ) (at : ℕ) (part : ℤ) 
     left = from_end z part begun s at h
 
     -- an unfinished result
-    pub unpacked-unfinished : begun ≡ true → Refused number_not_allowed ≡ scan_of (Packed z) d n (read_in (Packed z) s)
+    pub unpacked-unfinished : begun ≡ true → Err number_not_allowed ≡ scan_of (Packed z) d n (read_in (Packed z) s)
     unpacked-unfinished e =
         let a = w.1 ∙ ap (map (λ (l : List ℤ). w.0 ++ l)) (left ∙ ap (λ (b : Bool). cond b none (some [])) e) in
         sym (ap (scan_of (Packed z) d n) a)
@@ -88,13 +87,13 @@ module _ (z : Size) (d : Bool) (n : ℕ) (s : List ℕ) (at : ℕ) (part : ℤ) 
       unpacked-whole = w.1 ∙ ap (map (λ (l : List ℤ). w.0 ++ l)) (left ∙ ap (λ (b : Bool). cond b none (some [])) e) ∙ ap some (append-nil w.0)
 
       -- too many results, or too few
-      pub unpacked-other : (count ≢ n) → Refused length_differs ≡ scan_of (Packed z) d n (read_in (Packed z) s)
+      pub unpacked-other : (count ≢ n) → Err length_differs ≡ scan_of (Packed z) d n (read_in (Packed z) s)
       unpacked-other q = sym (ap (scan_of (Packed z) d n) unpacked-whole ∙ rw (ne_eqb (length w.0) n (λ x. q (w.2 ∙ x))))
 
       -- as many as there should be
-      pub unpacked-all : count ≡ n → Fine ok ≡ scan_of (Packed z) d n (read_in (Packed z) s)
+      pub unpacked-all : count ≡ n → Ok ok ≡ scan_of (Packed z) d n (read_in (Packed z) s)
       unpacked-all q =
-          sym (ap (scan_of (Packed z) d n) unpacked-whole ∙ rw (eq-eqb (length w.0) n (sym w.2 ∙ q)) (sym (ap Fine w.4)))
+          sym (ap (scan_of (Packed z) d n) unpacked-whole ∙ rw (eq-eqb (length w.0) n (sym w.2 ∙ q)) (sym (ap Ok w.4)))
 
 -- Writing
 

@@ -1,5 +1,5 @@
 -- Laws of plain numbers: their count is the payload's size, each stands at its place, and is written there. Assumes nothing.
-use Rattle.std.specs.Prelude.{◌≡◌, ℕ, zero, suc, ◌+◌, ◌*◌, ◌/◌, ◌<◌, ◌≤◌, Bool, true, false, ◌&&◌, List, [], ◌∷◌, ◌++◌, map, length, get_or, take, drop, ℤ, pos, ◌≢◌, slice_index_or, slice_set, refl}
+use Rattle.std.specs.Prelude.{Ok, Err, ◌≡◌, ℕ, zero, suc, ◌+◌, ◌*◌, ◌/◌, ◌<◌, ◌≤◌, Bool, true, false, ◌&&◌, List, [], ◌∷◌, ◌++◌, map, length, get_or, take, drop, ℤ, pos, ◌≢◌, slice_index_or, slice_set, refl}
 use Rattle.std.proofs.Common.{sym, ap, ◌∙◌, add-zero, div-mul-le_self, mul-le-mul_right, arith, to_z, eq-eqb, ne_eqb}
 use Rattle.std.proofs.Math.Bool.{and-eq-true_iff}
 use Rattle.std.proofs.lemmas.List.{length-map}
@@ -17,7 +17,6 @@ use Rattle.steps.specs.Numbers.{numbers_in}
 use Rattle.steps.proofs.Laws.Numbers.{numbers-step, length-numbers}
 use Rattle.steps.proofs.Laws.Delta.{results-plain}
 use Rattle.steps.specs.Payload.{read_in}
-use Rattle.payloads.specs.declared.Outcome.TheVariants.{Fine, Refused}
 use Rattle.payloads.specs.Exact.{exact, all_exact}
 use Rattle.payloads.specs.Results.{HasResults, Wrote, ResultsExact}
 use Rattle.payloads.specs.Scan.{judges_exact, scan_of}
@@ -66,11 +65,11 @@ plain-judged Two true s = refl
 plain-judged Four d s = refl
 
 module _ (z : Size) (d : Bool) (s : List ℕ) (n : ℕ) where
-  pub plain_other : (length s / size_of z ≢ n) → scan_of (Plain z) d n (read_in (Plain z) s) ≡ Refused length_differs
+  pub plain_other : (length s / size_of z ≢ n) → scan_of (Plain z) d n (read_in (Plain z) s) ≡ Err length_differs
   unfolding read_in
   plain_other h = rw (ne_eqb (length (numbers_in z s)) n (λ e. h (sym (length-numbers z s) ∙ e)))
 
-  pub plain-right : length s / size_of z ≡ n → scan_of (Plain z) d n (read_in (Plain z) s) ≡ Fine (judges_exact (Plain z) d)
+  pub plain-right : length s / size_of z ≡ n → scan_of (Plain z) d n (read_in (Plain z) s) ≡ Ok (judges_exact (Plain z) d)
   unfolding read_in
   plain-right e = rw (eq-eqb (length (numbers_in z s)) n (length-numbers z s ∙ e), plain-judged z d s)
 

@@ -1,5 +1,5 @@
 -- Laws of the refusal of a payload: a scan says the same, and names are judged by their bytes. Assumes nothing.
-use Rattle.std.specs.Prelude.{◌≡◌, ℕ, ◌+◌, ◌*◌, ◌/◌, ◌%◌, ◌<◌, Bool, true, false, cond, ◌&&◌, List, map, length, ℤ, pos, ◌==◌, ◌≢◌, nat_eq, refl}
+use Rattle.std.specs.Prelude.{Ok, Err, ◌≡◌, ℕ, ◌+◌, ◌*◌, ◌/◌, ◌%◌, ◌<◌, Bool, true, false, cond, ◌&&◌, List, map, length, ℤ, pos, ◌==◌, ◌≢◌, nat_eq, refl}
 use Rattle.std.proofs.Common.{sym, ap, ap₂, ◌∙◌, add-zero, mul-zero, div-add-mod', mul-div_cancel, arith, eq-eqb, ne_eqb, eqb-true}
 use Rattle.std.proofs.Math.Option.{Option, none, some}
 use Rattle.std.proofs.Math.Nat.{mul-mod_left}
@@ -17,7 +17,6 @@ use Rattle.steps.specs.Delta.{sums_if}
 use Rattle.steps.specs.Payload.{all_in, padded, allowed, only_if, read_in, held_in}
 use Rattle.steps.proofs.Laws.Names.{names-length, allowed-bytes}
 use Rattle.columns.specs.Table.{elements, is_names}
-use Rattle.payloads.specs.declared.Outcome.TheVariants.{Fine, Refused}
 use Rattle.payloads.specs.Exact.{all_exact}
 use Rattle.payloads.specs.Items.{outcome_refusal}
 use Rattle.payloads.specs.Results.{ResultsJudged}
@@ -30,7 +29,7 @@ module _ (f : Form) (d : Bool) (n : ℕ) where
   outcome-scan none = refl
   outcome-scan (some l) = by (length l == n)
     where
-      by : (t : Bool) → outcome_refusal (cond t (Fine (judges_exact f d && all_exact (sums_if d l))) (Refused length_differs)) ≡ unless t length_differs
+      by : (t : Bool) → outcome_refusal (cond t (Ok (judges_exact f d && all_exact (sums_if d l))) (Err length_differs)) ≡ unless t length_differs
       by true = refl
       by false = refl
 
@@ -42,37 +41,37 @@ refusal-held f g m n s r h q e =
     ∙ ap (λ (x : Form). refusal_of (elements x n m) (held_in x m s)) (sym q)
 
 -- a scan by its refusal
-pub refusal-scanned : (f : Form) (d : Bool) (n r : ℕ) (o : Option (List ℤ)) → r ≡ refusal_of n o → (r ≢ 0) → Refused r ≡ scan_of f d n o
-refusal-scanned f d n r none e h = ap Refused e
+pub refusal-scanned : (f : Form) (d : Bool) (n r : ℕ) (o : Option (List ℤ)) → r ≡ refusal_of n o → (r ≢ 0) → Err r ≡ scan_of f d n o
+refusal-scanned f d n r none e h = ap Err e
 refusal-scanned f d n r (some l) e h = by (length l == n) e
   where
-    by : (t : Bool) → r ≡ unless t length_differs → Refused r ≡ cond t (Fine (judges_exact f d && all_exact (sums_if d l))) (Refused length_differs)
+    by : (t : Bool) → r ≡ unless t length_differs → Err r ≡ cond t (Ok (judges_exact f d && all_exact (sums_if d l))) (Err length_differs)
     by true q = absurd (h q)
-    by false q = ap Refused q
+    by false q = ap Err q
 
-pub names-scanned : (c m : ℕ) (s : List ℕ) (r : ℕ) → r ≡ refusal_of c (held_in Names m s) → (r ≢ 0) → Refused r ≡ scan_of Names false c (held_in Names m s)
+pub names-scanned : (c m : ℕ) (s : List ℕ) (r : ℕ) → r ≡ refusal_of c (held_in Names m s) → (r ≢ 0) → Err r ≡ scan_of Names false c (held_in Names m s)
 names-scanned c m s r e h = refusal-scanned Names false c r (held_in Names m s) e h
 
 -- packed numbers that are not refused, by whether their results are exact
-pub packed-scanned : (z : Size) (d : Bool) (n : ℕ) (s : List ℕ) (ok : Bool) → 0 ≡ refusal_of n (read_in (Packed z) s) → ResultsJudged z d s ok → Fine ok ≡ scan_of (Packed z) d n (read_in (Packed z) s)
+pub packed-scanned : (z : Size) (d : Bool) (n : ℕ) (s : List ℕ) (ok : Bool) → 0 ≡ refusal_of n (read_in (Packed z) s) → ResultsJudged z d s ok → Ok ok ≡ scan_of (Packed z) d n (read_in (Packed z) s)
 packed-scanned z d n s ok e h = by (read_in (Packed z) s) e h
   where
-    tested : (l : List ℤ) (t : Bool) → 0 ≡ unless t length_differs → ok ≡ all_exact (sums_if d l) → Fine ok ≡ cond t (Fine (all_exact (sums_if d l))) (Refused length_differs)
-    tested l true q g = ap Fine g
+    tested : (l : List ℤ) (t : Bool) → 0 ≡ unless t length_differs → ok ≡ all_exact (sums_if d l) → Ok ok ≡ cond t (Ok (all_exact (sums_if d l))) (Err length_differs)
+    tested l true q g = ap Ok g
     tested l false q g = absurd (omega arith)
 
-    by : (o : Option (List ℤ)) → 0 ≡ refusal_of n o → ((l : List ℤ) → o ≡ some l → ok ≡ all_exact (sums_if d l)) → Fine ok ≡ scan_of (Packed z) d n o
+    by : (o : Option (List ℤ)) → 0 ≡ refusal_of n o → ((l : List ℤ) → o ≡ some l → ok ≡ all_exact (sums_if d l)) → Ok ok ≡ scan_of (Packed z) d n o
     by none q g = absurd (omega arith)
     by (some l) q g = tested l (length l == n) q (g l refl)
 
-pub names-fine : (c m : ℕ) (s : List ℕ) → 0 ≡ refusal_of c (held_in Names m s) → Fine false ≡ scan_of Names false c (held_in Names m s)
+pub names-fine : (c m : ℕ) (s : List ℕ) → 0 ≡ refusal_of c (held_in Names m s) → Ok false ≡ scan_of Names false c (held_in Names m s)
 names-fine c m s e = by (held_in Names m s) e
   where
-    tested : (t : Bool) → 0 ≡ unless t length_differs → Fine false ≡ cond t (Fine false) (Refused length_differs)
+    tested : (t : Bool) → 0 ≡ unless t length_differs → Ok false ≡ cond t (Ok false) (Err length_differs)
     tested true q = refl
     tested false q = absurd (omega arith)
 
-    by : (o : Option (List ℤ)) → 0 ≡ refusal_of c o → Fine false ≡ scan_of Names false c o
+    by : (o : Option (List ℤ)) → 0 ≡ refusal_of c o → Ok false ≡ scan_of Names false c o
     by none q = absurd (omega arith)
     by (some l) q = tested (length l == c) q
 

@@ -1,5 +1,5 @@
 -- Laws of scans: what is kept of the runs before a place, and what is held by forms other than names. Assumes nothing.
-use Rattle.std.specs.Prelude.{◌≡◌, ℕ, zero, suc, ◌+◌, ◌-◌, ◌<◌, ◌≤◌, Bool, true, false, cond, not, ◌&&◌, ◌||◌, ltb, List, [], ◌∷◌, ◌++◌, length, take, drop, replicate, ℤ, pos, ◌==◌, nat_lt, slice_index_or, refl}
+use Rattle.std.specs.Prelude.{Result, Ok, Err, ◌≡◌, ℕ, zero, suc, ◌+◌, ◌-◌, ◌<◌, ◌≤◌, Bool, true, false, cond, not, ◌&&◌, ◌||◌, ltb, List, [], ◌∷◌, ◌++◌, length, take, drop, replicate, ℤ, pos, ◌==◌, nat_lt, slice_index_or, refl}
 use Rattle.std.proofs.Common.{sym, ap, ap₂, ◌∙◌, append-nil, append_assoc, arith, length-append, take_all, eq-eqb, ne_eqb, eqb-true, lt-ltb, le-ltb, ltb-true, ltb-false}
 use Rattle.std.proofs.Math.Option.{Option, none, some, map}
 use Rattle.std.proofs.lemmas.List.{length-replicate}
@@ -13,8 +13,6 @@ use Rattle.steps.specs.Payload.{padded, only_if, read_in, held_in}
 use Rattle.steps.proofs.Laws.Allowed.{and-true, and-more}
 use Rattle.steps.proofs.Laws.Delta.{results-plain}
 use Rattle.columns.specs.Table.{is_names, elements}
-use Rattle.payloads.specs.declared.Outcome.{Outcome}
-use Rattle.payloads.specs.declared.Outcome.TheVariants.{Fine, Refused}
 use Rattle.payloads.specs.Exact.{exact, all_exact}
 use Rattle.payloads.specs.Scan.{scan_of}
 use Rattle.payloads.specs.Laws.Exact.{exact-append, exact_same}
@@ -88,10 +86,10 @@ module _ (r : Range) (d : Bool) (n : ℕ) (s : List ℕ) (at left : ℕ) (over o
         ap (λ (b : Bool). b && exact v) w.4 ∙ and-more (not d) (all_exact w.0) (exact v) ∙ ap (λ (b : Bool). not d && b) (sym (exact-append w.0 (replicate k v) ∙ ap (λ (b : Bool). all_exact w.0 && b) (exact_same k v h))),
       )
 
-  pub kept-wrong : read_in (Runs r) (drop at s) ≡ none → Refused number_not_allowed ≡ scan_of (Runs r) d n (read_in (Runs r) s)
+  pub kept-wrong : read_in (Runs r) (drop at s) ≡ none → Err number_not_allowed ≡ scan_of (Runs r) d n (read_in (Runs r) s)
   kept-wrong q = let a = w.1 ∙ ap (map (λ (l : List ℤ). w.0 ++ l)) q in rw a
 
-  pub kept-end : read_in (Runs r) (drop at s) ≡ some [] → cond (over || not (left == 0)) (Refused length_differs) (Fine ok) ≡ scan_of (Runs r) d n (read_in (Runs r) s)
+  pub kept-end : read_in (Runs r) (drop at s) ≡ some [] → cond (over || not (left == 0)) (Err length_differs) (Ok ok) ≡ scan_of (Runs r) d n (read_in (Runs r) s)
   kept-end q =
       let whole : read_in (Runs r) s ≡ some w.0 = w.1 ∙ ap (map (λ (l : List ℤ). w.0 ++ l)) q ∙ ap some (append-nil w.0) in
       ended over refl ∙ sym (ap (scan_of (Runs r) d n) whole)
@@ -101,14 +99,14 @@ module _ (r : Range) (d : Bool) (n : ℕ) (s : List ℕ) (at left : ℕ) (over o
       judged true = refl
       judged false = ap all_exact (sym (results-plain (pos 0) w.0))
 
-      fine : Fine ok ≡ Fine (not d && all_exact (sums_if d w.0))
-      fine = ap Fine (w.4 ∙ judged d)
+      fine : ◌≡◌ {A = Result Bool ℕ} (Ok ok) (Ok (not d && all_exact (sums_if d w.0)))
+      fine = ap Ok (w.4 ∙ judged d)
 
-      rest : over ≡ false → (t : Bool) → (left == 0) ≡ t → cond (not t) (Refused length_differs) (Fine ok) ≡ cond (length w.0 == n) (Fine (not d && all_exact (sums_if d w.0))) (Refused length_differs)
+      rest : over ≡ false → (t : Bool) → (left == 0) ≡ t → cond (not t) (Err length_differs) (Ok ok) ≡ cond (length w.0 == n) (Ok (not d && all_exact (sums_if d w.0))) (Err length_differs)
       rest o true e = let z = eqb-true left 0 e in let y = w.2 in rw (eq-eqb (length w.0) n (omega (arith, ltb-false n (length w.0) (sym w.3 ∙ o)))) fine
       rest o false e = let z = eqb-false left 0 e in let y = w.2 in rw (ne_eqb (length w.0) n (λ x. z (omega arith)))
 
-      ended : (b : Bool) → over ≡ b → cond (over || not (left == 0)) (Refused length_differs) (Fine ok) ≡ cond (length w.0 == n) (Fine (not d && all_exact (sums_if d w.0))) (Refused length_differs)
+      ended : (b : Bool) → over ≡ b → cond (over || not (left == 0)) (Err length_differs) (Ok ok) ≡ cond (length w.0 == n) (Ok (not d && all_exact (sums_if d w.0))) (Err length_differs)
       ended true o = rw (o, ne_eqb (length w.0) n (λ x. omega (arith, ltb-true n (length w.0) (sym w.3 ∙ o))))
       ended false o = rw o (rest o (left == 0) refl)
 
@@ -132,7 +130,7 @@ elements-one (Packed z) n m e = refl
 elements-one (Runs r) n m e = refl
 elements-one Names n m e = let y : ◌≡◌ {A = ℕ} 0 1 = cc in absurd (omega arith)
 
-pub scan-held : (f g : Form) (d : Bool) (m n : ℕ) (s : List ℕ) (r : Outcome) → is_names f ≡ false → g ≡ f → r ≡ scan_of f d n (read_in f s) → r ≡ scan_of g d (elements g n m) (held_in g m s)
+pub scan-held : (f g : Form) (d : Bool) (m n : ℕ) (s : List ℕ) (r : Result Bool ℕ) → is_names f ≡ false → g ≡ f → r ≡ scan_of f d n (read_in f s) → r ≡ scan_of g d (elements g n m) (held_in g m s)
 scan-held f g d m n s r h q e =
     e ∙ ap (scan_of f d n) (sym (held-read f m s h)) ∙ ap (λ (c : ℕ). scan_of f d c (held_in f m s)) (sym (elements-one f n m h))
     ∙ ap (λ (x : Form). scan_of x d (elements x n m) (held_in x m s)) (sym q)
@@ -142,5 +140,5 @@ names-judged : (d : Bool) (c : ℕ) (o : Option (List ℤ)) → scan_of Names fa
 names-judged d c none = refl
 names-judged d c (some l) = refl
 
-pub scan-names : (g : Form) (d : Bool) (m n : ℕ) (s : List ℕ) (r : Outcome) → g ≡ Names → r ≡ scan_of Names false (elements Names n m) (held_in Names m s) → r ≡ scan_of g d (elements g n m) (held_in g m s)
+pub scan-names : (g : Form) (d : Bool) (m n : ℕ) (s : List ℕ) (r : Result Bool ℕ) → g ≡ Names → r ≡ scan_of Names false (elements Names n m) (held_in Names m s) → r ≡ scan_of g d (elements g n m) (held_in g m s)
 scan-names g d m n s r q e = e ∙ names-judged d (elements Names n m) (held_in Names m s) ∙ ap (λ (x : Form). scan_of x d (elements x n m) (held_in x m s)) (sym q)

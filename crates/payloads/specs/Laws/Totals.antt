@@ -1,5 +1,5 @@
 -- Laws of packed numbers by one running total: of the result that has begun, and with delta of those before it too. Assumes nothing.
-use Rattle.std.specs.Prelude.{◌≡◌, ℕ, suc, ◌+◌, ◌-◌, ◌%◌, ◌<◌, ◌≤◌, Bool, true, false, cond, ◌&&◌, ◌||◌, List, length, set, replicate, ℤ, pos, negsuc, ◌+ℤ◌, FitsSigned, nat_lt}
+use Rattle.std.specs.Prelude.{Result, Ok, Err, ◌≡◌, ℕ, suc, ◌+◌, ◌-◌, ◌%◌, ◌<◌, ◌≤◌, Bool, true, false, cond, ◌&&◌, ◌||◌, List, length, set, replicate, ℤ, pos, negsuc, ◌+ℤ◌, FitsSigned, nat_lt}
 use Rattle.std.proofs.Math.Path.{refl}
 use Rattle.std.proofs.Common.{sym, ap, ◌∙◌, add-zero, arith, length-append, length-set, set-set, to_z, of_z, to_z-of_z, eq-eqb, ltb-true, ltb-false}
 use Rattle.std.proofs.Math.Option.{some}
@@ -20,8 +20,6 @@ use Rattle.steps.proofs.Laws.Delta.{wrapped, plus-zero}
 use Rattle.steps.proofs.Laws.Packing.{turn_inside, turn-outside}
 use Rattle.steps.proofs.Laws.Allowed.{and-true}
 use Rattle.steps.specs.Payload.{read_in}
-use Rattle.payloads.specs.declared.Outcome.{Outcome}
-use Rattle.payloads.specs.declared.Outcome.TheVariants.{Fine, Refused}
 use Rattle.payloads.specs.Exact.{exact, all_exact}
 use Rattle.payloads.specs.Results.{HasRoom, Wrote, ResultsExact}
 use Rattle.payloads.specs.Scan.{judges_exact, scan_of}
@@ -74,9 +72,9 @@ module _ (z : Size) (d : Bool) (s : List ℕ) (l : List ℤ) (e : read_in (Packe
   pub summed-start : Summed 0 0 true (pos 0)
   summed-start = (pos 0, false, pos 0, unpacked-start z d s, record { sfits = omega arith }, at_first_lem d)
 
-  never : {A : Type 0} (r : ℕ) → Refused r ≡ scan_of (Packed z) d (length l) (read_in (Packed z) s) → A
+  never : {A : Type 0} (r : ℕ) → Err r ≡ scan_of (Packed z) d (length l) (read_in (Packed z) s) → A
   never r q =
-      let y : ◌≡◌ {A = Outcome} (Refused r) (Fine (judges_exact (Packed z) d && all_exact (sums_if d l))) = q ∙ ap (scan_of (Packed z) d (length l)) e ∙ rw (eq-eqb (length l) (length l) refl) in
+      let y : ◌≡◌ {A = Result Bool ℕ} (Err r) (Ok (judges_exact (Packed z) d && all_exact (sums_if d l))) = q ∙ ap (scan_of (Packed z) d (length l)) e ∙ rw (eq-eqb (length l) (length l) refl) in
       let x : ◌≡◌ {A = ℕ} 0 1 = cc in
       absurd (omega arith)
 

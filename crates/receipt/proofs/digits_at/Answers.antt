@@ -16,8 +16,7 @@ pub returns-then-not-takes_digit : goal.returns-then-not-takes_digit
 returns-then-not-takes_digit c =
     let at = c.loop-i in
     let s = c.args.bytes.now in
-    c.no_line.ensures
-    ∙ digits-other s at.said at.i c.loop-i-test.true c.if-byte-eq10.false (sym c.takes_digit.ensures ∙ c.if-not-takes_digit.true)
+    digits-other s at.said at.i c.loop-i-test.true c.if-byte-eq10.false (sym c.takes_digit.ensures ∙ c.if-not-takes_digit.true)
     ∙ at.invariant
 
 pub loop-i-preserved : goal.loop-i-preserved
@@ -25,11 +24,11 @@ loop-i-preserved c =
     let at = c.loop-i in
     let s = c.args.bytes.now in
     let takes = sym c.takes_digit.ensures ∙ c.if-not-takes_digit.false in
-    ap (λ (d : ℕ). digits_at (drop (at.i + 1) s) (at.said * 10 + d) (at.i + 1)) c.u8_to_u32.ensures.is
+    ap (λ (d : ℕ). digits_at (drop (at.i + 1) s) (at.said * 10 + d) (at.i + 1)) c.from.ensures
     ∙ digits-next s at.said at.i c.loop-i-test.true c.if-byte-eq10.false takes
     ∙ at.invariant
 
 pub returns : goal.returns
 returns c =
     let at = c.loop-i in
-    c.no_line-2.ensures ∙ digits-none c.args.bytes.now at.said at.i c.loop-i-test.false ∙ at.invariant
+    digits-none c.args.bytes.now at.said at.i c.loop-i-test.false ∙ at.invariant

@@ -1,5 +1,5 @@
 -- The word stands at the place, and the number after it; or there is no such line. Assumes nothing.
-use mathlib.Core.Path.{◌≡◌, sym, ◌∙◌}
+use mathlib.Core.Path.{◌≡◌, refl, sym, ◌∙◌}
 use mathlib.Core.Bool.{true}
 use native.Mathlib.Omega.{arith}
 use lib.ListN.{drop, length-drop}
@@ -10,7 +10,7 @@ use Rattle.receipt.proofs.line_at.Goals as goal
 
 pub returns-then-not-stands_at : goal.returns-then-not-stands_at
 unfolding line_at
-returns-then-not-stands_at c = rw (sym c.stands_at.ensures ∙ c.if-not-stands_at.true) c.no_line.ensures
+returns-then-not-stands_at c = rw (sym c.stands_at.ensures ∙ c.if-not-stands_at.true) refl
 
 pub overflow_add-at : goal.overflow_add-at
 overflow_add-at c =

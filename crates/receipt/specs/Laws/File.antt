@@ -1,12 +1,10 @@
 -- The receipt of a file: that of its document or of its number, one by the rules, and what is written of it.
 -- Assumes nothing.
-use Rattle.std.specs.Prelude.{◌≡◌, refl, Bool, true, false, List, ◌++◌, ◌⊎◌, ℕ, ◌<◌, ◌≤◌, eqb, leb, length, take, drop}
+use Rattle.std.specs.Prelude.{◌≡◌, refl, Result, Ok, Err, Bool, true, false, List, ◌++◌, ◌⊎◌, ℕ, ◌<◌, ◌≤◌, eqb, leb, length, take, drop}
 use Rattle.std.proofs.Common.{sym, ap, subst, ◌∙◌, inl, inr, ⊎_elim, arith, take_at}
 use Rattle.std.specs.Int.Count.{ones}
 use borrow.Author.Tests.{ne_eqb, eqb-true, eqb-false, le-leb, lt-leb, leb-true, leb-false}
 use Rattle.refusal.specs.Table.{buffer_too_small, receipt_malformed}
-use Rattle.refusal.specs.declared.Answer.{Answer}
-use Rattle.refusal.specs.declared.Answer.TheVariants.{Count, Refused}
 use Rattle.numbers.specs.BigEndian.{Bytes}
 use Rattle.counts.specs.Counts.{count_limit}
 use Rattle.text.specs.Put.{Put}
@@ -87,7 +85,7 @@ text-most station job s bytes h = receipt-most (receipt_by station job (summary_
 module _ (station job : ℕ) (s : List ℕ) where
   -- station or job out of range
 
-  pub answered-29 : (n : ℕ) → numbered station job ≡ false → Refused receipt_malformed ≡ receipt_answer station job s n
+  pub answered-29 : (n : ℕ) → numbered station job ≡ false → Err receipt_malformed ≡ receipt_answer station job s n
   unfolding receipt_answer
   answered-29 n h = rw h
 
@@ -97,7 +95,7 @@ module _ (station job : ℕ) (s : List ℕ) where
 
   -- too little room
 
-  pub answered-25 : (n : ℕ) → numbered station job ≡ true → n < length (receipt_text station job s) → Refused buffer_too_small ≡ receipt_answer station job s n
+  pub answered-25 : (n : ℕ) → numbered station job ≡ true → n < length (receipt_text station job s) → Err buffer_too_small ≡ receipt_answer station job s n
   unfolding receipt_answer
   answered-25 n h l = rw (h, lt-leb (length (receipt_text station job s)) n l)
 
@@ -107,7 +105,7 @@ module _ (station job : ℕ) (s : List ℕ) where
 
   -- room enough
 
-  pub answered-written : (n : ℕ) → numbered station job ≡ true → length (receipt_text station job s) ≤ n → Count (length (receipt_text station job s)) ≡ receipt_answer station job s n
+  pub answered-written : (n : ℕ) → numbered station job ≡ true → length (receipt_text station job s) ≤ n → Ok (length (receipt_text station job s)) ≡ receipt_answer station job s n
   unfolding receipt_answer
   answered-written n h l = rw (h, le-leb (length (receipt_text station job s)) n l)
 
@@ -118,26 +116,26 @@ module _ (station job : ℕ) (s : List ℕ) where
 
 -- answers of different cases differ, and those of one case agree in their number
 
-never : {A : Type 0} (o : Answer) (r n : ℕ) → Refused r ≡ o → o ≡ Count n → A
+never : {A : Type 0} (o : Result ℕ ℕ) (r n : ℕ) → Err r ≡ o → o ≡ Ok n → A
 never o r n p q = let z : ◌≡◌ {A = ℕ} 0 1 = cc in absurd (omega arith)
 
-same : (o : Answer) (m n : ℕ) → Count m ≡ o → o ≡ Count n → m ≡ n
+same : (o : Result ℕ ℕ) (m n : ℕ) → Ok m ≡ o → o ≡ Ok n → m ≡ n
 same o m n p q = cc
 
-refusals : (a b : ℕ) → Refused a ≡ Refused b → a ≡ b
+refusals : (a b : ℕ) → ◌≡◌ {A = Result ℕ ℕ} (Err a) (Err b) → a ≡ b
 refusals a b p = cc
 
 -- a refusal has a number
-pub answered-number : (station job : ℕ) (s : List ℕ) (n r : ℕ) → Refused r ≡ receipt_answer station job s n → r ≡ 0 → ⊥
+pub answered-number : (station job : ℕ) (s : List ℕ) (n r : ℕ) → Err r ≡ receipt_answer station job s n → r ≡ 0 → ⊥
 answered-number station job s n r q z = go (numbered station job) refl (leb (length (receipt_text station job s)) n) refl
   where
     go : (t : Bool) → numbered station job ≡ t → (u : Bool) → leb (length (receipt_text station job s)) n ≡ u → ⊥
     go false e u f = let d : r ≡ receipt_malformed = refusals r receipt_malformed (q ∙ sym (answered-29 station job s n e)) in omega arith
     go true e false f = let d : r ≡ buffer_too_small = refusals r buffer_too_small (q ∙ sym (answered-25 station job s n e (leb-false (length (receipt_text station job s)) n f))) in omega arith
-    go true e true f = never (Refused r) r (length (receipt_text station job s)) refl (q ∙ sym (answered-written station job s n e (leb-true (length (receipt_text station job s)) n f)))
+    go true e true f = never (Err r) r (length (receipt_text station job s)) refl (q ∙ sym (answered-written station job s n e (leb-true (length (receipt_text station job s)) n f)))
 
 -- what is written fits
-pub answered-fits : (station job : ℕ) (s : List ℕ) (n m : ℕ) → receipt_answer station job s n ≡ Count m → m ≤ n
+pub answered-fits : (station job : ℕ) (s : List ℕ) (n m : ℕ) → receipt_answer station job s n ≡ Ok m → m ≤ n
 answered-fits station job s n m q = go (numbered station job) refl (leb (length (receipt_text station job s)) n) refl
   where
     go : (t : Bool) → numbered station job ≡ t → (u : Bool) → leb (length (receipt_text station job s)) n ≡ u → m ≤ n
@@ -149,7 +147,7 @@ answered-fits station job s n m q = go (numbered station job) refl (leb (length 
         omega arith
 
 -- a buffer with room for the longest receipt is never too small
-pub answered-room : (station job : ℕ) (s : List ℕ) (n : ℕ) → Bytes s → receipt_limit ≤ n → receipt_answer station job s n ≡ Refused buffer_too_small → ⊥
+pub answered-room : (station job : ℕ) (s : List ℕ) (n : ℕ) → Bytes s → receipt_limit ≤ n → receipt_answer station job s n ≡ Err buffer_too_small → ⊥
 answered-room station job s n bytes l q = go (numbered station job) refl
   where
     go : (t : Bool) → numbered station job ≡ t → ⊥
@@ -160,7 +158,7 @@ answered-room station job s n bytes l q = go (numbered station job) refl
 
 -- What is written is the receipt of the file
 
-pub receipt-left : (station job : ℕ) (s buffer : List ℕ) (n : ℕ) → Bytes s → receipt_answer station job s (length buffer) ≡ Count n
+pub receipt-left : (station job : ℕ) (s buffer : List ℕ) (n : ℕ) → Bytes s → receipt_answer station job s (length buffer) ≡ Ok n
     → Receipted station job s (take n (receipt_buffer station job s buffer))
 receipt-left station job s buffer n bytes q = go (numbered station job) refl (leb (length text) (length buffer)) refl
   where
@@ -207,7 +205,7 @@ buffer-left {buffer} {new} {page} {next} station job s h l e p =
     (put_all q l).1 ∙ leaves-written station job s buffer h l
 
 -- the answer and the buffer give the receipt
-pub call-says : (station job : ℕ) (s buffer new : List ℕ) (r : Answer) → Bytes s → r ≡ receipt_answer station job s (length buffer) → new ≡ receipt_buffer station job s buffer
-    → (r ≡ receipt_answer station job s (length buffer)) × ((new ≡ receipt_buffer station job s buffer) × ((n : ℕ) → r ≡ Count n → Receipted station job s (take n new)))
+pub call-says : (station job : ℕ) (s buffer new : List ℕ) (r : Result ℕ ℕ) → Bytes s → r ≡ receipt_answer station job s (length buffer) → new ≡ receipt_buffer station job s buffer
+    → (r ≡ receipt_answer station job s (length buffer)) × ((new ≡ receipt_buffer station job s buffer) × ((n : ℕ) → r ≡ Ok n → Receipted station job s (take n new)))
 call-says station job s buffer new r bytes e f =
     (e, (f, λ n q. subst (λ (x : List ℕ). Receipted station job s (take n x)) (sym f) (receipt-left station job s buffer n bytes (sym e ∙ q))))

@@ -1,7 +1,7 @@
 -- The receipt at a place, read line by line: it is the one that stands there, and none is found where none stands. Assumes nothing.
-use Rattle.std.specs.Prelude.{◌≡◌, Bool, ℕ, ◌+◌}
+use Rattle.std.specs.Prelude.{◌≡◌, None, Ok, Err, Bool, ℕ, ◌+◌}
 use Rattle.std.proofs.Math.Path.{refl, ap}
-use Rattle.std.proofs.Common.{sym, ◌∙◌, arith, drop-drop}
+use Rattle.std.proofs.Common.{sym, subst, ◌∙◌, arith, drop-drop}
 use Rattle.std.proofs.Math.Bool.{true, false, cond}
 use mathlib.Core.List.{List, [], ◌∷◌, ◌++◌, append-nil}
 use Rattle.std.proofs.Math.ListN.{length, drop}
@@ -11,11 +11,10 @@ use Rattle.numbers.specs.Laws.Tests.{clash}
 use Rattle.text.specs.Ascii.{ascii}
 use Rattle.receipt.specs.declared.Line.{Line}
 use Rattle.receipt.specs.declared.Receipt.{Receipt}
-use Rattle.receipt.specs.declared.Reading.TheVariants.{Numbers, Refused}
-use Rattle.receipt.specs.declared.Found.TheVariants.{At, None}
+use Rattle.receipt.specs.declared.Found.{Found}
 use Rattle.receipt.specs.Receipt.{numbers_of, line, written, rules_kept, IsReceipt, is, none}
-use Rattle.receipt.specs.Reading.{receipt_from, read_from, reading_of, has_front, found_at}
-use Rattle.receipt.specs.Steps.{line_at, words, numbers_at, end_at}
+use Rattle.receipt.specs.Reading.{receipt_from, read_from, reading_of, has_front, At, found_at}
+use Rattle.receipt.specs.Steps.{no_line, line_at, words, numbers_at, end_at}
 use Rattle.receipt.specs.Laws.Rules.{AllSmall, allowed-small}
 use Rattle.receipt.specs.Laws.Lines.{lines_text, EachSmall, lines-ended, lines-read}
 use Rattle.receipt.specs.Laws.Reading.{read-front, front_of, front-rules, front-text, no_front, nested, read-receipt, one-reading, reading_of-is}
@@ -36,6 +35,11 @@ pub record Standing (bytes : List ℕ) (at : ℕ) (r : Receipt) (end : ℕ) : Ty
   pub text : drop at bytes ≡ written r ++ drop end bytes
   pub place : end ≡ at + length (written r)
 
+same_found : {a b : Receipt} {m n : ℕ} → At a m ≡ At b n → (a ≡ b) × (m ≡ n)
+same_found {a} {b} {m} {n} p =
+    let q : ◌≡◌ {A = Found} (record { receipt = a; end = m }) (record { receipt = b; end = n }) = cc in
+    (ap (λ (f : Found). f.receipt) q, ap (λ (f : Found). f.end) q)
+
 pub found-stands : (bytes : List ℕ) (at : ℕ) (r : Receipt) (end : ℕ) → found_at bytes at ≡ At r end → Standing bytes at r end
 unfolding found_at
 found-stands bytes at r end q = go (has_front (drop at bytes)) refl q
@@ -45,8 +49,8 @@ found-stands bytes at r end q = go (has_front (drop at bytes)) refl q
 
     go : (t : Bool) → has_front (drop at bytes) ≡ t → cond t (At front (at + length (written front))) None ≡ At r end → Standing bytes at r end
     go true e p =
-        let same : front ≡ r = cc in
-        let place : at + length (written front) ≡ end = cc in
+        let same : front ≡ r = (same_found p).0 in
+        let place : at + length (written front) ≡ end = (same_found p).1 in
         let here : end ≡ at + length (written r) = sym place ∙ ap (λ (x : Receipt). at + length (written x)) same in
         record {
           rules = sym (ap rules_kept same) ∙ front-rules (drop at bytes) e;
@@ -112,22 +116,41 @@ pub ten-lines : (s : List ℕ) (at : ℕ) {a b c d e f g h i j : Line}
     × (j.end ≡ end_at words s at)
 ten-lines s at pa pb pc pd pe pf pg ph pi pj = (rw (pj, pi, ph, pg, pf, pe, pd, pc, pb, pa), rw (pj, pi, ph, pg, pf, pe, pd, pc, pb, pa))
 
+-- a line is not there: the one at a place, or one after it
+pub data Lost (s : List ℕ) : List (List ℕ) → ℕ → Type 0 where
+  lost : {w : List ℕ} {ws : List (List ℕ)} {at : ℕ} → no_line ≡ line_at w s at → Lost s (w ∷ ws) at
+  later : {w : List ℕ} {ws : List (List ℕ)} {at : ℕ} {l : Line} → l ≡ line_at w s at → Lost s ws l.end → Lost s (w ∷ ws) at
+
+lost-large : {s : List ℕ} (ws : List (List ℕ)) (at : ℕ) → Lost s ws at → EachSmall (numbers_at ws s at) → ⊥
+lost-large [] at l small = elim l [ ]
+lost-large {s} (w ∷ ws) at (lost e) small = omega (arith, small.0, ap (λ (l : Line). l.number) e)
+lost-large {s} (w ∷ ws) at (later {l = l} e rest) small =
+    lost-large ws (line_at w s at).end (subst (λ (x : Line). Lost s ws x.end) e rest) small.1
+
+-- then no receipt stands there
+pub found_lost : (s : List ℕ) (at : ℕ) → Lost s words at → None ≡ found_at s at
+found_lost s at l = go (rules_kept (receipt_from (numbers_at words s at))) refl
+  where
+    go : (t : Bool) → rules_kept (receipt_from (numbers_at words s at)) ≡ t → None ≡ found_at s at
+    go true e = absurd (lost-large words at l (each-small (receipt_from (numbers_at words s at)) (allowed-small (receipt_from (numbers_at words s at)) e)))
+    go false e = sym (found_nothing s at e)
+
 -- What bytes are read as, by what is found at their start
 
-pub reading-none : (bytes : List ℕ) → found_at bytes 0 ≡ None → Refused receipt_malformed ≡ reading_of bytes
+pub reading-none : (bytes : List ℕ) → found_at bytes 0 ≡ None → Err receipt_malformed ≡ reading_of bytes
 reading-none bytes q =
     one-reading (none (λ r i. no_front r bytes [] (found_none bytes 0 q) i.rules (i.text ∙ sym (append-nil (written r))))) (reading_of-is bytes)
 
 module _ (bytes : List ℕ) (r : Receipt) (end : ℕ) (q : found_at bytes 0 ≡ At r end) where
   -- a receipt that ends where the bytes end
-  pub reading-all : end ≡ length bytes → Numbers r ≡ reading_of bytes
+  pub reading-all : end ≡ length bytes → Ok r ≡ reading_of bytes
   reading-all e =
       let at = found-stands bytes 0 r end q in
       let text : bytes ≡ written r = at.text ∙ ap (λ (n : ℕ). written r ++ drop n bytes) e ∙ ap (λ (l : List ℕ). written r ++ l) (drop-length bytes) ∙ append-nil (written r) in
       one-reading (is record { rules = at.rules; text = text }) (reading_of-is bytes)
 
   -- a receipt that ends before the bytes do
-  pub reading-more : (end ≡ length bytes → ⊥) → Refused receipt_malformed ≡ reading_of bytes
+  pub reading-more : (end ≡ length bytes → ⊥) → Err receipt_malformed ≡ reading_of bytes
   reading-more h = one-reading (none other) (reading_of-is bytes)
     where
       other : (x : Receipt) → IsReceipt bytes x → ⊥

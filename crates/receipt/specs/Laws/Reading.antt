@@ -1,6 +1,6 @@
 -- Reading: what is written is read back, whatever follows it, so that no bytes are two receipts and no bytes have two answers; the definition
 -- gives the one there is. Assumes nothing.
-use Rattle.std.specs.Prelude.{◌≡◌, refl, Bool, true, false, cond, ◌&&◌, List, [], ◌∷◌, ◌++◌, ◌↔◌, ℕ, length, drop}
+use Rattle.std.specs.Prelude.{◌≡◌, refl, Result, Ok, Err, Bool, true, false, cond, ◌&&◌, List, [], ◌∷◌, ◌++◌, ◌↔◌, ℕ, length, drop}
 use Rattle.std.proofs.Common.{sym, ap, subst, ◌∙◌, append_assoc, append-nil}
 use Prim.Native.String as Text
 use Rattle.refusal.specs.Table.{receipt_malformed}
@@ -9,8 +9,6 @@ use Rattle.text.specs.Equal.{equal, begins}
 use Rattle.text.specs.Ascii.{ascii}
 use Rattle.text.specs.Laws.Equal.{equal-true, false-equal, begins-append, begins-true}
 use Rattle.receipt.specs.declared.Receipt.{Receipt}
-use Rattle.receipt.specs.declared.Reading.{Reading}
-use Rattle.receipt.specs.declared.Reading.TheVariants.{Numbers, Refused}
 use Rattle.receipt.specs.Receipt.{numbers_of, named_line, written, IsReceipt, Reads, is, none, rules_kept}
 use Rattle.receipt.specs.Reading.{receipt_from, read_from, reading_of, line_numbers, has_front}
 use Rattle.receipt.specs.Laws.Rules.{Small, AllSmall, allowed-small}
@@ -57,8 +55,8 @@ pub one-receipt : {bytes : List ℕ} {r s : Receipt} → IsReceipt bytes r → I
 one-receipt i j = sym (read-receipt i) ∙ read-receipt j
 
 -- no bytes have two answers
-pub one-reading : {bytes : List ℕ} {x y : Reading} → Reads bytes x → Reads bytes y → x ≡ y
-one-reading (is i) (is j) = ap Numbers (one-receipt i j)
+pub one-reading : {bytes : List ℕ} {x y : Result Receipt ℕ} → Reads bytes x → Reads bytes y → x ≡ y
+one-reading (is i) (is j) = ap Ok (one-receipt i j)
 one-reading (is {r} i) (none n) = absurd (n r i)
 one-reading (none n) (is {r} j) = absurd (n r j)
 one-reading (none m) (none n) = refl
@@ -68,16 +66,16 @@ pub reading_of-is : (bytes : List ℕ) → Reads bytes (reading_of bytes)
 unfolding reading_of
 reading_of-is bytes = go (rules_kept (read_from bytes)) refl (equal (written (read_from bytes)) bytes) refl
   where
-    go : (a : Bool) → rules_kept (read_from bytes) ≡ a → (b : Bool) → equal (written (read_from bytes)) bytes ≡ b → Reads bytes (cond (a && b) (Numbers (read_from bytes)) (Refused receipt_malformed))
+    go : (a : Bool) → rules_kept (read_from bytes) ≡ a → (b : Bool) → equal (written (read_from bytes)) bytes ≡ b → Reads bytes (cond (a && b) (Ok (read_from bytes)) (Err receipt_malformed))
     go true e true f = is record { rules = e; text = sym (equal-true (written (read_from bytes)) bytes f) }
     go true e false f = none (λ r i. false-equal (written (read_from bytes)) bytes f (ap written (read-receipt i) ∙ sym i.text))
     go false e b f = none (λ r i. clash (sym e ∙ ap rules_kept (read-receipt i) ∙ i.rules))
 
 -- so the numbers are read exactly when the bytes are their receipt
-pub reading-exactly : (bytes : List ℕ) (r : Receipt) → (reading_of bytes ≡ Numbers r) ↔ IsReceipt bytes r
+pub reading-exactly : (bytes : List ℕ) (r : Receipt) → (reading_of bytes ≡ Ok r) ↔ IsReceipt bytes r
 reading-exactly bytes r = ((λ e. read_is (subst (Reads bytes) e (reading_of-is bytes))), (λ i. one-reading (reading_of-is bytes) (is i)))
   where
-    read_is : Reads bytes (Numbers r) → IsReceipt bytes r
+    read_is : Reads bytes (Ok r) → IsReceipt bytes r
     read_is (is i) = i
 
 -- The front of bytes

@@ -1,9 +1,7 @@
--- The first two bytes are compared, if there are two. Assumes nothing.
-use mathlib.Core.Path.{sym}
-use native.Mathlib.Omega.{arith}
-use lib.ListN.{take, length-take}
-use Rattle.text.specs.Laws.Equal.{equal-lengths}
+-- `starts_with` compares the first two bytes. Assumes nothing.
+use mathlib.Core.Path.{◌∙◌}
+use Rattle.text.specs.Laws.Equal.{pointwise-swapped}
 use Rattle.sentences.proofs.is_gzip.Goals as goal
 
-pub returns-then-file-lt2 : goal.returns-then-file-lt2
-returns-then-file-lt2 c = sym (equal-lengths (take 2 c.args.file.now) _ (λ e. let l = length-take 2 c.args.file.now in omega arith))
+pub returns : goal.returns
+returns c = c.starts_with.ensures.value ∙ pointwise-swapped _ _

@@ -1,49 +1,51 @@
 -- Laws of what is read and decoded: it lies within its buffer. Assumes nothing.
-use Rattle.std.specs.Prelude.{◌≡◌, refl, Bool, true, false, ℕ, ◌≤◌, leb, length}
+use Rattle.std.specs.Prelude.{◌≡◌, refl, Bool, true, false, cond, Result, Ok, Err, ℕ, ℤ, ◌≤◌, leb, length}
 use Rattle.std.proofs.Common.{sym, subst, arith, leb-true}
+use Rattle.refusal.specs.Table.{buffer_too_small}
+use Rattle.refusal.specs.Outcome.{numbered}
+use Rattle.refusal.specs.declared.Refusal.{Refusal}
 use Rattle.columns.specs.Decode.{Decoding, refused, column}
-use Rattle.refusal.specs.declared.Answer.{Answer}
-use Rattle.refusal.specs.declared.Answer.TheVariants as answer
 use Rattle.columns.specs.Buffer.{decoded_answer}
-use Rattle.decoding.specs.Calls.{fixed_answer}
-use Rattle.decoding.specs.declared.Fixed.{Fixed}
-use Rattle.station.specs.Reading.{Within, Ended, contents_of, AnswerWithin, FixedWithin, whole_of}
-use Rattle.station.specs.declared.files.Contents.{Contents}
-use Rattle.station.specs.declared.files.End.{End}
+use Rattle.decoding.specs.Calls.{with_divisor, fixed_answer}
+use Rattle.station.specs.Reading.{Within, FixedWithin}
 
 -- a larger buffer
-pub ended-more : (x : End) (n m : ℕ) → n ≤ m → Ended x n → Ended x m
-ended-more (End.After k) n m h w = omega arith
-ended-more End.TooLong n m h w = tt
-ended-more (End.Failed reason) n m h w = tt
+pub within-more : {E : Type 0} (x : Result ℕ E) (n m : ℕ) → n ≤ m → Within x n → Within x m
+within-more (Ok k) n m h w = omega arith
+within-more (Err e) n m h w = tt
 
--- the bytes of an input that ended within a buffer
-pub ended-within : (x : End) (r : Contents) (n : ℕ) → r ≡ contents_of x → Ended x n → Within r n
-ended-within (End.After k) r n e w = subst (λ (x : Contents). Within x n) (sym e) w
-ended-within End.TooLong r n e w = subst (λ (x : Contents). Within x n) (sym e) tt
-ended-within (End.Failed reason) r n e w = subst (λ (x : Contents). Within x n) (sym e) tt
+-- an outcome with its refusal as a number
+numbered-within : (r : Result ℕ Refusal) (n : ℕ) → Within (numbered r) n → Within r n
+numbered-within (Ok k) n h = h
+numbered-within (Err e) n h = tt
+
+numbered-fixed : (r : Result (ℕ × ℤ) Refusal) (n : ℕ) → FixedWithin (numbered r) n → FixedWithin r n
+numbered-fixed (Ok (k, d)) n h = h
+numbered-fixed (Err e) n h = tt
 
 -- a decoder's answer
-pub answer-within : (d : Decoding) (r : Answer) (room n : ℕ) → r ≡ decoded_answer d room → n ≡ room → AnswerWithin r n
-answer-within (refused k) r room n e q = subst (λ (x : Answer). AnswerWithin x n) (sym e) tt
-answer-within (column k m l) r room n e q = go (leb (length l) room) refl
+decoded-within : (d : Decoding) (room n : ℕ) → n ≡ room → Within (decoded_answer d room) n
+decoded-within (refused k) room n q = tt
+decoded-within (column k m l) room n q = go (leb (length l) room) refl
   where
-    go : (t : Bool) → leb (length l) room ≡ t → AnswerWithin r n
-    go true f = subst (λ (x : Answer). AnswerWithin x n) (sym (rw f at e)) (omega (arith, leb-true (length l) room f))
-    go false f = subst (λ (x : Answer). AnswerWithin x n) (sym (rw f at e)) tt
+    go : (t : Bool) → leb (length l) room ≡ t → Within (cond t (Ok (length l)) (Err buffer_too_small)) n
+    go true f = let h = leb-true (length l) room f in omega arith
+    go false f = tt
 
-pub fixed-within : (d : Decoding) (r : Fixed) (room n : ℕ) → r ≡ fixed_answer d room → n ≡ room → FixedWithin r n
-fixed-within (refused k) r room n e q = subst (λ (x : Fixed). FixedWithin x n) (sym e) tt
-fixed-within (column k m l) r room n e q = go (leb (length l) room) refl
-  where
-    go : (t : Bool) → leb (length l) room ≡ t → FixedWithin r n
-    go true f = subst (λ (x : Fixed). FixedWithin x n) (sym (rw f at e)) (omega (arith, leb-true (length l) room f))
-    go false f = subst (λ (x : Fixed). FixedWithin x n) (sym (rw f at e)) tt
+pub answer-within : (d : Decoding) (r : Result ℕ Refusal) (room n : ℕ) → numbered r ≡ decoded_answer d room → n ≡ room → Within r n
+answer-within d r room n e q = numbered-within r n (subst (λ (x : Result ℕ ℕ). Within x n) (sym e) (decoded-within d room n q))
 
-pub whole-within : (a : Answer) (r : Fixed) (n : ℕ) → r ≡ whole_of a → AnswerWithin a n → FixedWithin r n
-whole-within (answer.Count k) r n e h = subst (λ (x : Fixed). FixedWithin x n) (sym e) h
-whole-within (answer.Refused k) r n e h = subst (λ (x : Fixed). FixedWithin x n) (sym e) tt
+divisor-within : (m n : ℕ) (x : Result ℕ ℕ) → Within x n → FixedWithin (with_divisor m x) n
+divisor-within m n (Ok k) h = h
+divisor-within m n (Err e) h = tt
+
+decoded-fixed : (d : Decoding) (room n : ℕ) → n ≡ room → FixedWithin (fixed_answer d room) n
+decoded-fixed (refused k) room n q = tt
+decoded-fixed (column k m l) room n q = divisor-within m n _ (decoded-within (column k m l) room n q)
+
+pub fixed-within : (d : Decoding) (r : Result (ℕ × ℤ) Refusal) (room n : ℕ) → numbered r ≡ fixed_answer d room → n ≡ room → FixedWithin r n
+fixed-within d r room n e q = numbered-fixed r n (subst (λ (x : Result (ℕ × ℤ) ℕ). FixedWithin x n) (sym e) (decoded-fixed d room n q))
 
 -- the count of an answer
-pub count-within : (d : Decoding) (r : Answer) (room n k : ℕ) → r ≡ decoded_answer d room → n ≡ room → r ≡ answer.Count k → k ≤ n
-count-within d r room n k e q c = subst (λ (x : Answer). AnswerWithin x n) c (answer-within d r room n e q)
+pub count-within : (d : Decoding) (r : Result ℕ Refusal) (room n k : ℕ) → numbered r ≡ decoded_answer d room → n ≡ room → r ≡ Ok k → k ≤ n
+count-within d r room n k e q c = subst (λ (x : Result ℕ Refusal). Within x n) c (answer-within d r room n e q)

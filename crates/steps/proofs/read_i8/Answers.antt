@@ -10,7 +10,7 @@ returns-then-at-payload c =
     let a = c.args in
     let inside : a.at + 1 ≤ length a.payload.now = omega arith in
     let e : get_or a.payload.now a.at 0 ≡ unsigned_at 1 a.payload.now a.at = let f = rw add-zero at (unsigned_at-loads 1 a.payload.now a.at inside) in omega arith in
-    to_z-of_z {w = w8} (record { sfits = c.to_i8.type_inv }) ∙ c.to_i8.ensures
+    to_z-of_z {w = w8} (record { sfits = c.cast_signed.type_inv }) ∙ c.cast_signed.ensures
     ∙ ap (to_z w8) e
 
 pub returns-else-at-payload : goal.returns-else-at-payload

@@ -107,3 +107,7 @@ unfolding verdict_of
 verdict-document s r c z q =
     passed-or_else r (container_number s) (entries_number (entries_of (document_of s))) z
     (q ∙ ap (λ (x : Document). entries_number (entries_of x)) (sym (container-document c)))
+
+-- what is answered with the verdict's number is 0 exactly for an accepted file
+pub verdict-says : (s : List ℕ) (r : ℕ) → Bytes s → r ≡ verdict_of s → (r ≡ verdict_of s) × ((r ≡ 0) ↔ Accepted s)
+verdict-says s r bytes e = let x = accepted-exactly s bytes in (e, ((λ z. x.0 (sym e ∙ z)), (λ a. e ∙ x.1 a)))

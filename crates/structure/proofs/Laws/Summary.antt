@@ -1,10 +1,14 @@
 -- What a receipt says of a file, by whether the file is accepted: of an accepted one what its document says, with counts and fields in the
 -- receipt's ranges; of a refused one its number, which is not 0 and at most 24.
 -- Assumes nothing.
-use Rattle.std.specs.Prelude.{◌≡◌, refl, Bool, true, cond, ◌&&◌, List, ℕ, zero, suc, ◌≤◌, pos}
+use Rattle.std.specs.Prelude.{◌≡◌, refl, Result, Ok, Err, Bool, true, cond, ◌&&◌, List, ℕ, zero, suc, ◌≤◌, pos}
 use Rattle.std.proofs.Common.{sym, ap, ap₂, ◌∙◌, arith, ne_eqb}
 use Rattle.std.specs.Int.Count.{ones}
-use Rattle.refusal.specs.Table.{accepted, version_not1}
+use Rattle.std.specs.Result.{IfOk}
+use Rattle.refusal.specs.Table.{accepted, version_not1, refusal_number}
+use Rattle.refusal.specs.declared.Refusal.{Refusal}
+use Rattle.refusal.specs.Outcome.{number_of}
+use Rattle.refusal.proofs.Laws.Table.{Outcome, refusal_number-injective}
 use Rattle.refusal.specs.First.{or_else}
 use Rattle.refusal.proofs.Laws.First.{or_else-most}
 use Rattle.numbers.specs.BigEndian.{Bytes}
@@ -51,6 +55,13 @@ verdict-most s =
 -- a file that is not accepted has a number
 pub verdict-refused : (s : List ℕ) → Bytes s → (Accepted s → ⊥) → verdict_of s ≡ 0 → ⊥
 verdict-refused s bytes h z = h ((accepted-exactly s bytes).0 z)
+
+-- a refusal has a number
+pub refusal-numbered : (r : Refusal) → refusal_number r ≡ accepted → ⊥
+refusal-numbered r z =
+    let e : ◌≡◌ {A = Outcome} (Err r) (Ok record {}) = refusal_number-injective (Err r) (Ok record {}) z in
+    let d : ◌≡◌ {A = ℕ} 0 1 = cc in
+    absurd (omega arith)
 
 -- What is said by a number
 
@@ -124,11 +135,23 @@ summary-container s n h q =
     let e : n ≡ verdict_of s = verdict-container s n h q in
     sym (said-refused n (entries_of (document_of s)) h) ∙ ap (λ (m : ℕ). said m (entries_of (document_of s))) e
 
+-- by the verdict's number
+pub summary-number : (s : List ℕ) (n : ℕ) → (n ≡ accepted → ⊥) → n ≡ verdict_of s → refused n ≡ summary_of s
+unfolding summary_of
+summary-number s n h e =
+    sym (said-refused n (entries_of (document_of s)) h) ∙ ap (λ (m : ℕ). said m (entries_of (document_of s))) e
+
 -- by the container's document
 pub summary-document : (s : List ℕ) (c : Container s) → container_number s ≡ accepted → said (entries_number c.entries) c.entries ≡ summary_of s
 unfolding summary_of
 summary-document s c z =
     ap₂ said (verdict-document s (entries_number c.entries) c z refl) (ap entries_of (sym (container-document c)))
+
+-- by what is said of the container's document, where it is not refused
+pub summary-judged : (s : List ℕ) (c : Container s) → container_number s ≡ accepted → (r : Result Summary Refusal) → number_of r ≡ entries_number c.entries
+    → IfOk r (λ (x : Summary). x ≡ accepted_summary c.entries) → IfOk r (λ (x : Summary). x ≡ summary_of s)
+summary-judged s c z (Ok x) e h = h ∙ sym (said-accepted (entries_number c.entries) c.entries (sym e)) ∙ summary-document s c z
+summary-judged s c z (Err x) e h = tt
 
 -- by the counts and the set of fields of a document whose counts agree
 pub summary-counted : (es : Entries) {c : Counts} {presence : ℕ} → CountsIn (counted_of es) c → CountsAgree (counted_of es) → presence ≡ presence_of es → accepted_with c presence ≡ accepted_summary es

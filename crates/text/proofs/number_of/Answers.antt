@@ -3,39 +3,39 @@ use mathlib.Core.Path.{sym, ap, ◌∙◌}
 use Prim.Native.Nat.{◌<◌}
 use native.Mathlib.Omega.{arith}
 use native.Mathlib.Numerals.{add-one}
+use borrow.Author.Tests.{eqb-true, eqb-false}
 use lib.ListN.{length, drop_of_length-le}
 use lib.Seq.{drop-cons}
-use Rattle.text.specs.Laws.Decimal.{finished, finished-start, none_said, finished-low, finished-high, finished-digit, finished-end}
+use Rattle.text.specs.Laws.Decimal.{finished, finished-start, none_said, finished-other, finished-more, finished-end}
 use Rattle.text.proofs.number_of.Goals as goal
 
-pub returns-then-word-eq0 : goal.returns-then-word-eq0
-returns-then-word-eq0 c = sym (none_said _ c.if-word-eq0.true)
+pub returns-then-is_empty : goal.returns-then-is_empty
+returns-then-is_empty c = sym (none_said _ (eqb-true _ _ (sym c.is_empty.ensures ∙ c.if-is_empty.true)))
 
-pub loop-i-init : goal.loop-i-init
-loop-i-init c = (omega arith, omega arith, finished-start _ c.if-word-eq0.false)
+pub loop-byte-init : goal.loop-byte-init
+loop-byte-init c = (omega arith, finished-start _ (eqb-false _ _ (sym c.is_empty.ensures ∙ c.if-is_empty.false)))
 
-pub returns-then-b-lt48 : goal.returns-then-b-lt48
-returns-then-b-lt48 c =
+pub returns-then-not-is_ascii_digit : goal.returns-then-not-is_ascii_digit
+returns-then-not-is_ascii_digit c =
     let word = c.args.word.now in
-    let p = c.loop-i in
-    sym (p.invariant.2 ∙ ap (finished p.number) (drop-cons word p.i 0 (omega arith)) ∙ finished-low p.number _ _ c.if-b-lt48.true)
+    let p = c.loop-byte in
+    sym (p.invariant.1 ∙ ap (finished p.number) (drop-cons word p.byte-index 0 (omega arith)) ∙ finished-other p.number _ _ (sym c.is_ascii_digit.ensures.value ∙ c.if-not-is_ascii_digit.true))
 
-pub returns-then-b-gt57 : goal.returns-then-b-gt57
-returns-then-b-gt57 c =
+pub loop-byte-preserved : goal.loop-byte-preserved
+loop-byte-preserved c =
     let word = c.args.word.now in
-    let p = c.loop-i in
-    sym (p.invariant.2 ∙ ap (finished p.number) (drop-cons word p.i 0 (omega arith)) ∙ finished-high p.number _ _ c.if-b-lt48.false c.if-b-gt57.true)
-
-pub loop-i-preserved : goal.loop-i-preserved
-loop-i-preserved c =
-    let word = c.args.word.now in
-    let p = c.loop-i in
-    let h : p.i < length word = omega arith in
-    let e = c.with_digit-number.ensures in
-    (omega arith, omega arith, p.invariant.2 ∙ ap (finished p.number) (drop-cons word p.i 0 h) ∙ finished-digit p.number _ _ c.if-b-lt48.false c.if-b-gt57.false ∙ rw (add-one p.i, e))
+    let p = c.loop-byte in
+    let h : p.byte-index < length word = omega arith in
+    let e = c.with_digit-number.ensures in (
+      omega arith,
+      p.invariant.1
+          ∙ ap (finished p.number) (drop-cons word p.byte-index 0 h)
+          ∙ finished-more p.number _ _ (sym c.is_ascii_digit.ensures.value ∙ c.if-not-is_ascii_digit.false)
+          ∙ rw (add-one p.byte-index, e),
+    )
 
 pub returns : goal.returns
 returns c =
     let word = c.args.word.now in
-    let p = c.loop-i in
-    sym (p.invariant.2 ∙ ap (finished p.number) (drop_of_length-le word {i = p.i} (omega arith)) ∙ finished-end p.number p.invariant.1)
+    let p = c.loop-byte in
+    sym (p.invariant.1 ∙ ap (finished p.number) (drop_of_length-le word {i = p.byte-index} (omega arith)) ∙ finished-end p.number p.invariant.0)

@@ -1,4 +1,4 @@
--- The bytes before i are put, each after those before it.
+-- The bytes passed are put, each after those before it.
 use Prim.Native.Nat.{◌<◌}
 use native.Mathlib.Omega.{arith}
 use native.Mathlib.Numerals.{add-one}
@@ -7,9 +7,9 @@ use lib.Seq.{take-suc}
 use Rattle.text.specs.Laws.Put.{put-more, put_as}
 use Rattle.text.proofs.put.Goals as goal
 
-pub loop-i-preserved : goal.loop-i-preserved
-loop-i-preserved c =
+pub loop-byte-preserved : goal.loop-byte-preserved
+loop-byte-preserved c =
     let bytes = c.args.bytes.now in
-    let p = c.loop-i in
-    let h : p.i < length bytes = omega arith in
-    (omega arith, put_as (put-more p.invariant.1 c.put_byte-next.ensures) (rw (add-one p.i, take-suc bytes p.i 0)))
+    let p = c.loop-byte in
+    let h : p.byte-index < length bytes = omega arith in
+    put_as (put-more p.invariant c.put_byte-next.ensures) (rw (add-one p.byte-index, take-suc bytes p.byte-index 0))

@@ -1,11 +1,7 @@
--- The bytes before i are put, each after those before it.
-use Prim.Native.Nat.{◌-◌, ◌≤◌}
-use lib.ListN.{length, take}
+-- The bytes passed are put, each after those before it.
+use lib.ListN.{take}
 use Rattle.text.specs.Put.{Put}
 use Rattle.text.proofs.put.Given as goal
 
-abbrev pub invariant-loop-i : goal.invariant-loop-i
-invariant-loop-i l = (l.i ≤ length l.bytes) × Put l.initial.buffer l.at (take l.i l.bytes) l.buffer l.next
-
-abbrev pub decreases-loop-i : goal.decreases-loop-i
-decreases-loop-i l = length l.bytes - l.i
+abbrev pub invariant-loop-byte : goal.invariant-loop-byte
+invariant-loop-byte l = Put l.initial.buffer l.at (take l.byte-index l.bytes) l.buffer l.next

@@ -1,10 +1,8 @@
 -- Laws of numbers in decimal: digit by digit, how many there are, and a word read digit by digit. Assumes nothing.
-use Rattle.std.specs.Prelude.{◌≡◌, refl, Bool, true, false, cond, List, [], ◌∷◌, ◌++◌, ℕ, zero, suc, ◌+◌, ◌-◌, ◌*◌, ◌/◌, ◌%◌, ◌^◌, ◌<◌, ◌≤◌, ltb, leb, length}
+use Rattle.std.specs.Prelude.{◌≡◌, refl, Option, Some, None, Bool, true, false, cond, List, [], ◌∷◌, ◌++◌, ℕ, zero, suc, ◌+◌, ◌-◌, ◌*◌, ◌/◌, ◌%◌, ◌^◌, ◌<◌, ◌≤◌, ltb, leb, length}
 use Rattle.std.proofs.Common.{sym, ap, ◌∙◌, arith, pow-suc, length-append, lt-ltb, le-ltb, le-leb, leb-true, leb-false}
 use Rattle.std.proofs.lemmas.Bool.{lt-leb}
-use Rattle.text.specs.declared.Number.{Number}
-use Rattle.text.specs.declared.Number.TheVariants.{Is, None}
-use Rattle.text.specs.Decimal.{glyph, decimal_in, decimal, all_digits, value_from, most, number_in}
+use Rattle.text.specs.Decimal.{glyph, decimal_in, decimal, is_digit, all_digits, value_from, most, number_in}
 
 -- a decimal digit is one of base 16
 pub glyph-digit : (n : ℕ) → n < 10 → glyph n ≡ 48 + n
@@ -124,8 +122,8 @@ most-value s n = go (leb n 4294967295) refl
 -- A word, digit by digit
 
 -- the number of a word of which the digits before s say n
-unfoldable pub finished : ℕ → List ℕ → Number
-finished n s = cond (all_digits s) (Is (most (value_from n s))) None
+unfoldable pub finished : ℕ → List ℕ → Option ℕ
+finished n s = cond (all_digits s) (Some (most (value_from n s))) None
 
 pub finished-start : (s : List ℕ) → (length s ≡ 0 → ⊥) → number_in s ≡ finished 0 s
 unfolding number_in finished
@@ -138,19 +136,24 @@ none_said [] h = refl
 none_said (b ∷ s) h = absurd (omega arith)
 
 -- a byte that is no digit
-pub finished-low : (n b : ℕ) (s : List ℕ) → b < 48 → finished n (b ∷ s) ≡ None
+pub finished-other : (n b : ℕ) (s : List ℕ) → is_digit b ≡ false → finished n (b ∷ s) ≡ None
 unfolding finished all_digits
-finished-low n b s h = simp (lt-leb 48 b h)
+finished-other n b s h = simp h
+
+pub finished-low : (n b : ℕ) (s : List ℕ) → b < 48 → finished n (b ∷ s) ≡ None
+finished-low n b s h = finished-other n b s (simp (lt-leb 48 b h))
 
 pub finished-high : (n b : ℕ) (s : List ℕ) → 48 ≤ b → 57 < b → finished n (b ∷ s) ≡ None
-unfolding finished all_digits
-finished-high n b s l h = simp (le-leb 48 b l, lt-leb b 57 h)
+finished-high n b s l h = finished-other n b s (simp (le-leb 48 b l, lt-leb b 57 h))
 
 -- a digit
-pub finished-digit : (n b : ℕ) (s : List ℕ) → 48 ≤ b → b ≤ 57 → finished n (b ∷ s) ≡ finished (most (n * 10 + (b - 48))) s
+pub finished-more : (n b : ℕ) (s : List ℕ) → is_digit b ≡ true → finished n (b ∷ s) ≡ finished (most (n * 10 + (b - 48))) s
 unfolding finished all_digits value_from
-finished-digit n b s l h = simp (le-leb 48 b l, le-leb b 57 h, most-value s (n * 10 + (b - 48)))
+finished-more n b s h = simp (h, most-value s (n * 10 + (b - 48)))
 
-pub finished-end : (n : ℕ) → n ≤ 4294967295 → finished n [] ≡ Is n
+pub finished-digit : (n b : ℕ) (s : List ℕ) → 48 ≤ b → b ≤ 57 → finished n (b ∷ s) ≡ finished (most (n * 10 + (b - 48))) s
+finished-digit n b s l h = finished-more n b s (simp (le-leb 48 b l, le-leb b 57 h))
+
+pub finished-end : (n : ℕ) → n ≤ 4294967295 → finished n [] ≡ Some n
 unfolding finished all_digits value_from
-finished-end n h = let m : most n ≡ n = omega arith in ap Is m
+finished-end n h = let m : most n ≡ n = omega arith in ap Some m

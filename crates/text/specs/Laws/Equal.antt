@@ -1,8 +1,12 @@
 -- Laws of the test of equal bytes: it tells what is equal, and what is left from a place on decides. Assumes nothing.
-use Rattle.std.specs.Prelude.{◌≡◌, refl, Bool, true, false, ◌&&◌, List, [], ◌∷◌, ◌++◌, ℕ, ◌+◌, ◌<◌, ◌≤◌, eqb, length, get_or, take, drop}
-use Rattle.std.proofs.Common.{sym, ap, ap₂, ◌∙◌, add-one, arith, drop_of_length-le, length-take, take-append-drop}
+use Rattle.std.specs.Prelude.{◌≡◌, refl, Bool, true, false, ◌&&◌, List, [], ◌∷◌, ◌++◌, ℕ, ◌+◌, ◌-◌, ◌<◌, ◌≤◌, min, eqb, leb, length, get_or, take, drop}
+use Rattle.std.proofs.Common.{sym, ap, ap₂, ◌∙◌, add-one, arith, leb-true, leb-false, drop_of_length-le, length-take, take-append-drop}
 use Rattle.std.proofs.Math.Seq.{drop-cons, take-nil, take-append_seam}
 use borrow.Author.Tests.{eqb-true, eq-eqb, ne_eqb}
+use Rattle.std.specs.Cmp.Lexicographic.{pointwise}
+use Rattle.std.proofs.lemmas.Bool.Decides.{same_from_decides, Decides-eqb}
+use Rattle.std.proofs.lemmas.Slice.{between_to_end}
+use Rattle.std.proofs.lemmas.Slice.Eq.{slice_eq-Decides}
 use Rattle.text.specs.Equal.{equal, begins}
 
 pub equal-true : (x y : List ℕ) → equal x y ≡ true → x ≡ y
@@ -31,6 +35,13 @@ equal-false x y h = go (equal x y) refl
 -- different lists are not equal
 pub false-equal : (x y : List ℕ) → equal x y ≡ false → x ≡ y → ⊥
 false-equal x y h e = let t : equal x y ≡ true = rw e (equal-refl y) in let z : ◌≡◌ {A = ℕ} 0 1 = cc in omega arith
+
+-- `==` of two slices is this test, also the other way round
+pub pointwise-equal : (x y : List ℕ) → pointwise eqb x y ≡ equal x y
+pointwise-equal x y = same_from_decides _ _ (slice_eq-Decides Decides-eqb x y _ refl) ((λ h. equal-true x y h), (λ e. rw e (equal-refl y)))
+
+pub pointwise-swapped : (x y : List ℕ) → pointwise eqb x y ≡ equal y x
+pointwise-swapped x y = same_from_decides _ _ (slice_eq-Decides Decides-eqb x y _ refl) ((λ h. sym (equal-true y x h)), (λ e. rw e (equal-refl y)))
 
 -- lists of different lengths are not equal
 pub equal-lengths : (x y : List ℕ) → (length x ≡ length y → ⊥) → equal x y ≡ false
@@ -82,3 +93,14 @@ empty-test (b ∷ word) = ne_eqb (length (b ∷ word)) 0 (λ e. omega arith)
 -- past the end only the empty word stands
 pub begins-past : (word s : List ℕ) (at : ℕ) → length s ≤ at → eqb (length word) 0 ≡ begins word (drop at s)
 begins-past word s at h = empty-test word ∙ sym (begins-none word s at h)
+
+-- `starts_with` of what is left from a place on is this test; past the end nothing is left
+pub starts-begins : (word s : List ℕ) (at m : ℕ) → m ≡ min at (length s)
+    → pointwise eqb word (take (length word) (take (length s - m) (drop m s))) ≡ begins word (drop at s)
+starts-begins word s at m e =
+    ap (λ (l : List ℕ). pointwise eqb word (take (length word) l)) (between_to_end s m (length s) (omega arith) ∙ left (leb at (length s)) refl)
+    ∙ pointwise-swapped word (take (length word) (drop at s))
+  where
+    left : (t : Bool) → leb at (length s) ≡ t → drop m s ≡ drop at s
+    left true h = let l = leb-true at (length s) h in let q : m ≡ at = omega arith in rw q
+    left false h = let l = leb-false at (length s) h in drop_of_length-le s {i = m} (omega arith) ∙ sym (drop_of_length-le s {i = at} (omega arith))

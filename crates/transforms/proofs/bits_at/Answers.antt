@@ -19,10 +19,10 @@ not_float Kind.Outside h = refl
 not_float Kind.Missing h = refl
 
 pub returns-in_default : goal.returns-in_default
-returns-in_default c = λ t x e a. absurd (at_head a (sym (c.head_at.ensures.rule t) ∙ c.in_default.is))
+returns-in_default c = λ x e a. absurd (at_head a (sym (c.head_at.ensures.rule) ∙ c.in_default.is))
 
 pub returns-in-Float : goal.returns-in-Float
-returns-in-Float c = λ t x e a. read-bits x a (sym (c.head_at.ensures.rule t) ∙ c.in-At.is) (sym (c.kind_at.ensures.rule t) ∙ c.in-Float.is)
+returns-in-Float c = λ x e a. read-bits x a (sym (c.head_at.ensures.rule) ∙ c.in-Some.is) (sym (c.kind_at.ensures.rule) ∙ c.in-Float.is)
 
 pub returns-in_default-kind_at : goal.returns-in_default-kind_at
-returns-in_default-kind_at c = λ t x e a. no_bits x a (sym (c.kind_at.ensures.rule t)) (not_float c.kind_at.result c.in_default-kind_at.not-Float)
+returns-in_default-kind_at c = λ x e a. no_bits x a (sym (c.kind_at.ensures.rule)) (not_float c.kind_at.result c.in_default-kind_at.not-Float)

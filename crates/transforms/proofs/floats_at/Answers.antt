@@ -4,6 +4,6 @@ use Rattle.transforms.proofs.floats_at.Goals as goal
 
 pub returns : goal.returns
 returns c =
-    λ t x e a n.
-    let i = c.items_at-part.ensures.says t x e a in
-    c.floats_from.ensures t (items_of x) i.end i.all n
+    λ x e a n.
+    let i = c.items_at-part.ensures.says x e a in
+    c.floats_from.ensures (items_of x) i.end i.all n

@@ -1,17 +1,19 @@
 -- A transform's matrix: values by their numbers, floats one after another, what a typed bioAssemblyList holds, and the answer case by case.
 -- Assumes nothing.
-use Rattle.std.specs.Prelude.{◌≡◌, refl, Bool, true, false, List, [], ◌∷◌, ◌++◌, ℕ, zero, suc, ◌+◌, ◌-◌, ◌%◌, ◌≤◌, ◌<◌, ltb, Float, length, get_or, set, take, drop}
-use Rattle.std.proofs.Common.{sym, ap, ap₂, subst, ◌∙◌, append_assoc, append-nil, arith, mod-eq_of_lt, suc-add, eq-eqb, ne_eqb, lt-ltb, le-ltb, ltb-true, ltb-false, length-set, take-suc, take_all, get_or-set_same}
+use Rattle.std.specs.Prelude.{◌≡◌, refl, cond, Option as Place, Some, None, Result, Ok, Err, eqb, Bool, true, false, List, [], ◌∷◌, ◌++◌, ℕ, zero, suc, ◌+◌, ◌-◌, ◌%◌, ◌≤◌, ◌<◌, ltb, Float, length, get_or, set, take, drop}
+use Rattle.std.proofs.Common.{sym, ap, ap₂, subst, ◌∙◌, append_assoc, append-nil, arith, mod-eq_of_lt, suc-add, eq-eqb, ne_eqb, eqb-true, lt-ltb, le-ltb, ltb-true, ltb-false, length-set, take-suc, take_all, get_or-set_same}
 use Rattle.std.proofs.Math.Option.{Option, some, none as nothing}
 use Rattle.std.specs.Float.{nan}
 use Rattle.refusal.specs.Table.{accepted, field_type, no_such_field, no_such_entry}
+use Rattle.refusal.specs.Outcome.{number_of, numbered}
+use Rattle.refusal.specs.declared.Refusal.{Refusal}
 use Rattle.numbers.specs.Laws.Tests.{clash}
 use Rattle.text.specs.Ascii.{ascii}
 use Rattle.text.specs.Equal.{equal}
 use Rattle.heads.specs.Lead.{more_of, held_by}
-use Rattle.heads.specs.Head.{Holds, kind_at, head_at}
+use Rattle.heads.specs.Head.{some_head, Holds, kind_at, head_at}
 use Rattle.heads.specs.declared.Kind.{Kind}
-use Rattle.heads.specs.declared.Head.{Head}
+use Rattle.heads.proofs.Laws.Head.{same-parts}
 use Rattle.heads.proofs.Laws.Table.{more_of-bound}
 use Rattle.messagepack.specs.Document.{Document, Documents, integer, float, string, binary, array, map, none, item, count, Writes}
 use Rattle.values.specs.Parts.{bits_of, items_of, entries_of, look}
@@ -27,10 +29,8 @@ use Rattle.fields.specs.Tests.{is_there, typed}
 use Rattle.fields.specs.Fields.{find_row, is_required, type_under, field_number, type_in, field_type_of}
 use Rattle.fields.specs.Laws.Fields.{has-name, fits-name}
 use Rattle.fields.specs.Laws.Types.{typed-exactly}
-use Rattle.transforms.specs.Matrix.{nth, assemblies_type, assemblies_of, transform_in, assemblies_number, matrix_number, float_of, floats_of, matrix_in, handed, matrix_floats}
-use Rattle.transforms.specs.Steps.{FoundSays, absent, there, refused_by, answer, answer_of}
-use Rattle.transforms.specs.declared.Found.{Found}
-use Rattle.transforms.specs.declared.Transform.{Transform}
+use Rattle.transforms.specs.Matrix.{zeros, nth, assemblies_type, assemblies_of, transform_in, assemblies_number, matrix_number, float_of, floats_of, matrix_in, handed, matrix_floats}
+use Rattle.transforms.specs.Steps.{FoundSays, absent, there, floats_or_zeros, answer, answer_of}
 
 -- a float's bits
 
@@ -51,13 +51,12 @@ unfolding Writes
 bits_small {bits = bits} a = let h = a.writes in holds-small (more_of h.lead) h.lead bits (more_of-bound h.lead) h.byte h.holds
 
 -- the bits of the float at a place are what its head holds
-pub read-bits : {s : List ℕ} {p e n r : ℕ} (x : Document) → At s p x e → head_at s p ≡ Head.At n r → kind_at s p ≡ Kind.Float → n % 4294967296 ≡ bits_of x
+pub read-bits : {s : List ℕ} {p e n r : ℕ} (x : Document) → At s p x e → head_at s p ≡ some_head n r → kind_at s p ≡ Kind.Float → n % 4294967296 ≡ bits_of x
 read-bits {s} {p} {e} {n} {r} x a h q = go x a (read-heads x a q)
   where
     go : (y : Document) → At s p y e → heads y Kind.Float ≡ true → n % 4294967296 ≡ bits_of y
     go (float bits) b f =
-        let g = sym (open-float b).head ∙ h in
-        let i : bits ≡ n = cc in
+        let i : bits ≡ n = (same-parts (sym (open-float b).head ∙ h)).0 in
         let l = bits_small b in
         mod-eq_of_lt (omega arith) ∙ sym i
     go (integer v) b f = clash f
@@ -118,13 +117,13 @@ going_more {s} {ds} {n} {p} {left} {e} {q} g l f =
     less zero h d r = absurd (omega arith)
     less (suc i) h d r = let z : i ≡ suc i - 1 = omega arith in ap (λ (j : ℕ). nth j r) z
 
-pub going_end : {s : List ℕ} {ds : Documents} {n p left e : ℕ} → Going s ds n p left e → left ≤ 0 → FoundSays s (Found.At p) (nth n ds)
+pub going_end : {s : List ℕ} {ds : Documents} {n p left e : ℕ} → Going s ds n p left e → left ≤ 0 → FoundSays s (Some p) (nth n ds)
 unfolding nth
 going_end {s} {ds} {n} {p} {left} {e} g l =
     let m = next g.rest g.all (omega (arith, g.inside)) in
     let z : left ≡ 0 = omega arith in
     let i : nth n ds ≡ some m.d = g.same ∙ ap₂ nth z m.is in
-    subst (FoundSays s (Found.At p)) (sym i) (there m.first)
+    subst (FoundSays s (Some p)) (sym i) (there m.first)
 
 -- past the last value there is none
 pub nth_past : (n : ℕ) (ds : Documents) → count ds ≤ n → nth n ds ≡ nothing
@@ -194,16 +193,16 @@ four (a ∷ fs) (suc i) l = rw (suc-add i 1, suc-add i 2, suc-add i 3) (four fs 
 
 -- a value that was found stands at its place; one that is absent is not there
 
-pub found-there : {s : List ℕ} {p : ℕ} {r : Found} {o : Option Document} → FoundSays s r o → r ≡ Found.At p → Stands s p o
-found-there {s} {p} {r} {o} f q = go (subst (λ (y : Found). FoundSays s y o) q f)
+pub found-there : {s : List ℕ} {p : ℕ} {r : Place ℕ} {o : Option Document} → FoundSays s r o → r ≡ Some p → Stands s p o
+found-there {s} {p} {r} {o} f q = go (subst (λ (y : Place ℕ). FoundSays s y o) q f)
   where
-    go : {u : Option Document} → FoundSays s (Found.At p) u → Stands s p u
+    go : {u : Option Document} → FoundSays s (Some p) u → Stands s p u
     go (there {e = e} {x = x} a) = record { x = x; end = e; is = refl; at = a }
 
-pub found-absent : {s : List ℕ} {r : Found} {o : Option Document} → FoundSays s r o → r ≡ Found.Absent → o ≡ nothing
-found-absent {s} {r} {o} f q = go (subst (λ (y : Found). FoundSays s y o) q f)
+pub found-absent : {s : List ℕ} {r : Place ℕ} {o : Option Document} → FoundSays s r o → r ≡ None → o ≡ nothing
+found-absent {s} {r} {o} f q = go (subst (λ (y : Place ℕ). FoundSays s y o) q f)
   where
-    go : {u : Option Document} → FoundSays s Found.Absent u → u ≡ nothing
+    go : {u : Option Document} → FoundSays s None u → u ≡ nothing
     go absent = refl
 
 pub place-there : {s : List ℕ} {p : ℕ} {o : Option Document} {x : Document} → PlaceSays s p o → o ≡ some x → record { end : ℕ; at : At s p x end }
@@ -257,23 +256,23 @@ matrix-sixteen x h = ap (λ (z : Document). count (items_of z)) h.is ∙ h.many
 -- the answer by bioAssemblyList
 
 module _ (a t : ℕ) (x : Document) (h : typed assemblies_type x ≡ true) where
-  pub no-assembly : nth a (items_of x) ≡ nothing → refused_by no_such_entry ≡ answer_of a t (some x)
+  pub no-assembly : nth a (items_of x) ≡ nothing → Err no_such_entry ≡ answer_of a t (some x)
   no-assembly q = rw (h, q)
 
   module _ {y z : Document} (p : nth a (items_of x) ≡ some y) (q : look (ascii "transformList") (entries_of y) ≡ some z) where
-    pub no-transform : nth t (items_of z) ≡ nothing → refused_by no_such_entry ≡ answer_of a t (some x)
+    pub no-transform : nth t (items_of z) ≡ nothing → Err no_such_entry ≡ answer_of a t (some x)
     no-transform n = rw (h, p, q, n)
 
-    pub matrix-there : {w m : Document} {floats : List Float} → nth t (items_of z) ≡ some w → look (ascii "matrix") (entries_of w) ≡ some m → floats ≡ floats_of (items_of m) → record { refusal = accepted; floats = floats } ≡ answer_of a t (some x)
+    pub matrix-there : {w m : Document} {floats : List Float} → nth t (items_of z) ≡ some w → look (ascii "matrix") (entries_of w) ≡ some m → floats ≡ floats_of (items_of m) → Ok floats ≡ answer_of a t (some x)
     matrix-there u v f = rw (h, p, q, u, v, f)
 
-pub no-assemblies : (a t : ℕ) {o : Option Document} → o ≡ nothing → refused_by no_such_field ≡ answer_of a t o
+pub no-assemblies : (a t : ℕ) {o : Option Document} → o ≡ nothing → Err no_such_field ≡ answer_of a t o
 no-assemblies a t q = rw q
 
-pub mistyped : (a t : ℕ) {o : Option Document} {x : Document} → o ≡ some x → typed assemblies_type x ≡ false → refused_by field_type ≡ answer_of a t o
+pub mistyped : (a t : ℕ) {o : Option Document} {x : Document} → o ≡ some x → typed assemblies_type x ≡ false → Err field_type ≡ answer_of a t o
 mistyped a t q f = rw (q, f)
 
-pub answers-as : (a t : ℕ) {o : Option Document} {x : Document} {r : Transform} → o ≡ some x → r ≡ answer_of a t (some x) → r ≡ answer_of a t o
+pub answers-as : (a t : ℕ) {o : Option Document} {x : Document} {r : Result (List Float) ℕ} → o ≡ some x → r ≡ answer_of a t (some x) → r ≡ answer_of a t o
 answers-as a t q e = rw q e
 
 -- the type of the field bioAssemblyList
@@ -282,25 +281,34 @@ unfolding field_type_of type_in find_row equal named
 assemblies-type e = sym (ap field_type_of e)
 
 -- the answer for a file
-pub record Answers (s : List ℕ) (a t : ℕ) (r : Transform) : Type 0 where
-  pub number : r.refusal ≡ matrix_number s a t
-  pub floats : r.floats ≡ matrix_floats s a t
+pub record Answers (s : List ℕ) (a t : ℕ) (r : Result (List Float) Refusal) : Type 0 where
+  pub number : number_of r ≡ matrix_number s a t
+  pub floats : floats_or_zeros r ≡ matrix_floats s a t
 
-answers_by : {s : List ℕ} {a t n : ℕ} {fs : List Float} {r : Transform} → matrix_number s a t ≡ n → matrix_in (transform_in a t (assemblies_of s)) ≡ fs → r ≡ answer n fs → Answers s a t r
+-- an outcome that is an answer has its number, and hands its floats over
+answer-number : (n : ℕ) (fs : List Float) (r : Result (List Float) Refusal) → numbered r ≡ answer n fs → (number_of r ≡ n) × (floats_or_zeros r ≡ handed n fs)
+answer-number n fs r e = go r (eqb n accepted) refl e
+  where
+    go : (r : Result (List Float) Refusal) (b : Bool) → eqb n accepted ≡ b → numbered r ≡ cond b (Ok fs) (Err n) → (number_of r ≡ n) × (floats_or_zeros r ≡ cond b fs zeros)
+    go (Ok gs) true h k = (sym (eqb-true n accepted h), cc)
+    go (Err g) false h k = (cc, refl)
+    go (Ok gs) false h k = let z : ◌≡◌ {A = ℕ} 0 1 = cc in absurd (omega arith)
+    go (Err g) true h k = let z : ◌≡◌ {A = ℕ} 0 1 = cc in absurd (omega arith)
+
+answers_by : {s : List ℕ} {a t n : ℕ} {fs : List Float} {r : Result (List Float) Refusal} → matrix_number s a t ≡ n → matrix_in (transform_in a t (assemblies_of s)) ≡ fs → numbered r ≡ answer n fs → Answers s a t r
 unfolding matrix_floats
-answers_by p q e = record {
-  number = ap (λ (y : Transform). y.refusal) e ∙ sym p;
-  floats = ap (λ (y : Transform). y.floats) e ∙ sym (ap₂ handed p q);
-}
+answers_by {n = n} {fs = fs} {r = r} p q e =
+    let k = answer-number n fs r e in
+    record { number = k.0 ∙ sym p; floats = k.1 ∙ sym (ap₂ handed p q) }
 
 -- a file that is no container has its number
-pub no-container : {s : List ℕ} (a t : ℕ) {r : Transform} → (container_number s ≡ 0 → ⊥) → r ≡ refused_by (container_number s) → Answers s a t r
+pub no-container : {s : List ℕ} (a t : ℕ) {r : Result (List Float) Refusal} → (container_number s ≡ 0 → ⊥) → numbered r ≡ Err (container_number s) → Answers s a t r
 unfolding matrix_number
 no-container {s} a t {r} n e =
     answers_by {n = container_number s} (rw (ne_eqb (container_number s) accepted n)) refl (e ∙ rw (ne_eqb (container_number s) accepted n))
 
 -- in a container bioAssemblyList decides
-pub container-answers : {s : List ℕ} (a t : ℕ) {r : Transform} (c : Container s) → container_number s ≡ 0 → r ≡ answer_of a t (look (ascii "bioAssemblyList") c.entries) → Answers s a t r
+pub container-answers : {s : List ℕ} (a t : ℕ) {r : Result (List Float) Refusal} (c : Container s) → container_number s ≡ 0 → numbered r ≡ answer_of a t (look (ascii "bioAssemblyList") c.entries) → Answers s a t r
 unfolding matrix_number
 container-answers {s} a t {r} c z e =
     let d : assemblies_of s ≡ look (ascii "bioAssemblyList") c.entries = ap (λ (x : Document). look (ascii "bioAssemblyList") (entries_of x)) (document_of-is (map c.entries) s c.writes c.nested) in

@@ -1,16 +1,17 @@
 -- `utf8::highest` meets its contract: it is the definition's table. Assumes nothing.
-use borrow.Author.Tests.{eq-eqb, ne_eqb}
+use native.Mathlib.Omega.{arith}
+use Rattle.std.proofs.lemmas.Bool.Decides.{nat_tests}
 use Rattle.utf8.specs.Check.{highest}
 use Rattle.utf8.proofs.highest.Goals as goal
 
-pub returns-then-lead-eq237 : goal.returns-then-lead-eq237
+pub returns-in-237 : goal.returns-in-237
 unfolding highest
-returns-then-lead-eq237 c = simp (eq-eqb c.args.lead 0xed c.if-lead-eq237.true)
+returns-in-237 c = rw c.in-237.is
 
-pub returns-then-lead-eq244 : goal.returns-then-lead-eq244
+pub returns-in-244 : goal.returns-in-244
 unfolding highest
-returns-then-lead-eq244 c = simp (ne_eqb c.args.lead 0xed c.if-lead-eq237.false, eq-eqb c.args.lead 0xf4 c.if-lead-eq244.true)
+returns-in-244 c = rw c.in-244.is
 
-pub returns : goal.returns
+pub returns-in_default : goal.returns-in_default
 unfolding highest
-returns c = simp (ne_eqb c.args.lead 0xed c.if-lead-eq237.false, ne_eqb c.args.lead 0xf4 c.if-lead-eq244.false)
+returns-in_default c = grind (arith, nat_tests)

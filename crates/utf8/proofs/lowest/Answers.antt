@@ -1,16 +1,17 @@
 -- `utf8::lowest` meets its contract: it is the definition's table. Assumes nothing.
-use borrow.Author.Tests.{eq-eqb, ne_eqb}
+use native.Mathlib.Omega.{arith}
+use Rattle.std.proofs.lemmas.Bool.Decides.{nat_tests}
 use Rattle.utf8.specs.Check.{lowest}
 use Rattle.utf8.proofs.lowest.Goals as goal
 
-pub returns-then-lead-eq224 : goal.returns-then-lead-eq224
+pub returns-in-224 : goal.returns-in-224
 unfolding lowest
-returns-then-lead-eq224 c = simp (eq-eqb c.args.lead 0xe0 c.if-lead-eq224.true)
+returns-in-224 c = rw c.in-224.is
 
-pub returns-then-lead-eq240 : goal.returns-then-lead-eq240
+pub returns-in-240 : goal.returns-in-240
 unfolding lowest
-returns-then-lead-eq240 c = simp (ne_eqb c.args.lead 0xe0 c.if-lead-eq224.false, eq-eqb c.args.lead 0xf0 c.if-lead-eq240.true)
+returns-in-240 c = rw c.in-240.is
 
-pub returns : goal.returns
+pub returns-in_default : goal.returns-in_default
 unfolding lowest
-returns c = simp (ne_eqb c.args.lead 0xe0 c.if-lead-eq224.false, ne_eqb c.args.lead 0xf0 c.if-lead-eq240.false)
+returns-in_default c = grind (arith, nat_tests)

@@ -11,6 +11,6 @@ returns c =
     record {
       by_index = (λ k e.
           lead-more p (is_lead-more _ p.least (omega arith))
-          ∙ simp (e, ← c.lowest-lo.ensures, ← c.highest-hi.ensures) (c.follow.ensures.by_index k));
+          ∙ simp (e, ← c.lowest.ensures, ← c.highest.ensures) (c.follow.ensures.by_index k));
       forward = forward-from _ c.follow.result (omega arith) c.follow.ensures.forward;
     }

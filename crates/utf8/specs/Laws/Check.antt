@@ -4,6 +4,7 @@ use Rattle.std.proofs.Math.Path.{ap}
 use Rattle.std.proofs.Common.{◌∙◌, add-one, arith, drop_of_length-le, drop-cons}
 use borrow.Author.Tests.{ltb-true, lt-ltb, le-ltb, lt-leb, le-leb, ne_eqb}
 use Rattle.std.proofs.Math.Dec.{eqb-suc-zero}
+use Rattle.std.specs.List.{list_all}
 use Rattle.numbers.specs.Ranges.{within}
 use Rattle.utf8.specs.Check.{is_lead, following, lowest, highest, due, is_utf8, is_ascii}
 
@@ -90,6 +91,12 @@ is_ascii-is_utf8 (b ∷ s) h = go (ltb b 0x80) refl h (is_ascii-is_utf8 s)
     go : (t : Bool) → ltb b 0x80 ≡ t → t && is_ascii s ≡ true → (is_ascii s ≡ true → is_utf8 s ≡ true) → is_utf8 (b ∷ s) ≡ true
     go true e k rest = ascii-at (b ∷ s) 0 (omega arith) (ltb-true b 0x80 e) ∙ rest k
     go false e k rest = let z : ◌≡◌ {A = ℕ} 0 1 = cc in absurd (omega arith)
+
+-- the test of each byte
+pub list_all-is_ascii : (s : List ℕ) → list_all (λ b. ltb b 0x80) s ≡ is_ascii s
+unfolding is_ascii
+list_all-is_ascii [] = refl
+list_all-is_ascii (b ∷ s) = ap (λ (t : Bool). ltb b 0x80 && t) (list_all-is_ascii s)
 
 -- one byte at a time: what is left decides
 module _ (s : List ℕ) (i : ℕ) where

@@ -1,11 +1,9 @@
 -- What steps give one after another. Assumes nothing.
-use Rattle.std.specs.Prelude.{◌≡◌, true, false, List, ℕ, ◌+◌, ◌<◌, ◌≤◌, drop}
+use Rattle.std.specs.Prelude.{◌≡◌, Option, Some, None, true, false, List, ℕ, ◌+◌, ◌<◌, ◌≤◌, drop}
 use Rattle.std.proofs.Common.{◌∙◌, subst, arith}
 use Rattle.utf8.specs.Check.{is_lead, following, lowest, highest, due, is_utf8}
 use Rattle.utf8.specs.Step.{Forward, LeadAt}
 use Rattle.utf8.specs.Laws.Check.{lead-at}
-use Rattle.utf8.specs.declared.Step.{Step}
-use Rattle.utf8.specs.declared.Step.TheVariants.{Next, Bad}
 
 -- a byte that starts no character is a fault
 pub lead-fault : {s : List ℕ} {at lead low high : ℕ} → LeadAt s at lead low high → is_lead lead ≡ false → is_utf8 (drop at s) ≡ false
@@ -16,9 +14,9 @@ pub lead-more : {s : List ℕ} {at lead low high : ℕ} → LeadAt s at lead low
     → is_utf8 (drop at s) ≡ due (following lead) (lowest lead) (highest lead) (drop (at + 1) s)
 lead-more {s} {at} p t = lead-at s at p.inside ∙ rw (← p.same) (simp t)
 
-pub forward-next : (a e : ℕ) {n : ℕ} {r : Step} → Forward a e r → r ≡ Next n → (a < n) × (n ≤ e)
+pub forward-next : (a e : ℕ) {n : ℕ} {r : Option ℕ} → Forward a e r → r ≡ Some n → (a < n) × (n ≤ e)
 forward-next a e f q = subst (Forward a e) q f
 
-pub forward-from : (e : ℕ) {a b : ℕ} (r : Step) → a ≤ b → Forward b e r → Forward a e r
-forward-from e (Next n) h f = omega arith
-forward-from e Bad h f = tt
+pub forward-from : (e : ℕ) {a b : ℕ} (r : Option ℕ) → a ≤ b → Forward b e r → Forward a e r
+forward-from e (Some n) h f = omega arith
+forward-from e None h f = tt

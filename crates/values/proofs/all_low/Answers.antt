@@ -1,26 +1,21 @@
 -- No byte so far is larger than the largest, which is below all that they are below.
-use mathlib.Core.Path.{◌≡◌, refl, subst}
-use mathlib.Core.Bool.{Bool, true, false}
-use Prim.Native.Nat.{ℕ, ◌+◌, ◌<◌, ◌≤◌}
+use mathlib.Core.Path.{◌≡◌, ap, ◌∙◌}
+use Prim.Native.Nat.{ℕ, ◌+◌, ◌-◌, ◌<◌, max}
 use native.Mathlib.Omega.{arith}
-use lib.Dec.{ltb}
-use lib.ListN.{get_or}
-use borrow.Author.Tests.{ltb-true, ltb-false}
+use lib.ListN.{get_or, take, drop}
+use Rattle.std.proofs.Common.{below_more}
+use Rattle.std.proofs.lemmas.List.{length-take, get_or-take, get_or-drop}
 use Rattle.values.proofs.all_low.Goals as goal
 
--- one byte more
-more : (f : ℕ → ℕ) (i a b : ℕ) → ((j : ℕ) → j < i → f j ≤ a) → a ≤ b → f i ≤ b → (j : ℕ) → j < i + 1 → f j ≤ b
-more f i a b before le last j h = by (ltb j i) refl
-  where
-    by : (t : Bool) → ltb j i ≡ t → f j ≤ b
-    by true e = omega (arith, before j (ltb-true j i e))
-    by false e = let k : i ≡ j = omega (arith, ltb-false j i e) in subst (λ (x : ℕ). f x ≤ b) k last
-
-pub loop-i-preserved : goal.loop-i-preserved
-loop-i-preserved c =
+pub loop-b-preserved : goal.loop-b-preserved
+loop-b-preserved c =
     let a = c.args in
-    let p = c.loop-i in (
-      omega arith,
-      more (λ (j : ℕ). get_or a.file.now (a.at + j) 0) p.i p.most c.larger-most.result p.invariant.1 c.larger-most.ensures.0 c.larger-most.ensures.1,
-      λ m h all. c.larger-most.ensures.2 m (p.invariant.2 m h (λ j k. all j (omega arith))) (all p.i (omega arith)),
+    let p = c.loop-b in
+    let s = a.file.now in
+    let n = a.at + a.n - a.at in
+    let i : p.b-index < n = omega (arith, c.loop-b-test.true, length-take n (drop a.at s)) in
+    let read : get_or (take n (drop a.at s)) p.b-index 0 ≡ get_or s (a.at + p.b-index) 0 = get_or-take n (drop a.at s) p.b-index 0 i ∙ get_or-drop a.at s p.b-index 0 in
+    let m : c.max-most.result ≡ max p.most (get_or s (a.at + p.b-index) 0) = c.max-most.ensures ∙ ap (λ (b : ℕ). max p.most b) read in (
+      below_more _ _ (λ j h. omega (arith, p.invariant.0 j h, m)) (omega (arith, m)),
+      λ k h all. let l = p.invariant.1 k h (λ j i. all j (omega arith)) in omega (arith, all p.b-index (omega arith), m),
     )

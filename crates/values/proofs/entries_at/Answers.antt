@@ -9,12 +9,12 @@ use borrow.Enum.Refused.{opened}
 use Rattle.values.proofs.entries_at.Goals as goal
 
 pub returns-in_default : goal.returns-in_default
-returns-in_default c = record { table = by-cut _ _ _ no_part head_entries c.head_at.ensures.table c.in_default.is; says = λ t x e a. absurd (at_head a (sym (c.head_at.ensures.rule t) ∙ c.in_default.is)) }
+returns-in_default c = record { table = by-cut _ _ _ no_part head_entries c.head_at.ensures.table c.in_default.is; says = λ x e a. absurd (at_head a (sym (c.head_at.ensures.rule) ∙ c.in_default.is)) }
 
 pub returns-in-Map : goal.returns-in-Map
-returns-in-Map c = record { table = by-head _ _ _ no_part head_entries c.head_at.ensures.table c.in-At.is c.kind_at.ensures.table c.in-Map.is; says = λ t x e a. read-entries x a (sym (c.head_at.ensures.rule t) ∙ c.in-At.is) (sym (c.kind_at.ensures.rule t) ∙ c.in-Map.is) }
+returns-in-Map c = record { table = by-head _ _ _ no_part head_entries c.head_at.ensures.table c.in-Some.is c.kind_at.ensures.table c.in-Map.is; says = λ x e a. read-entries x a (sym (c.head_at.ensures.rule) ∙ c.in-Some.is) (sym (c.kind_at.ensures.rule) ∙ c.in-Map.is) }
 
 pub returns-in_default-kind_at : goal.returns-in_default-kind_at
 returns-in_default-kind_at c =
     let o = kind-other Kind.Map (Kind.Map ∷ []) c.kind_at.result tt (opened c.in_default-kind_at.in_default-kind_at-own.keys2) in
-    record { table = by-other _ _ _ no_part head_entries c.head_at.ensures.table c.in-At.is c.kind_at.ensures.table (rw o); says = λ t x e a. no-entries x a (sym (c.kind_at.ensures.rule t)) o }
+    record { table = by-other _ _ _ no_part head_entries c.head_at.ensures.table c.in-Some.is c.kind_at.ensures.table (rw o); says = λ x e a. no-entries x a (sym (c.kind_at.ensures.rule)) o }

@@ -1,4 +1,5 @@
 -- A short string has its bytes behind its lead byte; any other value is `text_at`'s.
+use Rattle.heads.specs.Table.{lead_table}
 use mathlib.Core.Path.{refl}
 use Prim.Native.Nat.{◌+◌, ◌≤◌}
 use native.Mathlib.Omega.{arith}
@@ -14,6 +15,6 @@ returns-then-n-file c =
     let l = c.if-at-file.true in
     let low = c.if-b-ge160.true in
     let high = c.if-b-lt192.true in
-    let n = c.u8_to_usize-n.ensures.is in
-    let h : a.at + 1 + c.u8_to_usize-n.result ≤ length a.file.now = omega (arith, c.if-n-file.true) in
-    record { inside = h; table = text-short a.leads.now a.file.now a.at l low high n (rw (le-leb _ _ h)); says = λ t x e d. read_short x d l low high n _ (λ i. (refl, refl)) }
+    let n = c.from-n.ensures in
+    let h : a.at + 1 + c.from-n.result ≤ length a.file.now = omega (arith, c.if-n-file.true) in
+    record { inside = h; table = text-short lead_table a.file.now a.at l low high n (rw (le-leb _ _ h)); says = λ x e d. read_short x d l low high n _ (λ i. (refl, refl)) }

@@ -10,11 +10,11 @@ returns-then-file-p c = each
 pub over_run-requires : goal.over_run-requires
 over_run-requires c = (omega arith, sized-one)
 
-pub over_run-requires-then-lead-2 : goal.over_run-requires-then-lead-2
-over_run-requires-then-lead-2 c = (omega arith, sized-two)
+pub over_run-requires-in-205 : goal.over_run-requires-in-205
+over_run-requires-in-205 c = (omega arith, sized-two)
 
-pub over_run-requires-then-lead-3 : goal.over_run-requires-then-lead-3
-over_run-requires-then-lead-3 c = (omega arith, sized-four)
+pub over_run-requires-in-206 : goal.over_run-requires-in-206
+over_run-requires-in-206 c = (omega arith, sized-four)
 
-pub returns : goal.returns
-returns c = each
+pub returns-in_default : goal.returns-in_default
+returns-in_default c = each

@@ -3,10 +3,10 @@ use Rattle.values.specs.Laws.Standing.{steps_low, steps-short, steps-float}
 use Rattle.values.proofs.step_over.Goals as goal
 
 pub returns-then-b-lt128 : goal.returns-then-b-lt128
-returns-then-b-lt128 c = λ t. steps_low _ _ c.if-at-file.true c.if-b-lt128.true
+returns-then-b-lt128 c = steps_low _ _ c.if-at-file.true c.if-b-lt128.true
 
 pub returns-then-b-lt192 : goal.returns-then-b-lt192
-returns-then-b-lt192 c = λ t. steps-short _ _ c.if-at-file.true c.if-b-lt160.false c.if-b-lt192.true c.u8_to_usize.ensures.is c.past.ensures
+returns-then-b-lt192 c = steps-short _ _ c.if-at-file.true c.if-b-lt160.false c.if-b-lt192.true c.from.ensures c.past.ensures
 
 pub returns-then-b : goal.returns-then-b
-returns-then-b c = λ t. steps-float _ _ c.if-at-file.true c.if-b.true c.past-then-b.ensures
+returns-then-b c = steps-float _ _ c.if-at-file.true c.if-b.true c.past-then-b.ensures

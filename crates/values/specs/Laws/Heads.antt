@@ -1,5 +1,5 @@
 -- Values at places by a table of lead bytes: what is made of a head that is known. Assumes nothing.
-use Rattle.std.specs.Prelude.{◌≡◌, refl, Bool, true, false, cond, not, ◌&&◌, List, [], ◌∷◌, map, ℕ, zero, suc, ◌+◌, ◌-◌, ◌≤◌, ◌<◌, T, eqb, leb, ltb, length, get_or}
+use Rattle.std.specs.Prelude.{◌≡◌, refl, Option, None, Bool, true, false, cond, not, ◌&&◌, List, [], ◌∷◌, map, ℕ, zero, suc, ◌+◌, ◌-◌, ◌≤◌, ◌<◌, T, eqb, leb, ltb, length, get_or}
 use Rattle.std.proofs.Common.{sym, ap, subst, ◌∙◌, arith, le-leb, lt-ltb, le-ltb, leb-true, ne_eqb}
 use Rattle.std.proofs.lemmas.Bool.{lt-leb}
 use denote.Enum.Declared.{tag_of}
@@ -8,19 +8,20 @@ use mir.Val.{has_key}
 use Rattle.heads.specs.Table.{kind_cell, kind_by, head_by}
 use Rattle.heads.specs.contracts.Kind.{the_type}
 use Rattle.heads.specs.declared.Kind.{Kind}
+use Rattle.heads.specs.Head.{some_head}
 use Rattle.heads.specs.declared.Head.{Head}
 use Rattle.values.specs.Heads.{no_part, body_part, items_part, by_head, is_short, text_by, text_by_table}
 use Rattle.values.specs.declared.Part.{Part}
 
 -- a head that is cut short, and one that is there with its kind
-module _ (leads s : List ℕ) (at : ℕ) {A : Type 0} (cut : A) (f : Kind → ℕ → ℕ → A) {h : Head} (q : h ≡ head_by leads s at) where
-  pub by-cut : h ≡ Head.Cut → cut ≡ by_head leads s at cut f
+module _ (leads s : List ℕ) (at : ℕ) {A : Type 0} (cut : A) (f : Kind → ℕ → ℕ → A) {h : Option Head} (q : h ≡ head_by leads s at) where
+  pub by-cut : h ≡ None → cut ≡ by_head leads s at cut f
   by-cut t = rw (← q, t)
 
-  pub by-head : {n p : ℕ} → h ≡ Head.At n p → {k d : Kind} → k ≡ kind_by leads s at → k ≡ d → f d n p ≡ by_head leads s at cut f
+  pub by-head : {n p : ℕ} → h ≡ some_head n p → {k d : Kind} → k ≡ kind_by leads s at → k ≡ d → f d n p ≡ by_head leads s at cut f
   by-head t i j = rw (← q, t, ← i, j)
 
-  pub by-other : {n p : ℕ} → h ≡ Head.At n p → {k : Kind} → k ≡ kind_by leads s at → f k n p ≡ cut → cut ≡ by_head leads s at cut f
+  pub by-other : {n p : ℕ} → h ≡ some_head n p → {k : Kind} → k ≡ kind_by leads s at → f k n p ≡ cut → cut ≡ by_head leads s at cut f
   by-other t i o = sym o ∙ by-head t i refl
 
 -- a kind that is none of those that a match names

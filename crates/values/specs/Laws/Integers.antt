@@ -1,6 +1,6 @@
 -- Integers one after another: what is left of an array decides with what is gathered.
 -- Assumes nothing.
-use Rattle.std.specs.Prelude.{◌≡◌, refl, Bool, true, false, cond, ◌&&◌, List, [], ◌∷◌, leb, ltb, ℤ, pos, negsuc, nat_abs, length, get_or}
+use Rattle.std.specs.Prelude.{◌≡◌, refl, Some, None, unwrap_or, Bool, true, false, cond, ◌&&◌, List, [], ◌∷◌, leb, ltb, ℤ, pos, negsuc, nat_abs, length, get_or}
 use Rattle.std.proofs.Math.Path.{sym, ap, subst}
 use Rattle.std.proofs.Common.{ap₂, ◌∙◌, arith, le-leb, lt-ltb, le-ltb, leb-false, ltb-true, ltb-false, lit≤, add-zero}
 use Rattle.std.proofs.Math.Option.{Option, some, none as nothing}
@@ -16,7 +16,6 @@ use Rattle.values.specs.Laws.Places.{open-item, at-inside, all-inside, read_low}
 use Rattle.values.specs.Standing.{LowRun}
 use Rattle.values.specs.Laws.Standing.{low_first, low-rest}
 use Rattle.values.specs.Integers.{integers_of, none_negative, sum, summed, array_length}
-use Rattle.values.specs.declared.lists.Sum.{Sum}
 
 -- an array has no more values than the file has bytes
 pub all-few : {s : List ℕ} {p e : ℕ} (ds : Documents) → AtAll s p ds e → count ds ≤ length s
@@ -81,7 +80,7 @@ summing-more {s} {ds} {p} {left} {total} {e} {q} v m k l h i f =
       sums = omega (arith, k.sums);
     }
 
-pub summing-negative : {s : List ℕ} {ds : Documents} {p left total e : ℕ} (v : ℤ) → Summing s ds p left total e → 0 < left → lt_z v (pos 0) ≡ true → ((x : Document) (f : ℕ) → At s p x f → v ≡ integer_of x) → Sum.Negative ≡ summed (integers_of ds)
+pub summing-negative : {s : List ℕ} {ds : Documents} {p left total e : ℕ} (v : ℤ) → Summing s ds p left total e → 0 < left → lt_z v (pos 0) ≡ true → ((x : Document) (f : ℕ) → At s p x f → v ≡ integer_of x) → None ≡ summed (integers_of ds)
 unfolding integers_of all_pass
 summing-negative {s} {ds} v k l h f =
     let n = next_of k.rest k.all k.counts l in
@@ -89,11 +88,11 @@ summing-negative {s} {ds} v k l h f =
     let e : none_negative (integers_of ds) ≡ false = k.negative ∙ ap none_negative u ∙ ap (λ (b : Bool). b && none_negative (integers_of n.rest)) (isneg v h) in
     rw e
 
-pub summing-end : {s : List ℕ} {ds : Documents} {p left total e : ℕ} → Summing s ds p left total e → left ≤ 0 → Sum.Is total ≡ summed (integers_of ds)
+pub summing-end : {s : List ℕ} {ds : Documents} {p left total e : ℕ} → Summing s ds p left total e → left ≤ 0 → Some total ≡ summed (integers_of ds)
 unfolding integers_of count sum all_pass
 summing-end {s} {ds} {p} {left} {total} {e} k l = go k.rest k.counts k.negative k.sums
   where
-    go : (r : Documents) → count r ≡ left → none_negative (integers_of ds) ≡ none_negative (integers_of r) → sum (integers_of ds) ≡ total + sum (integers_of r) → Sum.Is total ≡ summed (integers_of ds)
+    go : (r : Documents) → count r ≡ left → none_negative (integers_of ds) ≡ none_negative (integers_of r) → sum (integers_of ds) ≡ total + sum (integers_of r) → Some total ≡ summed (integers_of ds)
     go none c n q = let z : sum (integers_of ds) ≡ total = omega arith in rw (n, z)
     go (item d r) c n q = absurd (omega arith)
 
@@ -203,7 +202,7 @@ pub none_below : (n : ℕ) → all_below n [] ≡ true
 unfolding all_pass
 none_below n = refl
 
-pub length-count : (o : Option Document) → (array_length o).count ≡ count (items_in o)
+pub length-count : (o : Option Document) → unwrap_or (array_length o) 0 ≡ count (items_in o)
 unfolding count
 length-count (some x) = refl
 length-count nothing = refl

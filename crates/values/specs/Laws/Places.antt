@@ -1,6 +1,6 @@
 -- A document that stands at a place, opened: what its head says, and what stands after the head.
 -- Assumes nothing.
-use Rattle.std.specs.Prelude.{◌≡◌, refl, Bool, false, cond, List, [], ◌++◌, ◌⊎◌, ℕ, zero, suc, ◌+◌, ◌-◌, ◌<◌, ◌≤◌, eqb, ℤ, length, take, drop, get_or}
+use Rattle.std.specs.Prelude.{◌≡◌, refl, None, Bool, false, cond, List, [], ◌++◌, ◌⊎◌, ℕ, zero, suc, ◌+◌, ◌-◌, ◌<◌, ◌≤◌, eqb, ℤ, length, take, drop, get_or}
 use Rattle.std.proofs.Math.Path.{sym, subst}
 use Rattle.std.proofs.Common.{ap, ◌∙◌, append-nil, inl, inr, arith, le-leb, le-ltb, zero-add, lit<, lit≤, length-append}
 use Rattle.std.proofs.Math.Bool.{true}
@@ -8,12 +8,11 @@ use Rattle.std.proofs.Math.Option.{Option, some, none as nothing}
 use Rattle.std.proofs.Math.IntN.{pos}
 use Rattle.std.proofs.Math.Seq.{drop-length}
 use Rattle.heads.specs.Lead.{kind_of, more_of}
-use Rattle.heads.specs.Head.{HeadOf, kind_at, head_at}
+use Rattle.heads.specs.Head.{some_head, HeadOf, kind_at, head_at}
 use Rattle.heads.specs.declared.Kind.{Kind}
-use Rattle.heads.specs.declared.Head.{Head}
 use Rattle.heads.specs.Span.{Span}
 use Rattle.heads.proofs.Laws.Span.{span_none, holds, fits}
-use Rattle.heads.proofs.Laws.Head.{Told, head-told, kind-in, head-held, head-number}
+use Rattle.heads.proofs.Laws.Head.{same-parts, Told, head-told, kind-in, head-held, head-number}
 use Rattle.numbers.specs.BigEndian.{unsigned_at}
 use Rattle.heads.proofs.Laws.Table.{more_of-bound, more_of-four, low-lead, string-lead}
 use Rattle.numbers.specs.Laws.BigEndian.{length-bytes_of}
@@ -216,7 +215,7 @@ at-heads (array ds) a = ap is_array (open_array a).told.kind
 at-heads (map es) a = ap is_map (open-map a).told.kind
 
 -- and there is a head
-pub at_head : {s : List ℕ} {p e : ℕ} {x : Document} → At s p x e → head_at s p ≡ Head.Cut → ⊥
+pub at_head : {s : List ℕ} {p e : ℕ} {x : Document} → At s p x e → head_at s p ≡ None → ⊥
 at_head {s} {p} {e} a = stands-head s p 0 e (at-standing a)
 
 -- a document with heads of another kind has none of a kind's parts
@@ -277,9 +276,9 @@ module _ {s : List ℕ} {p e : ℕ} (x : Document) (a : At s p x e) {k : Kind} (
       go (array ds) h = record { counts = refl; end = 0; all = nothing }
 
 -- what is read of a head, by the document that stands there
-module _ {s : List ℕ} {p e : ℕ} (x : Document) (a : At s p x e) {n r : ℕ} (h : head_at s p ≡ Head.At n r) where
+module _ {s : List ℕ} {p e : ℕ} (x : Document) (a : At s p x e) {n r : ℕ} (h : head_at s p ≡ some_head n r) where
   same_number : {k : Kind} {m q : ℕ} → Told s p k m q → (m ≡ n) × (q ≡ r)
-  same_number t = let g = sym t.head ∙ h in (cc, cc)
+  same_number t = same-parts (sym t.head ∙ h)
 
   -- an integer by an unsigned head ends with it
   pub read-end : kind_at s p ≡ Kind.Unsigned → r ≡ e
@@ -337,7 +336,7 @@ pub read_low : {s : List ℕ} {p e : ℕ} (x : Document) → At s p x e → (lt 
 read_low {s} {p} {e} x a lt small =
     let l = low-lead (get_or s p 0) small in
     let k : kind_at s p ≡ Kind.Unsigned = kind-in s p lt ∙ l.kind in
-    let h : head_at s p ≡ Head.At (get_or s p 0) (p + 1) = sym (head-held s p {size = 1} (rw l.more) refl (omega arith) (sym l.held)) in
+    let h : head_at s p ≡ some_head (get_or s p 0) (p + 1) = sym (head-held s p {size = 1} (rw l.more) refl (omega arith) (sym l.held)) in
     let u : unsigned_by (get_or s p 0) ≡ integer_of x = read-unsigned x a h k in
     (sym (rw (le-leb (get_or s p 0) 2147483647 (omega arith))) ∙ u, read-end x a h k)
 
@@ -346,7 +345,7 @@ pub read-two : {s : List ℕ} {p e : ℕ} (x : Document) → At s p x e → p + 
 unfolding kind_of more_of
 read-two {s} {p} {e} x a le b {n} i =
     let k : kind_at s p ≡ Kind.Unsigned = kind-in s p (omega arith) ∙ ap kind_of b in
-    let h : head_at s p ≡ Head.At n (p + 3) = sym (head-number s p 1 {size = 3} (rw b) refl le i) in
+    let h : head_at s p ≡ some_head n (p + 3) = sym (head-number s p 1 {size = 3} (rw b) refl le i) in
     (read-unsigned x a h k, read-end x a h k)
 
 -- what stands below half is small, and so is what is left above it
@@ -369,12 +368,12 @@ last-small size = go (eqb size 1) (eqb size 2) (eqb size 3)
     go false false false = lit≤ tt
 
 -- parts by the document that stands there
-module _ {s : List ℕ} {p e : ℕ} (x : Document) (a : At s p x e) {n r : ℕ} (h : head_at s p ≡ Head.At n r) where
+module _ {s : List ℕ} {p e : ℕ} (x : Document) (a : At s p x e) {n r : ℕ} (h : head_at s p ≡ some_head n r) where
   body_is : {k : Kind} {t : List ℕ} → OpenText s p k t e → (y : Part) → (r + n ≤ length s → (y.at ≡ r) × (y.count ≡ n)) → (take y.count (drop y.at s) ≡ t) × (e ≡ y.at + y.count)
   body_is {t = t} o y f =
-      let g = sym o.told.head ∙ h in
-      let i : length t ≡ n = cc in
-      let j : o.q ≡ r = cc in
+      let g = same-parts (sym o.told.head ∙ h) in
+      let i : length t ≡ n = g.0 in
+      let j : o.q ≡ r = g.1 in
       let b = f (omega (arith, o.inside)) in
       (rw (b.0, b.1, ← i, ← j) o.text, omega (arith, o.ends, b.0, b.1))
 
@@ -395,9 +394,9 @@ module _ {s : List ℕ} {p e : ℕ} (x : Document) (a : At s p x e) {n r : ℕ} 
       go : (z : Document) → At s p z e → heads z Kind.Array ≡ true → ItemsAt s z (record { at = r; count = n })
       go (array ds) b g =
           let o = open_array b in
-          let i = sym o.told.head ∙ h in
-          let j : o.q ≡ r = cc in
-          record { counts = cc; end = e; all = subst (λ (m : ℕ). AtAll s m ds e) j o.all }
+          let i = same-parts (sym o.told.head ∙ h) in
+          let j : o.q ≡ r = i.1 in
+          record { counts = i.0; end = e; all = subst (λ (m : ℕ). AtAll s m ds e) j o.all }
       go (string t) b g = clash g
       go (binary t) b g = clash g
       go (integer v) b g = clash g
@@ -410,9 +409,9 @@ module _ {s : List ℕ} {p e : ℕ} (x : Document) (a : At s p x e) {n r : ℕ} 
       go : (z : Document) → At s p z e → heads z Kind.Map ≡ true → EntriesAt s z (record { at = r; count = n })
       go (map es) b g =
           let o = open-map b in
-          let i = sym o.told.head ∙ h in
-          let j : o.q ≡ r = cc in
-          record { counts = cc; end = e; all = subst (λ (m : ℕ). AtEntries s m es e) j o.all }
+          let i = same-parts (sym o.told.head ∙ h) in
+          let j : o.q ≡ r = i.1 in
+          record { counts = i.0; end = e; all = subst (λ (m : ℕ). AtEntries s m es e) j o.all }
       go (string t) b g = clash g
       go (binary t) b g = clash g
       go (integer v) b g = clash g

@@ -2,23 +2,22 @@
 -- Assumes nothing.
 use Rattle.std.proofs.Math.Path.{◌≡◌, refl, sym, ap, subst}
 use Rattle.std.proofs.Common.{◌∙◌, inl, inr, zero-add, suc-add, add_assoc, leb-true, leb-false, length-append}
-use Rattle.std.specs.Prelude.{Bool, true, false, cond, ◌⊎◌, ℕ, zero, suc, ◌+◌, ◌-◌, ◌<◌, ◌≤◌, leb, get_or, drop}
+use Rattle.std.specs.Prelude.{Bool, true, false, cond, ◌⊎◌, ℕ, zero, suc, ◌+◌, ◌-◌, ◌<◌, ◌≤◌, leb, get_or, drop, Option, Some, None}
 use mathlib.Core.List.{List, [], ◌++◌, append_assoc, append-nil}
 use native.Mathlib.Omega.{arith}
 use Rattle.std.proofs.Math.Nat.{add-zero}
 use Rattle.std.proofs.Math.ListN.{length}
 use Rattle.numbers.specs.BigEndian.{unsigned_at}
 use Rattle.heads.specs.Lead.{kind_of, more_of}
-use Rattle.heads.specs.Head.{HeadOf, kind_at, head_at}
+use Rattle.heads.specs.Head.{some_head, HeadOf, kind_at, head_at}
 use Rattle.heads.specs.declared.Kind.{Kind}
-use Rattle.heads.specs.declared.Head.{Head}
 use Rattle.heads.specs.Span.{Span}
 use Rattle.heads.proofs.Laws.Span.{follows, fits}
-use Rattle.heads.proofs.Laws.Head.{Told, head-told, head-inside, alone-head, float-kind, float_size, float-head, head-cut, head-number, kind-in}
+use Rattle.heads.proofs.Laws.Head.{same-parts, Told, head-told, head-inside, alone-head, float-kind, float_size, float-head, head-cut, head-number, kind-in}
 use Rattle.heads.proofs.Laws.Table.{low-lead, string-lead}
 use Rattle.messagepack.specs.Document.{Document, Documents, Entries, integer, float, string, binary, array, map, none, item, empty, entry, count, size, UnsignedOf, SignedOf, TextOf, Writes, WritesAll, WritesEntries}
-use Rattle.values.specs.Standing.{Standing, past_over, pairs_over, LowRun, Sized, ItemsOver, over, each, after, Stepped, on, stop}
-use Rattle.values.specs.declared.Over.{Over}
+use Rattle.values.specs.Standing.{Standing, step_to, past_over, pairs_over, LowRun, Sized, ItemsOver, over, each, after, Stepped, on, stop}
+use Rattle.values.specs.declared.Step.{Step}
 
 -- a head has a byte at least
 head-long : {k : Kind} {n : ℕ} {h : List ℕ} → HeadOf k n h → 0 < length h
@@ -209,11 +208,11 @@ module _ (s : List ℕ) (p q : ℕ) where
 
 -- a step over the first of some values, by the head that is read there
 module _ (s : List ℕ) (p : ℕ) where
-  pub stands-head : (n e : ℕ) → Standing s (suc n) p e → head_at s p ≡ Head.Cut → ⊥
+  pub stands-head : (n e : ℕ) → Standing s (suc n) p e → head_at s p ≡ None → ⊥
   unfolding Standing
   stands-head n e st h =
       let o = opened s p st.q st.x st.w st.writes st.span in
-      let g : head_at s p ≡ Head.At o.m o.r = o.told.head in
+      let g : head_at s p ≡ some_head o.m o.r = o.told.head in
       let z : ◌≡◌ {A = ℕ} 0 1 = cc in
       omega arith
 
@@ -221,28 +220,29 @@ module _ (s : List ℕ) (p : ℕ) where
   unfolding Standing
   stands-kind n e st h = let o = opened s p st.q st.x st.w st.writes st.span in subst (λ (j : Kind). valued j ≡ true) (sym o.told.kind ∙ h) o.of
 
-  pub stands-step : (n e : ℕ) {k : Kind} {m r : ℕ} → Standing s (suc n) p e → head_at s p ≡ Head.At m r → kind_at s p ≡ k → Standing s (inside k m + n) (onward k m r) e
+  pub stands-step : (n e : ℕ) {k : Kind} {m r : ℕ} → Standing s (suc n) p e → head_at s p ≡ some_head m r → kind_at s p ≡ k → Standing s (inside k m + n) (onward k m r) e
   unfolding Standing
   stands-step n e {k} {m} {r} st g h =
       let o = opened s p st.q st.x st.w st.writes st.span in
-      let t : head_at s p ≡ Head.At o.m o.r = o.told.head in
+      let t : head_at s p ≡ some_head o.m o.r = o.told.head in
       let i : o.k ≡ k = sym o.told.kind ∙ h in
-      let j : o.m ≡ m = cc in
-      let l : o.r ≡ r = cc in
+      let u = same-parts (sym t ∙ g) in
+      let j : o.m ≡ m = u.0 in
+      let l : o.r ≡ r = u.1 in
       let b : Standing s (inside k m) (onward k m r) st.q = rw (i, j, l) at o.body in
       standing-join s (inside k m) n (onward k m r) st.q e b st.rest
 
 -- steps
 
 module _ (s : List ℕ) (p : ℕ) where
-  pub steps-cut-head : head_at s p ≡ Head.Cut → Stepped s p Over.Stop
+  pub steps-cut-head : head_at s p ≡ None → Stepped s p None
   steps-cut-head g = stop (λ n e st. stands-head s p n e st g)
 
-  pub steps-no-value : {k : Kind} → kind_at s p ≡ k → valued k ≡ false → Stepped s p Over.Stop
+  pub steps-no-value : {k : Kind} → kind_at s p ≡ k → valued k ≡ false → Stepped s p None
   steps-no-value h f = stop (λ n e st. let t = stands-kind s p n e st h in let z : ◌≡◌ {A = ℕ} 0 1 = cc in omega arith)
 
-  module _ {k : Kind} {m r : ℕ} (g : head_at s p ≡ Head.At m r) (h : kind_at s p ≡ k) where
-    pub steps_on : onward k m r ≤ length s → Stepped s p (Over.On (onward k m r) (inside k m))
+  module _ {k : Kind} {m r : ℕ} (g : head_at s p ≡ some_head m r) (h : kind_at s p ≡ k) where
+    pub steps_on : onward k m r ≤ length s → Stepped s p (Some (step_to (onward k m r) (inside k m)))
     steps_on le = let after : p < onward k m r = omega (arith, onward-more k, head-inside s p g) in on after le (λ n e st. stands-step s p n e st g h)
       where
         onward-more : (j : Kind) → r ≤ onward j m r
@@ -256,28 +256,28 @@ module _ (s : List ℕ) (p : ℕ) where
         onward-more Kind.Outside = omega arith
         onward-more Kind.Missing = omega arith
 
-    pub steps-cut : length s < onward k m r + inside k m → Stepped s p Over.Stop
+    pub steps-cut : length s < onward k m r + inside k m → Stepped s p None
     steps-cut lt = stop (λ n e st. omega (arith, standing-counts s (inside k m + n) (onward k m r) e (stands-step s p n e st g h), standing-inside s (suc n) p e st (omega (arith, head-inside s p g))))
 
-    pub steps-past : {o : Over} → onward k m r ≡ r + m → inside k m ≡ 0 → o ≡ past_over (length s) m r → Stepped s p o
+    pub steps-past : {o : Option Step} → onward k m r ≡ r + m → inside k m ≡ 0 → o ≡ past_over (length s) m r → Stepped s p o
     steps-past i j q = subst (Stepped s p) (sym q) (go (leb (r + m) (length s)) refl)
       where
-        go : (b : Bool) → leb (r + m) (length s) ≡ b → Stepped s p (cond b (Over.On (r + m) 0) Over.Stop)
+        go : (b : Bool) → leb (r + m) (length s) ≡ b → Stepped s p (cond b (Some (step_to (r + m) 0)) None)
         go true b = rw (i, j) at (steps_on (rw i (leb-true (r + m) (length s) b)))
         go false b = steps-cut (omega (arith, leb-false (r + m) (length s) b))
 
-    pub steps-pairs : {o : Over} → onward k m r ≡ r → inside k m ≡ m + m → o ≡ pairs_over (length s) m r → Stepped s p o
+    pub steps-pairs : {o : Option Step} → onward k m r ≡ r → inside k m ≡ m + m → o ≡ pairs_over (length s) m r → Stepped s p o
     steps-pairs i j q = subst (Stepped s p) (sym q) (go (leb (r + (m + m)) (length s)) refl)
       where
-        go : (b : Bool) → leb (r + (m + m)) (length s) ≡ b → Stepped s p (cond b (Over.On r (m + m)) Over.Stop)
+        go : (b : Bool) → leb (r + (m + m)) (length s) ≡ b → Stepped s p (cond b (Some (step_to r (m + m))) None)
         go true b = rw (i, j) at (steps_on (rw i (head-inside s p g).1))
         go false b = steps-cut (omega (arith, leb-false (r + (m + m)) (length s) b))
 
   -- a step by its case
-  pub stepped-stop : {o : Over} → Stepped s p o → o ≡ Over.Stop → (n e : ℕ) → Standing s (suc n) p e → ⊥
+  pub stepped-stop : {o : Option Step} → Stepped s p o → o ≡ None → (n e : ℕ) → Standing s (suc n) p e → ⊥
   stepped-stop x q = go (subst (Stepped s p) q x)
     where
-      go : Stepped s p Over.Stop → (n e : ℕ) → Standing s (suc n) p e → ⊥
+      go : Stepped s p None → (n e : ℕ) → Standing s (suc n) p e → ⊥
       go (stop f) = f
 
   pub record Went (q k : ℕ) : Type 0 where
@@ -285,10 +285,10 @@ module _ (s : List ℕ) (p : ℕ) where
     pub inside : q ≤ length s
     pub goes : (n e : ℕ) → Standing s (suc n) p e → Standing s (k + n) q e
 
-  pub stepped-on : {o : Over} {q k : ℕ} → Stepped s p o → o ≡ Over.On q k → Went q k
+  pub stepped-on : {o : Option Step} {q k : ℕ} → Stepped s p o → o ≡ Some (step_to q k) → Went q k
   stepped-on {q = q} {k = k} x i = go (subst (Stepped s p) i x)
     where
-      go : Stepped s p (Over.On q k) → Went q k
+      go : Stepped s p (Some (step_to q k)) → Went q k
       go (on a b f) = record { after = a; inside = b; goes = f }
 
 -- a writing at a place is one value that stands there
@@ -301,22 +301,22 @@ stands_one s at x w v wr d = standing-one s at (at + length w) x w wr (stands s 
 -- steps over values whose head is their lead byte
 
 module _ (s : List ℕ) (p : ℕ) (lt : p < length s) where
-  pub steps_low : get_or s p 0 < 0x80 → Stepped s p (Over.On (p + 1) 0)
+  pub steps_low : get_or s p 0 < 0x80 → Stepped s p (Some (step_to (p + 1) 0))
   steps_low h = let a = alone-head s p lt (low-lead (get_or s p 0) h) in steps_on s p a.1 a.0 (omega arith)
 
-  pub steps-short : {o : Over} {n : ℕ} → 0xa0 ≤ get_or s p 0 → get_or s p 0 < 0xc0 → n ≡ get_or s p 0 - 0xa0 → o ≡ past_over (length s) n (p + 1) → Stepped s p o
+  pub steps-short : {o : Option Step} {n : ℕ} → 0xa0 ≤ get_or s p 0 → get_or s p 0 < 0xc0 → n ≡ get_or s p 0 - 0xa0 → o ≡ past_over (length s) n (p + 1) → Stepped s p o
   steps-short l h e q = let a = alone-head s p lt (string-lead (get_or s p 0) l h) in steps-past s p a.1 a.0 refl refl (q ∙ ap (λ (m : ℕ). past_over (length s) m (p + 1)) e)
 
 -- a float
 
-pub steps-float : (s : List ℕ) (p : ℕ) → p < length s → {o : Over} → get_or s p 0 ≡ 0xca → o ≡ past_over (length s) 4 (p + 1) → Stepped s p o
+pub steps-float : (s : List ℕ) (p : ℕ) → p < length s → {o : Option Step} → get_or s p 0 ≡ 0xca → o ≡ past_over (length s) 4 (p + 1) → Stepped s p o
 steps-float s p lt b q = subst (Stepped s p) (sym q) (go (leb (p + 1 + 4) (length s)) refl)
   where
-    go : (t : Bool) → leb (p + 1 + 4) (length s) ≡ t → Stepped s p (cond t (Over.On (p + 1 + 4) 0) Over.Stop)
+    go : (t : Bool) → leb (p + 1 + 4) (length s) ≡ t → Stepped s p (cond t (Some (step_to (p + 1 + 4) 0)) None)
     go true e =
         let l = leb-true (p + 1 + 4) (length s) e in
         let f : p + 5 ≡ p + 1 + 4 = omega arith in
-        subst (λ (r : ℕ). Stepped s p (Over.On r 0)) f (steps_on s p (float-head s p b (omega arith)) (float-kind s p lt b) (omega arith))
+        subst (λ (r : ℕ). Stepped s p (Some (step_to r 0))) f (steps_on s p (float-head s p b (omega arith)) (float-kind s p lt b) (omega arith))
     go false e = steps-cut-head s p (head-cut s p (float_size s p b) lt (omega (arith, leb-false (p + 1 + 4) (length s) e)))
 
 -- integers by their lead byte and its size
@@ -333,15 +333,15 @@ pub sized-four : Sized 0xce 5
 unfolding kind_of more_of
 sized-four = record { kind = refl; is = refl; more = omega arith }
 
-pub steps-sized : (s : List ℕ) (p : ℕ) {lead size : ℕ} → Sized lead size → get_or s p 0 ≡ lead → p + size ≤ length s → Stepped s p (Over.On (p + size) 0)
+pub steps-sized : (s : List ℕ) (p : ℕ) {lead size : ℕ} → Sized lead size → get_or s p 0 ≡ lead → p + size ≤ length s → Stepped s p (Some (step_to (p + size) 0))
 steps-sized s p {lead} {size} z b le =
     let i : size ≡ more_of (get_or s p 0) + 1 = z.is ∙ ap (λ (m : ℕ). more_of m + 1) (sym b) in
     let j : size ≡ suc (suc (size - 2)) = omega (arith, z.more) in
-    let g : head_at s p ≡ Head.At (unsigned_at (suc (size - 2)) s (p + 1)) (p + size) = sym (head-number s p (size - 2) i j le refl) in
+    let g : head_at s p ≡ some_head (unsigned_at (suc (size - 2)) s (p + 1)) (p + size) = sym (head-number s p (size - 2) i j le refl) in
     steps_on s p g (kind-in s p (omega (arith, z.more)) ∙ ap kind_of b ∙ z.kind) le
 
 -- one of the values that are left is passed
-pub run-again : (s : List ℕ) (n left p q size : ℕ) → 0 < left → Stepped s q (Over.On (q + size) 0) → ((m e : ℕ) → Standing s (n + m) p e → Standing s (left + m) q e) → (m e : ℕ) → Standing s (n + m) p e → Standing s (left - 1 + m) (q + size) e
+pub run-again : (s : List ℕ) (n left p q size : ℕ) → 0 < left → Stepped s q (Some (step_to (q + size) 0)) → ((m e : ℕ) → Standing s (n + m) p e → Standing s (left + m) q e) → (m e : ℕ) → Standing s (n + m) p e → Standing s (left - 1 + m) (q + size) e
 run-again s n left p q size pos t f m e st =
     let one : Standing s (suc (left - 1 + m)) q e = subst (λ (k : ℕ). Standing s k q e) (omega arith) (f m e st) in
     subst (λ (k : ℕ). Standing s k (q + size) e) (zero-add (left - 1 + m)) ((stepped-on s q t refl).goes (left - 1 + m) e one)
@@ -363,7 +363,7 @@ low-standing s (suc m) n r e l st =
     let rest : Standing s (m + n) (r + 1) e = subst (λ (k : ℕ). Standing s k (r + 1) e) (zero-add (m + n)) (w.goes (m + n) e first) in
     subst (λ (q : ℕ). Standing s (0 + n) q e) (omega arith) (low-standing s m n (r + 1) e (low-rest l) rest)
 
-pub steps-items : (s : List ℕ) (p : ℕ) {m r : ℕ} → head_at s p ≡ Head.At m r → kind_at s p ≡ Kind.Array → {o : Over} → ItemsOver s m r o → Stepped s p o
+pub steps-items : (s : List ℕ) (p : ℕ) {m r : ℕ} → head_at s p ≡ some_head m r → kind_at s p ≡ Kind.Array → {o : Option Step} → ItemsOver s m r o → Stepped s p o
 steps-items s p g h each = steps_on s p g h (head-inside s p g).1
 steps-items s p {m} {r} g h (over l) = let after : p < r + m = omega (arith, head-inside s p g) in on after l.inside (λ n e st. low-standing s m n r e l (stands-step s p n e st g h))
 steps-items s p {m} {r} g h (after {q = q} a b f) = let first : p < q = omega (arith, (head-inside s p g).0) in on first b (λ n e st. f n e (stands-step s p n e st g h))

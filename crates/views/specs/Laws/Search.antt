@@ -1,34 +1,32 @@
 -- The search for a name: the first of the entries ahead is shown, or the search goes on with the others.
 -- Assumes nothing.
-use Rattle.std.specs.Prelude.{◌≡◌, refl, Bool, true, false, cond, List, ◌∷◌, ◌++◌, length, get_or, take, drop}
+use Rattle.std.specs.Prelude.{Option, None, Err, ◌≡◌, refl, Bool, true, false, cond, List, ◌∷◌, ◌++◌, length, get_or, take, drop}
 use Rattle.std.proofs.Common.{sym, ap, ◌∙◌, append_assoc, zero-add, add-one, length-append, drop-cons, eq-eqb, ne_eqb}
 use Prim.Native.Nat.{ℕ, zero, suc, ◌+◌, ◌-◌, ◌<◌, ◌≤◌}
 use native.Mathlib.Omega.{arith}
 use Rattle.refusal.specs.Table.{accepted, no_such_field}
 use Rattle.text.specs.Equal.{equal}
-use Rattle.heads.specs.Head.{HeadOf, head_at}
+use Rattle.heads.specs.Head.{some_head, HeadOf, head_at}
 use Rattle.heads.specs.declared.Kind.{Kind}
 use Rattle.heads.specs.declared.Head.{Head}
 use Rattle.heads.proofs.Laws.Span.{follows, holds, fits}
-use Rattle.heads.proofs.Laws.Head.{head-told}
+use Rattle.heads.proofs.Laws.Head.{head-told, same-parts}
 use Rattle.messagepack.specs.Limits.{nesting_limit}
 use Rattle.messagepack.specs.Document.{Document, Entries, empty, entry, size, TextOf, Writes, WritesEntries}
 use Rattle.messagepack.specs.Rules.{depth, depth_entries, Keeps, KeepsEntries, Container}
-use Rattle.messagepack.specs.Walk.{key_at, value_at, container_number}
+use Rattle.messagepack.specs.Walk.{ok_text, key_at, value_at, container_number}
 use Rattle.messagepack.specs.Outer.{outer_levels, entry_end, keys_from}
-use Rattle.messagepack.specs.declared.Text.{Text}
 use Rattle.messagepack.proofs.Laws.Complete.{text-there, key-there, value-of}
 use Rattle.messagepack.proofs.Laws.Outer as o
 use Rattle.views.specs.Place.{after_head, after_value, value_place, entry_place, place_of}
 use Rattle.views.specs.Shown.{shown_place, Ahead, Keyed}
 use Rattle.views.specs.Laws.Shown.{value-shows}
-use Rattle.views.specs.declared.Place.{Place}
 
 -- the outer map of a container: its head, and its entries after that
 pub record Outer (s : List ℕ) (es : Entries) : Type 0 where
   pub h : List ℕ
   pub head : HeadOf Kind.Map (size es) h
-  pub there : head_at s 0 ≡ Head.At (size es) (length h)
+  pub there : head_at s 0 ≡ some_head (size es) (length h)
   pub is : s ≡ h ++ drop (length h) s
   pub ahead : Ahead s (size es) (length h)
 
@@ -42,7 +40,7 @@ outer-of {s} c =
     record {
       h = wr.h;
       head = wr.head;
-      there = (head-told s 0 wr.v wr.head wr.is).head ∙ ap (Head.At (size c.entries)) l;
+      there = (head-told s 0 wr.v wr.head wr.is).head ∙ ap (some_head (size c.entries)) l;
       is = wr.is ∙ ap (λ (y : List ℕ). wr.h ++ y) (sym d);
       ahead = record { entries = c.entries; writes = rw d wr.body; counts = refl; nested = omega arith; keeps = c.keeps.2 };
     }
@@ -58,12 +56,12 @@ pub record Next (s : List ℕ) (left p : ℕ) : Type 0 where
   pub text : TextOf Kind.Str k a
   pub writes : Writes x w
   pub is : drop p s ≡ a ++ (w ++ v)
-  pub head : head_at s p ≡ Head.At (length k) from
+  pub head : head_at s p ≡ some_head (length k) from
   pub key : take (length k) (drop from s) ≡ k
   pub fits : from + length k ≤ length s
   pub start : from + length k ≡ p + length a
   pub value : drop (from + length k) s ≡ w ++ v
-  pub key-read : key_at s p ≡ Text.At from (length k)
+  pub key-read : key_at s p ≡ ok_text from (length k)
   pub nested : depth x ≤ outer_levels
   pub keeps : Keeps x
   pub rest : drop (from + length k + length w) s ≡ v
@@ -109,7 +107,7 @@ next_of l pos = entry_next l.entries l.writes l.counts l.nested l.keeps pos
 -- the clauses of the definition
 
 module _ (s name : List ℕ) where
-  entry-step : (left p : ℕ) {m a : ℕ} → 0 < left → head_at s p ≡ Head.At m a
+  entry-step : (left p : ℕ) {m a : ℕ} → 0 < left → head_at s p ≡ some_head m a
       → entry_place s name left p ≡ cond (equal (take m (drop a s)) name) (value_place s (a + m)) (after_value (value_at s nesting_limit (a + m)) (λ e. entry_place s name (left - 1) e))
   unfolding entry_place
   entry-step zero p pos h = absurd (omega arith)
@@ -117,24 +115,24 @@ module _ (s name : List ℕ) where
 
   -- the last entry ends the search
 
-  pub entry-last : (left p : ℕ) → left ≡ 0 → Place.Refused no_such_field ≡ entry_place s name left p
+  pub entry-last : (left p : ℕ) → left ≡ 0 → Err no_such_field ≡ entry_place s name left p
   unfolding entry_place
   entry-last left p h = rw h
 
   -- in a file that passes as a container the search begins after the outer map's head
 
-  pub place-refused : (container_number s ≡ 0 → ⊥) → Place.Refused (container_number s) ≡ place_of s name
+  pub place-refused : (container_number s ≡ 0 → ⊥) → Err (container_number s) ≡ place_of s name
   unfolding place_of
   place-refused h = rw (ne_eqb (container_number s) accepted h)
 
-  pub place-container : {h : Head} → container_number s ≡ 0 → head_at s 0 ≡ h → place_of s name ≡ after_head h (λ n p. entry_place s name n p)
+  pub place-container : {h : Option Head} → container_number s ≡ 0 → head_at s 0 ≡ h → place_of s name ≡ after_head h (λ n p. entry_place s name n p)
   unfolding place_of
   place-container z e = rw (eq-eqb (container_number s) accepted z, e)
 
 module _ {s : List ℕ} {left p : ℕ} (n : Next s left p) where
   -- the head that was read is the next key's
-  pub next-read : {m a : ℕ} → head_at s p ≡ Head.At m a → (m ≡ length n.k) × (a ≡ n.from)
-  next-read g = let h = n.head in (cc, cc)
+  pub next-read : {m a : ℕ} → head_at s p ≡ some_head m a → (m ≡ length n.k) × (a ≡ n.from)
+  next-read g = same-parts (sym g ∙ n.head)
 
   module _ (name : List ℕ) where
     -- what was compared is the key
@@ -183,7 +181,7 @@ module _ {s : List ℕ} (name : List ℕ) {places : List ℕ} where
       }
 
   module _ {i : ℕ} (g : Looking s name places i) where
-    pub look-last : length places ≤ i → Place.Refused no_such_field ≡ place_of s name
+    pub look-last : length places ≤ i → Err no_such_field ≡ place_of s name
     look-last h = entry-last s name _ g.p (omega arith) ∙ g.is
 
     module _ (lt : i < length places) where
@@ -201,13 +199,13 @@ module _ {s : List ℕ} (name : List ℕ) {places : List ℕ} where
       look-next = next_of g.ahead pos
 
       -- the head that was read at the row's place is the next key's
-      pub look-read : {q m a : ℕ} → q ≡ get_or places i 0 → head_at s q ≡ Head.At m a → (m ≡ length look-next.k) × (a ≡ look-next.from)
+      pub look-read : {q m a : ℕ} → q ≡ get_or places i 0 → head_at s q ≡ some_head m a → (m ≡ length look-next.k) × (a ≡ look-next.from)
       look-read e h = next-read look-next (ap (head_at s) (sym look-row ∙ sym e) ∙ h)
 
-      pub look-inside : {q m a : ℕ} → q ≡ get_or places i 0 → head_at s q ≡ Head.At m a → a + m ≤ length s
+      pub look-inside : {q m a : ℕ} → q ≡ get_or places i 0 → head_at s q ≡ some_head m a → a + m ≤ length s
       look-inside e h = let r = look-read e h in omega (arith, look-next.fits)
 
-      pub look-cut : {q : ℕ} → q ≡ get_or places i 0 → head_at s q ≡ Head.Cut → ⊥
+      pub look-cut : {q : ℕ} → q ≡ get_or places i 0 → head_at s q ≡ None → ⊥
       look-cut e h = let k = sym look-next.head ∙ ap (head_at s) (sym look-row ∙ sym e) ∙ h in let z : ◌≡◌ {A = ℕ} 0 1 = cc in absurd (omega arith)
 
       -- the next entry is shown

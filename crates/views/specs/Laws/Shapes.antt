@@ -1,20 +1,21 @@
 -- The shape of a value: its kind at its place says so, and the values of an array are looked at one by one. Assumes nothing.
-use Rattle.std.specs.Prelude.{◌≡◌, refl, Bool, ◌&&◌, List}
+use Rattle.std.specs.Prelude.{◌≡◌, refl, Option as Answer, Some, None, Bool, cond, ◌&&◌, List, eqb}
 use Rattle.std.proofs.Math.Path.{sym, ap, subst}
-use Rattle.std.proofs.Common.{◌∙◌, arith, eq-eqb, ne_eqb}
+use Rattle.std.proofs.Common.{◌∙◌, arith, ne_eqb}
+use Rattle.std.proofs.Math.Option.{none as nothing}
 use Rattle.std.proofs.Math.Bool.{true, false}
 use Prim.Native.Nat.{ℕ, suc, ◌-◌, ◌<◌, ◌≤◌}
 use Rattle.refusal.specs.Table.{accepted}
 use Rattle.heads.specs.Head.{kind_at}
 use Rattle.heads.specs.declared.Kind.{Kind}
 use Rattle.messagepack.specs.Document.{Document, Documents, integer, float, string, binary, array, map, none, item, count}
-use Rattle.messagepack.specs.Rules.{Container}
 use Rattle.messagepack.specs.Walk.{container_number}
-use Rattle.messagepack.proofs.Laws.Unique.{document_of-is}
-use Rattle.values.specs.Parts.{items_of, look}
+use Rattle.messagepack.specs.Read.{document_of}
+use Rattle.values.specs.Parts.{items_of, entries_of, look}
 use Rattle.values.specs.Places.{At, AtAll, PlaceSays}
 use Rattle.values.specs.Laws.Places.{place_none, place-some, OpenInteger, unsigned, signed, open_array, open-map, open-string, open-binary, open-float, open-integer}
 use Rattle.values.specs.Laws.Integers.{next_of}
+use Rattle.views.specs.View.{value_under}
 use Rattle.views.specs.Shapes.{plain, all_plain, shape_of, shape_in, shape_under, is_plain, kind_shape}
 use Rattle.views.specs.declared.shapes.Shape.{Shape}
 
@@ -37,10 +38,10 @@ pub kind-plain : {s : List ℕ} {p e : ℕ} (x : Document) → At s p x e → is
 kind-plain x a = by_kind is_plain plain x a (λ v. refl) (λ v. refl) (λ b. refl) (λ t. refl) (λ t. refl) (λ ds. refl) (λ es. refl)
 
 -- the shape of a value at its place
-pub kind-shape : {s : List ℕ} {p e : ℕ} (x : Document) → At s p x e → kind_shape (kind_at s p) (all_plain (items_of x)) ≡ shape_of x
+pub kind-shape : {s : List ℕ} {p e : ℕ} (x : Document) → At s p x e → kind_shape (kind_at s p) (all_plain (items_of x)) ≡ Some (shape_of x)
 kind-shape {s} {p} {e} (integer v) a = go (open-integer a)
   where
-    go : OpenInteger s p v e → kind_shape (kind_at s p) (all_plain none) ≡ Shape.Integer
+    go : OpenInteger s p v e → kind_shape (kind_at s p) (all_plain none) ≡ Some Shape.Integer
     go (unsigned n t i) = rw t.kind
     go (signed k n t f g h i) = rw t.kind
 kind-shape (float bits) a = rw (open-float a).kind
@@ -89,20 +90,24 @@ plains-end {s} {ds} {p} {left} k l = go k.rest k.counts k.same
     go (item d r) c q = absurd (omega arith)
 
 -- a file that is no container
-pub shape-refused : (s name : List ℕ) → (container_number s ≡ accepted → ⊥) → Shape.Missing ≡ shape_under s name
+pub shape-refused : (s name : List ℕ) → (container_number s ≡ accepted → ⊥) → None ≡ shape_under s name
 unfolding shape_under
 shape-refused s name h = rw (ne_eqb _ _ h)
 
--- in a container the value that is looked up decides
-module _ {s : List ℕ} (name : List ℕ) (c : Container s) (z : container_number s ≡ accepted) where
-  shape-look : shape_under s name ≡ shape_in (look name c.entries)
-  unfolding shape_under
-  shape-look = rw (eq-eqb _ _ z, document_of-is (map c.entries) s c.writes c.nested)
+-- the value that is looked up decides
+shape-look : (s name : List ℕ) → shape_under s name ≡ shape_in (value_under s name)
+unfolding shape_under
+shape-look s name = go (eqb (container_number s) accepted)
+  where
+    go : (b : Bool) → cond b (shape_in (look name (entries_of (document_of s)))) None ≡ shape_in (cond b (look name (entries_of (document_of s))) nothing)
+    go true = refl
+    go false = refl
 
-  pub shape-none : {p : ℕ} → PlaceSays s p (look name c.entries) → p ≡ 0 → Shape.Missing ≡ shape_under s name
-  shape-none h e = sym (shape-look ∙ ap shape_in (place_none h e))
+module _ {s : List ℕ} (name : List ℕ) where
+  pub shape-none : {p : ℕ} → PlaceSays s p (value_under s name) → p ≡ 0 → None ≡ shape_under s name
+  shape-none h e = sym (shape-look s name ∙ ap shape_in (place_none h e))
 
-  pub shape-some : {p : ℕ} {r : Shape} → PlaceSays s p (look name c.entries) → (p ≡ 0 → ⊥) → ((x : Document) (e : ℕ) → At s p x e → r ≡ shape_of x) → r ≡ shape_under s name
+  pub shape-some : {p : ℕ} {r : Answer Shape} → PlaceSays s p (value_under s name) → (p ≡ 0 → ⊥) → ((x : Document) (e : ℕ) → At s p x e → r ≡ Some (shape_of x)) → r ≡ shape_under s name
   shape-some h e f =
       let o = place-some h e in
-      f o.x o.end o.at ∙ sym (shape-look ∙ ap shape_in o.is)
+      f o.x o.end o.at ∙ sym (shape-look s name ∙ ap shape_in o.is)

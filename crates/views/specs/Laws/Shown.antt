@@ -15,16 +15,15 @@ use Rattle.messagepack.specs.Rules.{depth, Keeps}
 use Rattle.messagepack.proofs.Laws.Complete.{value-of}
 use Rattle.values.specs.Standing.{Standing}
 use Rattle.values.specs.Laws.Standing.{stands_one}
-use Rattle.views.specs.Place.{is_text, body_place, value_place}
+use Rattle.views.specs.Place.{Place, some_part, is_text, body_place, value_place}
 use Rattle.views.specs.Shown.{shown_place, ShowsAt}
-use Rattle.views.specs.declared.Place.{Place}
 
 -- the place by the kind of the value at another: after a head, or the whole of the n bytes
 by_kind : List ℕ → ℕ → ℕ → Place
-by_kind s at n = cond (is_text (kind_at s at)) (body_place (head_at s at)) (Place.At at (at + n - at))
+by_kind s at n = cond (is_text (kind_at s at)) (body_place (head_at s at)) (some_part at (at + n - at))
 
 module _ (s : List ℕ) (at : ℕ) where
-  text-shows : {k : Kind} (t w v : List ℕ) → is_text k ≡ true → TextOf k t w → drop at s ≡ w ++ v → by_kind s at (length w) ≡ Place.At (at + (length w - length t)) (length t)
+  text-shows : {k : Kind} (t w v : List ℕ) → is_text k ≡ true → TextOf k t w → drop at s ≡ w ++ v → by_kind s at (length w) ≡ some_part (at + (length w - length t)) (length t)
   unfolding by_kind
   text-shows t w v i wr d =
       let q : drop at s ≡ wr.h ++ (t ++ v) = d ∙ ap (λ (y : List ℕ). y ++ v) wr.is ∙ append_assoc wr.h t v in
@@ -33,7 +32,7 @@ module _ (s : List ℕ) (at : ℕ) where
       let n : at + length wr.h ≡ at + (length w - length t) = omega arith in
       rw (g.kind, i, g.head, n)
 
-  other-shows : {k : Kind} {n : ℕ} {h : List ℕ} (t w : List ℕ) → is_text k ≡ false → HeadOf k n h → drop at s ≡ h ++ t → by_kind s at (length w) ≡ Place.At (at + (length w - length w)) (length w)
+  other-shows : {k : Kind} {n : ℕ} {h : List ℕ} (t w : List ℕ) → is_text k ≡ false → HeadOf k n h → drop at s ≡ h ++ t → by_kind s at (length w) ≡ some_part (at + (length w - length w)) (length w)
   unfolding by_kind
   other-shows t w i hd d =
       let g = head-told s at t hd d in
@@ -44,7 +43,7 @@ module _ (s : List ℕ) (at : ℕ) where
   past : (w h v t : List ℕ) → w ≡ h ++ v → drop at s ≡ w ++ t → drop at s ≡ h ++ (v ++ t)
   past w h v t e d = d ∙ ap (λ (y : List ℕ). y ++ t) e ∙ append_assoc h v t
 
-  integer-shows : (z : ℤ) (w v : List ℕ) → UnsignedOf z w ⊎ SignedOf z w → drop at s ≡ w ++ v → by_kind s at (length w) ≡ Place.At (at + (length w - length w)) (length w)
+  integer-shows : (z : ℤ) (w v : List ℕ) → UnsignedOf z w ⊎ SignedOf z w → drop at s ≡ w ++ v → by_kind s at (length w) ≡ some_part (at + (length w - length w)) (length w)
   integer-shows z w v (inl o) d = other-shows v w refl o.head d
   integer-shows z w v (inr o) d = other-shows v w refl o.head d
 
@@ -58,7 +57,7 @@ module _ (s : List ℕ) (at : ℕ) where
   shows (map es) w v wr d = other-shows (wr.v ++ v) w refl wr.head (past w wr.h wr.v v wr.is d)
 
   -- by the value's kind: the body after its head, else all of its bytes
-  pub part-shows : (x : Document) (w v : List ℕ) → Writes x w → drop at s ≡ w ++ v → cond (is_text (kind_at s at)) (body_place (head_at s at)) (Place.At at (at + length w - at)) ≡ shown_place at x w
+  pub part-shows : (x : Document) (w v : List ℕ) → Writes x w → drop at s ≡ w ++ v → cond (is_text (kind_at s at)) (body_place (head_at s at)) (some_part at (at + length w - at)) ≡ shown_place at x w
   unfolding by_kind
   part-shows x w v wr d = shows x w v wr d
 
@@ -73,6 +72,6 @@ module _ (s : List ℕ) (at : ℕ) where
   body-shows a i x w v wr d = i ∙ (rw a at (shows x w v wr d))
 
   -- of another value the whole
-  pub whole-shows : {r : Place} → is_text (kind_at s at) ≡ false → ((e : ℕ) → Standing s 1 at e → r ≡ Place.At at (e - at)) → ShowsAt s at r
+  pub whole-shows : {r : Place} → is_text (kind_at s at) ≡ false → ((e : ℕ) → Standing s 1 at e → r ≡ some_part at (e - at)) → ShowsAt s at r
   unfolding by_kind
   whole-shows a f x w v wr d = f (at + length w) (stands_one s at x w v wr d) ∙ (rw a at (shows x w v wr d))

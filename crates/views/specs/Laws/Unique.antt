@@ -1,6 +1,6 @@
 -- A file shows one part for a name: two views agree in the place and in the part, so every answer of a call is the same.
 -- Assumes nothing.
-use Rattle.std.specs.Prelude.{◌≡◌, refl}
+use Rattle.std.specs.Prelude.{Err, ◌≡◌, refl}
 use Rattle.std.proofs.Math.Path.{sym, ap, ap₂}
 use Rattle.std.proofs.Common.{subst, ◌∙◌, arith}
 use mathlib.Core.List.{List, ◌++◌, append_assoc}
@@ -11,9 +11,9 @@ use Rattle.heads.specs.declared.Kind.{Kind}
 use Rattle.messagepack.specs.Document.{Document, Entries, string, map, empty, entry, TextOf, Writes, WritesEntries}
 use Rattle.messagepack.specs.Rules.{NoKey, Distinct, Keeps, Container}
 use Rattle.messagepack.proofs.Laws.Unique.{same-document}
+use Rattle.views.specs.Place.{Place, some_part}
 use Rattle.views.specs.View.{EntryIn, shown, Viewable, start_of, Placed, placed, refused, Viewed, viewed, nothing}
 use Rattle.views.specs.Laws.View.{join, entry-map, same_entries}
-use Rattle.views.specs.declared.Place.{Place}
 
 -- equal bytes whose last parts are equal
 first-parts : (u v p q : List ℕ) → u ++ p ≡ v ++ q → p ≡ q → u ≡ v
@@ -114,10 +114,10 @@ one-view {file} {name} v w =
 
 -- a call has one answer
 pub one_place : {file name : List ℕ} {p q : Place} → Placed file name p → Placed file name q → p ≡ q
-one_place (placed v) (placed w) = let o = one-view v w in ap₂ (λ (i n : ℕ). Place.At i n) o.0 (ap length o.1)
+one_place (placed v) (placed w) = let o = one-view v w in ap₂ some_part o.0 (ap length o.1)
 one_place (placed v) (refused pos e none) = absurd (none v)
 one_place (refused pos e none) (placed w) = absurd (none w)
-one_place (refused pos e none) (refused pos2 f none2) = ap (λ (n : ℕ). Place.Refused n) (e ∙ sym f)
+one_place (refused pos e none) (refused pos2 f none2) = ap (λ (n : ℕ). Err n) (e ∙ sym f)
 
 -- a name has one part
 pub one-part : {file name a b : List ℕ} → Viewed file name a → Viewed file name b → a ≡ b

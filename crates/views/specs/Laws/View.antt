@@ -1,6 +1,6 @@
 -- Views: the place and the part that the definitions give are those of the name's value, in every file.
 -- Assumes nothing.
-use Rattle.std.specs.Prelude.{◌≡◌, refl, Bool, true, false, cond, ◌||◌, ◌↔◌, ℕ, zero, suc, ◌+◌, ◌-◌, ◌<◌, ◌≤◌, eqb, length, take, drop}
+use Rattle.std.specs.Prelude.{Err, ◌≡◌, refl, Bool, true, false, cond, ◌||◌, ◌↔◌, ℕ, zero, suc, ◌+◌, ◌-◌, ◌<◌, ◌≤◌, eqb, length, take, drop}
 use Rattle.std.proofs.Common.{sym, ◌∙◌, arith, add-zero, zero-add, suc-add, pos_of_ne-zero, lit<, drop_at, take_at, drop-drop, eq-eqb, ne_eqb, eqb-true}
 use Rattle.std.proofs.Math.Path.{ap, subst}
 use mathlib.Core.List.{List, [], ◌++◌, append_assoc, append-nil}
@@ -21,10 +21,9 @@ use Rattle.messagepack.specs.Read.{document_of}
 use Rattle.messagepack.proofs.Laws.Unique.{no-two-documents, document_of-is}
 use Rattle.messagepack.proofs.Laws.Container.{container-exactly}
 use Rattle.views.specs.View.{EntryIn, shown, Viewable, start_of, has_key, view_number, Placed, placed, refused, Viewed, viewed, nothing}
-use Rattle.views.specs.Place.{entry_place, place_of, place_number, part_at, part_of}
+use Rattle.views.specs.Place.{Place, some_part, entry_place, place_of, place_number, part_at, part_of}
 use Rattle.views.specs.Shown.{shown_place, Ahead}
 use Rattle.views.specs.Laws.Search.{Outer, outer-of, Next, next_of, next-shown, next-other, entry-last, place-refused, place-container}
-use Rattle.views.specs.declared.Place.{Place}
 
 -- entries after entries
 
@@ -139,7 +138,7 @@ module _ {s name : List ℕ} {left p : ℕ} (bytes : Bytes s) (l : Looking s nam
       (writes-map l.before l.h l.u s (rw (z, add-zero (size l.before)) at l.head) l.earlier
       (l.is ∙ ap (λ (x : List ℕ). l.h ++ x) (ap (λ (x : List ℕ). l.u ++ x) (last-entries l.ahead.entries (l.ahead.counts ∙ z) l.ahead.writes) ∙ append-nil l.u)))
 
-  looking-last : Placed s name (Place.Refused no_such_field)
+  looking-last : Placed s name (Err no_such_field)
   looking-last =
       let none : has_key name l.container.entries ≡ false = rw all-before l.others in
       let number : view_number s name ≡ no_such_field = number_is l.container bytes name ∙ rw none in
@@ -173,7 +172,7 @@ module _ {s name : List ℕ} {left p : ℕ} (l : Looking s name left p) (n : Nex
         };
       } in
       let e : n.from + length n.k + (length n.w - length (shown n.x n.w)) ≡ start_of view = omega (arith, l.place, n.start) in
-      subst (λ (i : ℕ). Placed s name (Place.At i (length (shown n.x n.w)))) (sym e) (placed view)
+      subst (λ (i : ℕ). Placed s name (some_part i (length (shown n.x n.w)))) (sym e) (placed view)
 
   looking-on : equal n.k name ≡ false → Looking s name (left - 1) (n.from + length n.k + length n.w)
   unfolding size has_key
@@ -263,7 +262,7 @@ module _ {s name : List ℕ} (v : Viewable s name) where
 
 -- a part is inside the file, and is what is shown
 
-placed-fits : {s name : List ℕ} {i n : ℕ} → Placed s name (Place.At i n) → i + n ≤ length s
+placed-fits : {s name : List ℕ} {i n : ℕ} → Placed s name (some_part i n) → i + n ≤ length s
 placed-fits (placed v) = part-fits v
 
 placed-part : {s name : List ℕ} {p : Place} → Placed s name p → Viewed s name (part_at s p)
@@ -298,7 +297,7 @@ module _ (file name : List ℕ) (bytes : Bytes file) where
   part_of-is = placed-part place_of-is
 
   -- the part is inside the file
-  pub place_of-fits : {i n : ℕ} → place_of file name ≡ Place.At i n → i + n ≤ length file
+  pub place_of-fits : {i n : ℕ} → place_of file name ≡ some_part i n → i + n ≤ length file
   place_of-fits e = placed-fits (subst (Placed file name) e place_of-is)
 
   -- the number of the place is that of the view, which is 0 exactly when the file shows the name

@@ -1,5 +1,5 @@
 -- Laws of bytes put over a buffer: one part after the other, and the three answers. Assumes nothing.
-use Rattle.std.specs.Prelude.{◌≡◌, ℕ, ◌+◌, ◌<◌, ◌≤◌, Bool, true, false, List, [], ◌++◌, length, take, drop}
+use Rattle.std.specs.Prelude.{◌≡◌, Ok, Err, ℕ, ◌+◌, ◌<◌, ◌≤◌, Bool, true, false, List, [], ◌++◌, length, take, drop}
 use Rattle.std.proofs.Math.Path.{sym, ap}
 use Rattle.std.proofs.Common.{subst, ◌∙◌, append_assoc, take-append-drop}
 use native.Mathlib.Omega.{arith}
@@ -8,7 +8,7 @@ use Rattle.std.proofs.Math.Seq.{length-take-le, take_at, drop_at, drop-drop}
 use borrow.Author.Tests.{le-leb, lt-leb}
 use Rattle.numbers.specs.BigEndian.{bytes_of, written_at}
 use Rattle.numbers.specs.Laws.BigEndian.{written_at-in, length-bytes_of}
-use Rattle.writers.specs.declared.Placed.TheVariants.{Bytes, NotAllowed, NoRoom}
+use Rattle.refusal.specs.Table.{number_not_allowed, buffer_too_small}
 use Rattle.writers.specs.Placed.{over, placed, laid}
 
 -- Bytes over a buffer
@@ -84,14 +84,14 @@ module _ {all s : List ℕ} {at : ℕ} {rest : List ℕ} (h : ToCome all s at re
 -- The answers
 
 module _ {ok : Bool} (p s : List ℕ) (at : ℕ) where
-  pub answer-refused : ok ≡ false → (NotAllowed ≡ placed ok p (length s) at) × (s ≡ laid ok p s at)
+  pub answer-refused : ok ≡ false → (Err number_not_allowed ≡ placed ok p (length s) at) × (s ≡ laid ok p s at)
   unfolding placed laid
   answer-refused e = (rw e, rw e)
 
-  pub answer-over : ok ≡ true → length s < at + length p → (NoRoom ≡ placed ok p (length s) at) × (s ≡ laid ok p s at)
+  pub answer-over : ok ≡ true → length s < at + length p → (Err buffer_too_small ≡ placed ok p (length s) at) × (s ≡ laid ok p s at)
   unfolding placed laid
   answer-over e h = let t = lt-leb (at + length p) (length s) h in (rw (e, t), rw (e, t))
 
-  pub answer-in : {n : ℕ} {new : List ℕ} → ok ≡ true → at + length p ≤ length s → n ≡ length p → new ≡ over s at p → (Bytes n ≡ placed ok p (length s) at) × (new ≡ laid ok p s at)
+  pub answer-in : {n : ℕ} {new : List ℕ} → ok ≡ true → at + length p ≤ length s → n ≡ length p → new ≡ over s at p → (Ok n ≡ placed ok p (length s) at) × (new ≡ laid ok p s at)
   unfolding placed laid
   answer-in e h q k = let t = le-leb (at + length p) (length s) h in (rw (e, t, q), rw (e, t) k)

@@ -1,6 +1,6 @@
 -- Laws of payloads of a number for each cell, once over the size and what the cells are. Assumes nothing.
-use Rattle.std.specs.Prelude.{◌≡◌, ℕ, suc, ◌-◌, ◌<◌, Bool, true, false, List, [], ◌∷◌, ◌++◌, map, ℤ, pos, negsuc, nat_lt, refl}
-use Rattle.std.proofs.Common.{sym, ap, ◌∙◌, arith, le-leb, ltb-true, ltb-false}
+use Rattle.std.specs.Prelude.{◌≡◌, ℕ, suc, ◌-◌, ◌/◌, ◌%◌, ◌^◌, ◌<◌, get_or, Bool, true, false, List, [], ◌∷◌, ◌++◌, map, ℤ, pos, negsuc, nat_lt, refl}
+use Rattle.std.proofs.Common.{sym, ap, ap₂, ◌∙◌, arith, le-leb, ltb-true, ltb-false}
 use Rattle.std.proofs.Math.Bool.{and-true}
 use Rattle.std.specs.Int.Signed.{mag}
 use Rattle.std.specs.Int.{w32}
@@ -52,3 +52,12 @@ bytes_for-more z x u xs ys e q = record { are = ap (bytes_for z) e ∙ bytes_for
 
 pub bytes_for-none : (z : Size) (ys : List ℤ) → ys ≡ [] → bytes_for z ys ≡ []
 bytes_for-none z ys e = ap (bytes_for z) e ∙ bytes_for-nil z
+
+-- bytes are the numbers of one byte that they are
+pub bytes_for-bytes : (s : List ℕ) → ((i : ℕ) → get_or s i 0 < 256) → bytes_for One (map pos s) ≡ s
+unfolding bytes_for bytes_of
+bytes_for-bytes [] h = refl
+bytes_for-bytes (b ∷ s) h =
+    let l = h 0 in
+    let e : (b / 256 ^ 0) % 256 ≡ b = omega arith in
+    ap₂ (λ (n : ℕ) (l : List ℕ). n ∷ l) e (bytes_for-bytes s (λ i. h (suc i)))

@@ -1,40 +1,30 @@
 -- Each test is one of rule 5, in its order.
-use mathlib.Core.Path.{sym, ◌∙◌}
+use Rattle.std.proofs.Common.{sym, ◌∙◌, lit≤}
+use Rattle.std.proofs.lemmas.Result.{err_from_is_err_and}
 use Rattle.values.specs.Parts.{under}
-use Rattle.counts.proofs.Laws.Group.{agrees-is, group-charges, group-elements, group-bonds, group-inside, group-orders, group-fine}
+use Rattle.file_columns.specs.Laws.Exits.{rule-broken, rule_holds}
+use Rattle.counts.proofs.Laws.Group.{lists-are, group-lists, lists-inside, lists-orders}
 use Rattle.counts.proofs.groups.judge.Goals as goal
 
-pub returns-then-charges-atoms : goal.returns-then-charges-atoms
-returns-then-charges-atoms c = λ t x p k. group-charges x (λ q. c.if-charges-atoms.true (k.charges-are ∙ q ∙ sym k.atoms_are))
+pub returns-in_err-unless : goal.returns-in_err-unless
+returns-in_err-unless c =
+    λ x p k.
+    let b = rule-broken _ _ c.in_err-unless.field-0.0 c.in_err-unless.ensures in
+    let e = err_from_is_err_and c.from_residual.result c.from_residual.ensures.1 in
+    rw (e.1, e.2) (b.1 ∙ group-lists x (sym (lists-are k) ∙ sym c.lists_agree.ensures ∙ b.0))
 
-pub returns-then-elements-atoms : goal.returns-then-elements-atoms
-returns-then-elements-atoms c = λ t x p k. group-elements x (sym k.charges-are ∙ c.if-charges-atoms.false ∙ k.atoms_are) (λ q. c.if-elements-atoms.true (k.elements-are ∙ q ∙ sym k.atoms_are))
-
-pub returns-then-not-bonds_agree : goal.returns-then-not-bonds_agree
-returns-then-not-bonds_agree c =
-    λ t x p k.
-    let b = sym (agrees-is (under "bondAtomList" x) (under "bondOrderList" x)) ∙ rw (k.bonds-are, k.orders-are) at (sym c.bonds_agree.ensures ∙ c.if-not-bonds_agree.true) in
-    group-bonds x (sym k.charges-are ∙ c.if-charges-atoms.false ∙ k.atoms_are) (sym k.elements-are ∙ c.if-elements-atoms.false ∙ k.atoms_are) b
-
-pub returns-then-not-inside : goal.returns-then-not-inside
-returns-then-not-inside c =
-    λ t x p k.
-    let b = sym (agrees-is (under "bondAtomList" x) (under "bondOrderList" x)) ∙ rw (k.bonds-are, k.orders-are) at (sym c.bonds_agree.ensures ∙ c.if-not-bonds_agree.false) in
-    let i = rw k.atoms_are at (sym (c.inside.ensures t (under "bondAtomList" x) p.bonds) ∙ c.if-not-inside.true) in
-    group-inside x (sym k.charges-are ∙ c.if-charges-atoms.false ∙ k.atoms_are) (sym k.elements-are ∙ c.if-elements-atoms.false ∙ k.atoms_are) b i
-
-pub returns-then-not-orders_right : goal.returns-then-not-orders_right
-returns-then-not-orders_right c =
-    λ t x p k.
-    let b = sym (agrees-is (under "bondAtomList" x) (under "bondOrderList" x)) ∙ rw (k.bonds-are, k.orders-are) at (sym c.bonds_agree.ensures ∙ c.if-not-bonds_agree.false) in
-    let i = rw k.atoms_are at (sym (c.inside.ensures t (under "bondAtomList" x) p.bonds) ∙ c.if-not-inside.false) in
-    let o = sym (c.orders_right.ensures t (under "bondOrderList" x) p.orders) ∙ c.if-not-orders_right.true in
-    group-orders x (sym k.charges-are ∙ c.if-charges-atoms.false ∙ k.atoms_are) (sym k.elements-are ∙ c.if-elements-atoms.false ∙ k.atoms_are) b i o
+pub returns-in_err-unless-2 : goal.returns-in_err-unless-2
+returns-in_err-unless-2 c =
+    λ x p k.
+    let l = sym (lists-are k) ∙ sym c.lists_agree.ensures ∙ rule_holds _ _ (lit≤ tt) c.in_ok-unless.ensures in
+    let b = rule-broken _ _ c.in_err-unless-2.field-0.0 c.in_err-unless-2.ensures in
+    let e = err_from_is_err_and c.from_residual-in_err-unless-2.result c.from_residual-in_err-unless-2.ensures.1 in
+    let i = rw k.atoms_are at (sym (c.inside.ensures (under "bondAtomList" x) p.bonds) ∙ b.0) in
+    rw (e.1, e.2) (b.1 ∙ lists-inside x l i)
 
 pub returns : goal.returns
 returns c =
-    λ t x p k.
-    let b = sym (agrees-is (under "bondAtomList" x) (under "bondOrderList" x)) ∙ rw (k.bonds-are, k.orders-are) at (sym c.bonds_agree.ensures ∙ c.if-not-bonds_agree.false) in
-    let i = rw k.atoms_are at (sym (c.inside.ensures t (under "bondAtomList" x) p.bonds) ∙ c.if-not-inside.false) in
-    let o = sym (c.orders_right.ensures t (under "bondOrderList" x) p.orders) ∙ c.if-not-orders_right.false in
-    group-fine x (sym k.charges-are ∙ c.if-charges-atoms.false ∙ k.atoms_are) (sym k.elements-are ∙ c.if-elements-atoms.false ∙ k.atoms_are) b i o
+    λ x p k.
+    let l = sym (lists-are k) ∙ sym c.lists_agree.ensures ∙ rule_holds _ _ (lit≤ tt) c.in_ok-unless.ensures in
+    let i = rw k.atoms_are at (sym (c.inside.ensures (under "bondAtomList" x) p.bonds) ∙ rule_holds _ _ (lit≤ tt) c.in_ok-unless-2.ensures) in
+    c.unless-3.ensures ∙ lists-orders x l i c.orders_right.result (sym (c.orders_right.ensures (under "bondOrderList" x) p.orders))

@@ -7,10 +7,10 @@ use Rattle.counts.proofs.indices.past_value.Goals as goal
 
 pub returns-then-all_low : goal.returns-then-all_low
 returns-then-all_low c =
-    λ t e st. integers-end _ _ c.if-at-file.true c.if-b-lt144.false c.if-b-lt160.true c.u8_to_usize-count.ensures.is (c.all_low.ensures.0 c.if-all_low.true) st
+    λ e st. integers-end _ _ c.if-at-file.true (omega arith) (omega arith) c.from-count.ensures (c.all_low.ensures.0 c.if-all_low.true) st
 
 pub returns-then-n-file : goal.returns-then-n-file
 returns-then-n-file c =
     let a = c.args in
-    let h : a.at + 1 + c.u8_to_usize-n.result ≤ length a.file.now = omega (arith, c.if-n-file.true) in
-    λ t e st. short-end _ _ c.if-at-file.true c.if-b-lt160.false c.if-b-lt192.true c.u8_to_usize-n.ensures.is h st
+    let h : a.at + 1 + c.from-n.result ≤ length a.file.now = omega (arith, c.if-n-file.true) in
+    λ e st. short-end _ _ c.if-at-file.true (omega arith) (omega arith) c.from-n.ensures h st

@@ -3,4 +3,4 @@ use Rattle.values.specs.Parts.{under}
 use Rattle.counts.proofs.indices.transforms_inside.Goals as goal
 
 pub returns : goal.returns
-returns c = λ t x e a. c.all_inside.ensures t (under "transformList" x) (c.find-transforms.ensures t x e a)
+returns c = λ x e a. c.all_inside.ensures (under "transformList" x) (c.find-transforms.ensures x e a)

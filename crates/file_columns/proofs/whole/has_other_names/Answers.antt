@@ -13,4 +13,4 @@ pub returns : goal.returns
 unfolding other_names
 returns c =
     let a = c.args in
-    rw (le-leb header_size _ c.if-column-lt-HEADER_SIZE.false, ← c.read_u32-codec.ensures, ← c.read_u32-parameter.ensures, ← c.codec_of.ensures) c.is_other_size.ensures
+    rw (le-leb header_size _ c.if-column-lt-HEADER_SIZE.false, ← c.read_u32.ensures, ← c.read_u32-2.ensures, ← c.codec_of-codec.ensures) c.is_other_size.ensures

@@ -52,9 +52,9 @@ loop-value-preserved c =
     let a = c in
     let p = c.loop-value in
     let g = read (goal.at.loop-value-preserved c).In-Run in
-    let h = subst (Reaches (between (to_z w32 (of_z w32 a.args.low)) (to_z w32 (of_z w32 a.args.high))) _ _) c.in-Within.is (said (goal.at.loop-value-preserved c).After-run_between) in
-    let y = to_z-of_z {w = w32} {z = c.in-Within.x} (record { sfits = omega arith }) in
-    (g.1, rw y (p.invariant.1 ∙ rest-on (between (to_z w32 (of_z w32 a.args.low)) (to_z w32 (of_z w32 a.args.high))) p.left a.args.delta (to_z w32 p.last-bits) c.in-Run.value c.in-Run.count (read_in a.args.form (drop p.at a.args.payload.now)) (read_in a.args.form (drop c.in-Run.next a.args.payload.now)) g.3 c.if-left-count.false h.0 c.in-Within.x h.1))
+    let h = subst (Reaches (between (to_z w32 (of_z w32 a.args.low)) (to_z w32 (of_z w32 a.args.high))) _ _) c.in-Some.is (said (goal.at.loop-value-preserved c).After-run_between) in
+    let y = to_z-of_z {w = w32} {z = c.in-Some.x} (record { sfits = omega arith }) in
+    (g.1, rw y (p.invariant.1 ∙ rest-on (between (to_z w32 (of_z w32 a.args.low)) (to_z w32 (of_z w32 a.args.high))) p.left a.args.delta (to_z w32 p.last-bits) c.in-Run.value c.in-Run.count (read_in a.args.form (drop p.at a.args.payload.now)) (read_in a.args.form (drop c.in-Run.next a.args.payload.now)) g.3 c.if-left-count.false h.0 c.in-Some.x h.1))
 
 pub returns-in-Wrong : goal.returns-in-Wrong
 returns-in-Wrong c =

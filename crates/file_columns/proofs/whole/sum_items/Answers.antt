@@ -30,13 +30,12 @@ loop-value-init c =
 pub add_run-requires : goal.add_run-requires
 add_run-requires c = ((read c).2, c.requires.0, c.loop-value.invariant.1)
 
-pub returns-in_default : goal.returns-in_default
-returns-in_default c =
+pub returns-in_err-tally-in-Run : goal.returns-in_err-tally-in-Run
+returns-in_err-tally-in-Run c =
     let a = c.args in
     let p = c.loop-value in
-    let h = subst (Adds a.types a.atoms.now a.bonds.now p.tally _ _) c.in_default.is (added (goal.at.returns-in_default c).After-add_run) in
-    c.no_sums.ensures
-    ∙ sym (p.invariant.2 ∙ run-off a.types a.atoms.now a.bonds.now a.delta p.tally c.in-Run.value c.in-Run.count (read_in a.form (drop p.at a.payload.now)) (read_in a.form (drop c.in-Run.next a.payload.now)) (read (goal.at.returns-in_default c).In-Run).3 h)
+    let h = subst (Adds a.types a.atoms.now a.bonds.now p.tally _ _) c.in_err-tally-in-Run.was (added (goal.at.returns-in_err-tally-in-Run c).After-add_run) in
+    rw c.from_residual.ensures (sym (p.invariant.2 ∙ run-off a.types a.atoms.now a.bonds.now a.delta p.tally c.in-Run.value c.in-Run.count (read_in a.form (drop p.at a.payload.now)) (read_in a.form (drop c.in-Run.next a.payload.now)) (read (goal.at.returns-in_err-tally-in-Run c).In-Run).3 h))
 
 pub loop-value-smaller : goal.loop-value-smaller
 loop-value-smaller c = let g = read (goal.at.loop-value-smaller c).In-Run in omega (arith, g.0, g.1)
@@ -46,15 +45,15 @@ loop-value-preserved c =
     let a = c.args in
     let p = c.loop-value in
     let g = read (goal.at.loop-value-preserved c).In-Run in
-    let h = subst (Adds a.types a.atoms.now a.bonds.now p.tally _ _) c.in-On.is (added (goal.at.loop-value-preserved c).After-add_run) in
-    (g.1, h.4, p.invariant.2 ∙ run_on a.types a.atoms.now a.bonds.now a.delta p.tally c.in-Run.value c.in-Run.count (read_in a.form (drop p.at a.payload.now)) (read_in a.form (drop c.in-Run.next a.payload.now)) g.3 c.in-On.t h)
+    let h = subst (Adds a.types a.atoms.now a.bonds.now p.tally _ _) c.in_ok-tally-in-Run.was (added (goal.at.loop-value-preserved c).After-add_run) in
+    (g.1, h.4, p.invariant.2 ∙ run_on a.types a.atoms.now a.bonds.now a.delta p.tally c.in-Run.value c.in-Run.count (read_in a.form (drop p.at a.payload.now)) (read_in a.form (drop c.in-Run.next a.payload.now)) g.3 c.in_ok-tally-in-Run.tally h)
 
 pub returns-in-Wrong : goal.returns-in-Wrong
 returns-in-Wrong c =
     let a = c.args in
     let p = c.loop-value in
     let e = item-read a.form a.payload.now p.at c.item_at.ensures c.in-Wrong.is in
-    c.no_sums-in-Wrong.ensures ∙ sym (p.invariant.2 ∙ ap (rest_sums a.types a.atoms.now a.bonds.now a.delta p.tally) e)
+    sym (p.invariant.2 ∙ ap (rest_sums a.types a.atoms.now a.bonds.now a.delta p.tally) e)
 
 pub returns-in-End : goal.returns-in-End
 returns-in-End c =

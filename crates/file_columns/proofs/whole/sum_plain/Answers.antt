@@ -18,20 +18,20 @@ loop-at-init c =
     let l = a.requires.1 in
     rw c.to_come-tally.ensures (omega arith, (omega arith, omega arith), numbers-all a.args.types a.args.atoms.now a.args.bonds.now a.args.n a.args.size a.args.payload.now)
 
-pub returns-in_default : goal.returns-in_default
-returns-in_default c =
+pub returns-in_err-tally : goal.returns-in_err-tally
+returns-in_err-tally c =
     let a = c.args in
     let p = c.loop-at in
-    let h = subst (Adds a.types a.atoms.now a.bonds.now p.tally _ _) c.in_default.is (added (goal.at.returns-in_default c).After-add_cells) in
-    c.no_sums.ensures ∙ sym (p.invariant.2 ∙ numbers-off a.types a.atoms.now a.bonds.now a.size a.payload.now p.at p.tally (omega (arith, c.bytes-k.ensures)) h)
+    let h = subst (Adds a.types a.atoms.now a.bonds.now p.tally _ _) c.in_err-tally.was (added (goal.at.returns-in_err-tally c).After-add_cells) in
+    rw c.from_residual.ensures (sym (p.invariant.2 ∙ numbers-off a.types a.atoms.now a.bonds.now a.size a.payload.now p.at p.tally (omega (arith, c.bytes-k.ensures)) h))
 
 pub loop-at-preserved : goal.loop-at-preserved
 loop-at-preserved c =
     let a = c.args in
     let p = c.loop-at in
-    let h = subst (Adds a.types a.atoms.now a.bonds.now p.tally _ _) c.in-On.is (added (goal.at.loop-at-preserved c).After-add_cells) in
+    let h = subst (Adds a.types a.atoms.now a.bonds.now p.tally _ _) c.in_ok-tally.was (added (goal.at.loop-at-preserved c).After-add_cells) in
     let e = c.bytes-k.ensures in
-    (omega arith, h.4, rw e (p.invariant.2 ∙ numbers_on a.types a.atoms.now a.bonds.now a.size a.payload.now p.at p.tally (omega arith) c.in-On.t h))
+    (omega arith, h.4, rw e (p.invariant.2 ∙ numbers_on a.types a.atoms.now a.bonds.now a.size a.payload.now p.at p.tally (omega arith) c.in_ok-tally.tally h))
 
 pub returns : goal.returns
 returns c =

@@ -9,8 +9,8 @@ pub returns-then-count-eq0 : goal.returns-then-count-eq0
 unfolding all_pass results_from
 returns-then-count-eq0 c = rw c.if-count-eq0.true
 
-pub returns : goal.returns
-returns c =
+pub returns-else-count-eq0 : goal.returns-else-count-eq0
+returns-else-count-eq0 c =
     let a = c in
     let d = rw (to_z-of_z {w = w32} a.ranges.sum, to_z-of_z {w = w32} a.ranges.value) at c.add_delta.ensures in
     let e = rw (to_z-of_z {w = w32} a.ranges.low, to_z-of_z {w = w32} a.ranges.high, to_z-of_z {w = w32} (record { sfits = c.add_delta.type_inv })) at c.is_between.ensures in

@@ -3,7 +3,7 @@ use Rattle.std.proofs.Common.{◌≡◌, ◌≤◌, length}
 use Rattle.station.proofs.bills.read_pieces.Given as goal
 
 abbrev pub invariant-loop-run : goal.invariant-loop-run
-invariant-loop-run l = (l.run.held ≤ length l.buffer) × (length l.buffer ≡ length l.initial.buffer) × (length l.jobs ≡ length l.initial.jobs) × (length l.accepted ≡ length l.initial.accepted) × (length l.refused ≡ length l.initial.refused)
+invariant-loop-run l = (l.run.held ≤ length l.buffer) × (length l.buffer ≡ length l.initial.buffer)
 
 abbrev pub decreases-loop-run : goal.decreases-loop-run
 decreases-loop-run l = l.run.left

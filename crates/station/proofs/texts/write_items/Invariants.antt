@@ -1,9 +1,6 @@
--- The buffer keeps its length, and each turn puts one of the values that are left.
+-- The buffer keeps its length.
 use Rattle.std.proofs.Common.{◌≡◌, length}
 use Rattle.station.proofs.texts.write_items.Given as goal
 
-abbrev pub invariant-loop-left : goal.invariant-loop-left
-invariant-loop-left l = length l.buffer ≡ 327680
-
-abbrev pub decreases-loop-left : goal.decreases-loop-left
-decreases-loop-left l = l.left
+abbrev pub invariant-loop : goal.invariant-loop
+invariant-loop l = length l.buffer ≡ 327680

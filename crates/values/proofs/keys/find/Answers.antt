@@ -4,6 +4,6 @@ use Rattle.values.proofs.keys.find.Goals as goal
 
 pub returns : goal.returns
 returns c =
-    λ t x e a.
-    let i = c.entries_at-part.ensures.says t x e a in
-    c.find_from.ensures t (entries_of x) i.end i.all i.counts
+    λ x e a.
+    let i = c.entries_at-part.ensures.says x e a in
+    c.find_from.ensures (entries_of x) i.end i.all i.counts

@@ -8,17 +8,17 @@ use Rattle.values.proofs.lists.next_integer.Goals as goal
 
 pub returns-then-b-lt128 : goal.returns-then-b-lt128
 returns-then-b-lt128 c =
-    λ t x e a.
+    λ x e a.
     let l = read_low x a c.if-at-file.true c.if-b-lt128.true in
-    (to_z-of_z {w = w32} (record { sfits = c.u8_to_i32.type_inv }) ∙ c.u8_to_i32.ensures ∙ l.0, l.1)
+    (to_z-of_z {w = w32} (record { sfits = c.from.type_inv }) ∙ c.from.ensures ∙ l.0, l.1)
 
 pub returns-then-file-at-ge3 : goal.returns-then-file-at-ge3
 returns-then-file-at-ge3 c =
-    λ t x e a.
-    let l = read-two x a (omega (arith, c.if-file-at-ge3.true)) c.if-b.true (c.u16_to_usize-n.ensures ∙ c.read_u16.ensures) in
+    λ x e a.
+    let l = read-two x a (omega (arith, c.if-file-at-ge3.true)) c.if-b.true (c.from-n.ensures ∙ c.read_u16.ensures) in
     (to_z-of_z {w = w32} (record { sfits = c.unsigned.type_inv }) ∙ c.unsigned.ensures ∙ l.0, l.1)
 
 pub returns : goal.returns
 returns c =
-    λ t x e a.
-    (to_z-of_z {w = w32} (record { sfits = c.integer_at.type_inv }) ∙ c.integer_at.ensures.says t x e a, c.skip.ensures t e (at-standing a))
+    λ x e a.
+    (to_z-of_z {w = w32} (record { sfits = c.integer_at.type_inv }) ∙ c.integer_at.ensures.says x e a, c.skip.ensures e (at-standing a))

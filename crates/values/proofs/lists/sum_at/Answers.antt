@@ -4,6 +4,6 @@ use Rattle.values.proofs.lists.sum_at.Goals as goal
 
 pub returns : goal.returns
 returns c =
-    λ l t x e a.
-    let i = c.items_at-part.ensures.says t x e a in
-    c.sum_from.ensures l t (items_of x) i.end i.all i.counts
+    λ l x e a.
+    let i = c.items_at-part.ensures.says x e a in
+    c.sum_from.ensures l (items_of x) i.end i.all i.counts

@@ -1,23 +1,30 @@
 -- What is left of the values gives the rest of the sum; a file has no more values than bytes, so that the sum has room.
-use mathlib.Core.Path.{◌∙◌}
+use mathlib.Core.Path.{subst, ◌∙◌}
+use Prim.Native.Nat.{ℕ, ◌+◌}
 use native.Mathlib.Omega.{arith}
 use mir.Syntax.{w32}
 use mir.Val.{to_z, of_z}
 use mir.Facts.{to_z-of_z}
 use Rattle.numbers.specs.Laws.Ranges.{index-bits}
-use Rattle.values.specs.Laws.Integers.{all-few, summing-more, summing-negative, summing-end}
+use Rattle.values.specs.Laws.Integers.{Summing, all-few, summing_start, summing-more, summing-negative, summing-end}
 use Rattle.values.proofs.lists.sum_from.Goals as goal
 
 pub returns-then-n-gt-FILE_LIMIT : goal.returns-then-n-gt-FILE_LIMIT
-returns-then-n-gt-FILE_LIMIT c = λ l t ds e a k. absurd (omega (arith, c.if-n-gt-FILE_LIMIT.true, all-few ds a))
+returns-then-n-gt-FILE_LIMIT c = λ l ds e a k. absurd (omega (arith, c.if-n-gt-FILE_LIMIT.true, all-few ds a))
 
-pub returns-then-value-lt0 : goal.returns-then-value-lt0
-returns-then-value-lt0 c = λ l t ds e a k. summing-negative (to_z w32 (of_z w32 c.next_integer-next.result.value)) (c.loop-left.invariant.1 l t ds e a k) c.loop-left-test.true c.if-value-lt0.true (λ x f d. to_z-of_z {w = w32} (record { sfits = c.struct_told-1.given.0.1 }) ∙ (c.next_integer-next.ensures t x f d).0)
+pub loop-i-init : goal.loop-i-init
+loop-i-init c = ((omega arith, omega arith), λ l ds e a k. summing_start a (omega (arith, k)))
 
-pub loop-left-preserved : goal.loop-left-preserved
-loop-left-preserved c =
-    let i = c.loop-left.invariant.0 in
-    ((omega arith, i.1, omega (arith, i.0, i.1, i.2, c.u32_to_u64-total.ensures.bound, c.loop-left-test.true)), λ l t ds e a k. summing-more (to_z w32 (of_z w32 c.next_integer-next.result.value)) c.u32_to_u64-total.result (c.loop-left.invariant.1 l t ds e a k) c.loop-left-test.true c.if-value-lt0.false (c.u32_to_u64-total.ensures.is ∙ c.to_u32.ensures ∙ index-bits (to_z w32 (of_z w32 c.next_integer-next.result.value)) c.if-value-lt0.false) (λ x f d. (to_z-of_z {w = w32} (record { sfits = c.struct_told-1.given.0.1 }) ∙ (c.next_integer-next.ensures t x f d).0, (c.next_integer-next.ensures t x f d).1)))
+pub returns-then-next-lt0 : goal.returns-then-next-lt0
+returns-then-next-lt0 c = λ l ds e a k. summing-negative (to_z w32 (of_z w32 c.next_integer-next.result.value)) (c.loop-i.invariant.1 l ds e a k) (omega arith) c.if-next-lt0.true (λ x f d. to_z-of_z {w = w32} (record { sfits = c.struct_told-1.given.0.1 }) ∙ (c.next_integer-next.ensures x f d).0)
+
+pub loop-i-preserved : goal.loop-i-preserved
+loop-i-preserved c =
+    let i = c.loop-i.invariant.0 in
+    let v = c.next_integer-next.result in (
+      (i.0, omega (arith, i.0, i.1, c.from-total.type_inv)),
+      λ l ds e a k. subst (λ (n : ℕ). Summing c.args.file.now ds v.end n (c.loop-i.total + c.from-total.result) e) (omega arith) (summing-more (to_z w32 (of_z w32 v.value)) c.from-total.result (c.loop-i.invariant.1 l ds e a k) (omega arith) c.if-next-lt0.false (c.from-total.ensures ∙ c.cast_unsigned.ensures ∙ index-bits (to_z w32 (of_z w32 v.value)) c.if-next-lt0.false) (λ x f d. (to_z-of_z {w = w32} (record { sfits = c.struct_told-1.given.0.1 }) ∙ (c.next_integer-next.ensures x f d).0, (c.next_integer-next.ensures x f d).1))),
+    )
 
 pub returns : goal.returns
-returns c = λ l t ds e a k. summing-end (c.loop-left.invariant.1 l t ds e a k) c.loop-left-test.false
+returns c = λ l ds e a k. summing-end (c.loop-i.invariant.1 l ds e a k) (omega arith)

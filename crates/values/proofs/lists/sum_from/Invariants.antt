@@ -5,8 +5,5 @@ use Rattle.values.specs.Laws.Integers.{Summing}
 use Rattle.values.specs.Walked.{Short, WalkedAll}
 use Rattle.values.proofs.lists.sum_from.Given as goal
 
-abbrev pub invariant-loop-left : goal.invariant-loop-left
-invariant-loop-left l = ((l.left ≤ l.n) × (l.n ≤ file_limit) × (l.total ≤ (l.n - l.left) * 4294967296)) × (Short l.file → WalkedAll l.leads l.file l.n l.at (λ ds e. Summing l.file ds l.p l.left l.total e))
-
-abbrev pub decreases-loop-left : goal.decreases-loop-left
-decreases-loop-left l = l.left
+abbrev pub invariant-loop-i : goal.invariant-loop-i
+invariant-loop-i l = ((l.n ≤ file_limit) × (l.total ≤ l._i * 4294967296)) × (Short l.file → WalkedAll l.file l.n l.at (λ ds e. Summing l.file ds l.p (l.n - l._i) l.total e))

@@ -7,6 +7,6 @@ use Rattle.views.proofs.shapes.shape_at.Goals as goal
 
 pub returns : goal.returns
 returns c =
-    λ t x e a.
-    let i = c.items_at-part.ensures.says t x e a in
-    c.by_kind.ensures ∙ ap₂ kind_shape (c.kind_at.ensures.rule t) (c.all_plain-flat.ensures t (items_of x) i.end i.all i.counts) ∙ kind-shape x a
+    λ x e a.
+    let i = c.items_at-part.ensures.says x e a in
+    c.by_kind.ensures ∙ ap₂ kind_shape (c.kind_at.ensures.rule) (c.all_plain-flat.ensures (items_of x) i.end i.all i.counts) ∙ kind-shape x a

@@ -12,11 +12,11 @@ use Rattle.writers.proofs.packed.write_long.Goals as goal
 
 up : (c : lts.After-upper tie.the-claims reads.Pre reads.Post tie.handed_clauses)
     → bytes_for c.args.size (pack_one (upper c.args.size) (lower c.args.size) c.args.x)
-    ≡ bits_for c.args.size (replicate (c.to_u32-bits.result / c.upper-p.result) c.upper-p.result ++ (c.to_u32-bits.result % c.upper-p.result ∷ []))
+    ≡ bits_for c.args.size (replicate (c.cast_unsigned-bits.result / c.upper-p.result) c.upper-p.result ++ (c.cast_unsigned-bits.result % c.upper-p.result ∷ []))
 up c =
     let a = c in
-    let u = c.to_u32-bits.result in
-    bytes-pack_one-up a.args.size u a.args.x a.ranges.x (c.to_u32-bits.ensures ∙ ap (of_z w32) (to_z-of_z {w = w32} a.ranges.x)) c.if-bits-lt2147483648.true
+    let u = c.cast_unsigned-bits.result in
+    bytes-pack_one-up a.args.size u a.args.x a.ranges.x (c.cast_unsigned-bits.ensures ∙ ap (of_z w32) (to_z-of_z {w = w32} a.ranges.x)) c.if-bits-lt2147483648.true
     ∙ ap (λ (p : ℕ). bits_for a.args.size (replicate (u / p) p ++ (u % p ∷ []))) (sym c.upper-p.ensures)
 
 down : (c : lts.After-negated3 tie.the-claims reads.Pre reads.Post tie.handed_clauses)
@@ -27,7 +27,7 @@ down c =
     let z = a.args.size in
     let m = c.negated-n.result in
     let q = sym c.lower-q.ensures in
-    bytes-pack_one-down z c.to_u32-bits.result a.args.x m a.ranges.x (c.to_u32-bits.ensures ∙ ap (of_z w32) (to_z-of_z {w = w32} a.ranges.x)) c.if-bits-lt2147483648.false c.negated-n.ensures
+    bytes-pack_one-down z c.cast_unsigned-bits.result a.args.x m a.ranges.x (c.cast_unsigned-bits.ensures ∙ ap (of_z w32) (to_z-of_z {w = w32} a.ranges.x)) c.if-bits-lt2147483648.false c.negated-n.ensures
     ∙ ap (λ (n : ℕ). bits_for z (replicate (m / n) ((4294967296 - n) % 4294967296) ++ ((4294967296 - m % n) % 4294967296 ∷ []))) q
     ∙ ap₂ (λ (l r : ℕ). bits_for z (replicate (m / c.lower-q.result) l ++ (r ∷ []))) (sym c.negated.ensures) (sym c.negated-2.ensures)
 

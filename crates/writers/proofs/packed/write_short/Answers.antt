@@ -17,7 +17,7 @@ use Rattle.writers.proofs.packed.write_short.Goals as goal
 -- the bytes of the next value, which is one number
 more : (c : lts.Else1 tie.the-claims reads.Pre reads.Post goal.the-invariant-loop-i goal.the-decreases-loop-i tie.handed_clauses)
     → Parts (bytes_for c.args.size (pack c.args.size (deltas_from c.args.delta (to_z w32 c.loop-i.before-bits) (drop c.loop-i.i c.args.values.now))))
-    (bytes_of (size_of c.args.size) c.to_u32-bits.result)
+    (bytes_of (size_of c.args.size) c.cast_unsigned-bits.result)
     (bytes_for c.args.size (pack c.args.size (deltas_from c.args.delta (to_z w32 (of_z w32 (get_or c.args.values.now c.loop-i.i (pos 0)))) (drop (c.loop-i.i + 1) c.args.values.now))))
 more c =
     let a = c.args in
@@ -25,16 +25,16 @@ more c =
     let h : p.i < length a.values.now = omega arith in
     let m = bytes-pack-more a.size c.delta_if.result _ _ (deltas-read a.delta (to_z w32 p.before-bits) a.values.now p.i h (record { sfits = c.x-1.given }) c.delta_if.ensures) in
     let f : SFits w32 c.delta_if.result = record { sfits = c.delta_if.type_inv } in
-    let u = c.to_u32-bits.ensures ∙ ap (of_z w32) (to_z-of_z {w = w32} {z = c.delta_if.result} f) in
-    let e = bytes-pack_one-short a.size c.to_u32-bits.result (c.lower-low.result - 1) (c.upper.result + (c.lower-low.result - 1)) c.delta_if.result f u
+    let u = c.cast_unsigned-bits.ensures ∙ ap (of_z w32) (to_z-of_z {w = w32} {z = c.delta_if.result} f) in
+    let e = bytes-pack_one-short a.size c.cast_unsigned-bits.result (c.lower-low.result - 1) (c.upper.result + (c.lower-low.result - 1)) c.delta_if.result f u
     (ap (λ (n : ℕ). n - 1) c.lower-low.ensures) (ap (λ (n : ℕ). n + (c.lower-low.result - 1)) c.upper.ensures) (sym c.is_short.ensures ∙ c.if-not-is_short.false) in
     record { are = m.are ∙ ap (λ (l : List ℕ). l ++ (bytes_for c.args.size (pack c.args.size (deltas_from c.args.delta (to_z w32 (of_z w32 (get_or c.args.values.now c.loop-i.i (pos 0)))) (drop (c.loop-i.i + 1) c.args.values.now))))) e }
 
 pub put-requires : goal.put-requires
-put-requires c = come-room c.loop-i.invariant.2 (more c.before) (length-bytes_of (size_of c.args.size) c.to_u32-bits.result)
+put-requires c = come-room c.loop-i.invariant.2 (more c.before) (length-bytes_of (size_of c.args.size) c.cast_unsigned-bits.result)
 
 pub loop-i-preserved : goal.loop-i-preserved
 loop-i-preserved c =
     let a = c.args in
     let p = c.loop-i in
-    (omega (arith, p.invariant.0), c.put.auto.buffer ∙ p.invariant.1, come-on p.invariant.2 (more c.before.before.before.before.before) c.put.ensures (ap (λ (n : ℕ). p.at + n) (c.bytes-k.ensures ∙ sym (length-bytes_of (size_of a.size) c.to_u32-bits.result))))
+    (omega (arith, p.invariant.0), c.put.auto.buffer ∙ p.invariant.1, come-on p.invariant.2 (more c.before.before.before.before.before) c.put.ensures (ap (λ (n : ℕ). p.at + n) (c.bytes-k.ensures ∙ sym (length-bytes_of (size_of a.size) c.cast_unsigned-bits.result))))

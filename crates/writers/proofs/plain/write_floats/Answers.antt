@@ -14,22 +14,22 @@ use Rattle.writers.proofs.plain.write_floats.Tie as tie
 use Rattle.writers.proofs.plain.write_floats.Goals as goal
 
 -- the bytes of the next cell
-more : (c : lts.After-put_four-arg tie.the-claims reads.Pre reads.Post goal.the-invariant-loop-i goal.the-decreases-loop-i) → Parts (bytes_for Four (map (to_z w32) (drop c.loop-i.i c.args.bits.now))) (bytes_of 4 (get_or c.args.bits.now c.loop-i.i 0)) (bytes_for Four (map (to_z w32) (drop (c.loop-i.i + 1) c.args.bits.now)))
+more : (c : lts.After-put_four-arg tie.the-claims reads.Pre reads.Post goal.the-invariant-loop-x goal.the-decreases-loop-x) → Parts (bytes_for Four (map (to_z w32) (drop c.loop-x.x-index c.args.bits.now))) (bytes_of 4 (get_or c.args.bits.now c.loop-x.x-index 0)) (bytes_for Four (map (to_z w32) (drop (c.loop-x.x-index + 1) c.args.bits.now)))
 more c =
     let s = c.args.bits.now in
-    let i = c.loop-i.i in
-    bytes_for-more Four ((to_z w32) (get_or s i 0)) (get_or s i 0) _ _ (map_at (to_z w32) 0 s i c.loop-i-test.true) (ap (bytes_of 4) (sym (of_z-to_z {w = w32} (c.shared_slice_known-1.given i))))
+    let i = c.loop-x.x-index in
+    bytes_for-more Four ((to_z w32) (get_or s i 0)) (get_or s i 0) _ _ (map_at (to_z w32) 0 s i c.loop-x-test.true) (ap (bytes_of 4) (sym (of_z-to_z {w = w32} (c.shared_slice_known-1.given i))))
 
-room : (c : lts.After-put_four-arg tie.the-claims reads.Pre reads.Post goal.the-invariant-loop-i goal.the-decreases-loop-i) → c.loop-i.at + 4 ≤ length c.loop-i.buffer
-room c = come-room c.loop-i.invariant.2 (more c) (length-bytes_of 4 (get_or c.args.bits.now c.loop-i.i 0))
+room : (c : lts.After-put_four-arg tie.the-claims reads.Pre reads.Post goal.the-invariant-loop-x goal.the-decreases-loop-x) → c.loop-x.at + 4 ≤ length c.loop-x.buffer
+room c = come-room c.loop-x.invariant.1 (more c) (length-bytes_of 4 (get_or c.args.bits.now c.loop-x.x-index 0))
 
 pub put_four-requires : goal.put_four-requires
 put_four-requires c = room c.before.before
 
-pub loop-i-preserved : goal.loop-i-preserved
-loop-i-preserved c =
-    let p = c.loop-i in
-    (omega arith, c.put_four.auto.buffer ∙ p.invariant.1, come-on p.invariant.2 (more c.before.before.before.before.before) c.put_four.ensures (ap (λ (n : ℕ). p.at + n) (sym (length-bytes_of 4 (get_or c.args.bits.now c.loop-i.i 0)))))
+pub loop-x-preserved : goal.loop-x-preserved
+loop-x-preserved c =
+    let p = c.loop-x in
+    (c.put_four.auto.buffer ∙ p.invariant.0, come-on p.invariant.1 (more c.before.before.before.before.before) c.put_four.ensures (ap (λ (n : ℕ). p.at + n) (sym (length-bytes_of 4 (get_or c.args.bits.now c.loop-x.x-index 0)))))
 
 pub returns : goal.returns
-returns c = come-end c.loop-i.invariant.2 (bytes_for-none Four _ (map-end (to_z w32) 0 c.args.bits.now c.loop-i.i (omega arith)))
+returns c = come-end c.loop-x.invariant.1 (bytes_for-none Four _ (map-end (to_z w32) 0 c.args.bits.now c.loop-x.x-index (omega arith)))

@@ -17,19 +17,19 @@ use Rattle.writers.proofs.plain.write_numbers.Tie as tie
 use Rattle.writers.proofs.plain.write_numbers.Goals as goal
 
 -- the bytes of the next value
-more : (c : lts.After-to_u32 tie.the-claims reads.Pre reads.Post goal.the-invariant-loop-i goal.the-decreases-loop-i) → Parts (bytes_for c.args.size (drop c.loop-i.i c.args.values.now)) (bytes_of (size_of c.args.size) c.to_u32.result) (bytes_for c.args.size (drop (c.loop-i.i + 1) c.args.values.now))
+more : (c : lts.After-cast_unsigned tie.the-claims reads.Pre reads.Post goal.the-invariant-loop-i goal.the-decreases-loop-i) → Parts (bytes_for c.args.size (drop c.loop-i.i c.args.values.now)) (bytes_of (size_of c.args.size) c.cast_unsigned.result) (bytes_for c.args.size (drop (c.loop-i.i + 1) c.args.values.now))
 more c =
     let a = c.args in
     let p = c.loop-i in
     let h : p.i < length a.values.now = omega arith in
     let d = drop_at (pos 0) a.values.now p.i h in
     let x = get_or a.values.now p.i (pos 0) in
-    let u = c.to_u32.ensures ∙ ap (of_z w32) (to_z-of_z {w = w32} {z = x} (record { sfits = c.to_u32-arg-1.given })) in
-    bytes_for-more a.size x c.to_u32.result _ _ d
+    let u = c.cast_unsigned.ensures ∙ ap (of_z w32) (to_z-of_z {w = w32} {z = x} (record { sfits = c.cast_unsigned-arg-1.given })) in
+    bytes_for-more a.size x c.cast_unsigned.result _ _ d
     (ap (bytes_of (size_of a.size)) u ∙ bytes_of-narrow a.size x (mag-held a.size x (all_split (range_of (Plain a.size)) _ _ _ d p.invariant.1).0))
 
-room : (c : lts.After-to_u32 tie.the-claims reads.Pre reads.Post goal.the-invariant-loop-i goal.the-decreases-loop-i) → c.loop-i.at + size_of c.args.size ≤ length c.loop-i.buffer
-room c = come-room c.loop-i.invariant.3 (more c) (length-bytes_of (size_of c.args.size) c.to_u32.result)
+room : (c : lts.After-cast_unsigned tie.the-claims reads.Pre reads.Post goal.the-invariant-loop-i goal.the-decreases-loop-i) → c.loop-i.at + size_of c.args.size ≤ length c.loop-i.buffer
+room c = come-room c.loop-i.invariant.3 (more c) (length-bytes_of (size_of c.args.size) c.cast_unsigned.result)
 
 pub put-requires : goal.put-requires
 put-requires c = room c
@@ -39,7 +39,7 @@ loop-i-preserved c =
     let a = c.args in
     let p = c.loop-i in
     let h : p.i < length a.values.now = omega arith in
-    let k = ap (λ (n : ℕ). p.at + n) (c.bytes-at.ensures ∙ sym (length-bytes_of (size_of a.size) c.to_u32.result)) in
+    let k = ap (λ (n : ℕ). p.at + n) (c.bytes-at.ensures ∙ sym (length-bytes_of (size_of a.size) c.cast_unsigned.result)) in
     (omega arith, (all_split (range_of (Plain a.size)) _ _ _ (drop_at (pos 0) a.values.now p.i h) p.invariant.1).1, c.put.auto.buffer ∙ p.invariant.2, come-on p.invariant.3 (more c.before.before.before.before.before) c.put.ensures k)
 
 pub returns : goal.returns

@@ -32,8 +32,8 @@ loop-i-init c =
     let h : 0 < length a.values.now = omega arith in
     let d = c in
     let n = c.cell_after.ensures in
-    let e = next-cell a.delta (pos 0) a.values.now 0 h (record { sfits = d.delta_if-arg-1.given }) (record { sfits = d.delta_if.type_inv }) d.delta_if.ensures c.to_u32-first.ensures in
-    (omega arith, omega (arith, c.begun-n.ensures.1), runs-next e n.cell (omega (arith, c.to_u32-first.type_inv)) n.fits c.begun-n.ensures.0)
+    let e = next-cell a.delta (pos 0) a.values.now 0 h (record { sfits = d.delta_if-arg-1.given }) (record { sfits = d.delta_if.type_inv }) d.delta_if.ensures c.cast_unsigned-first.ensures in
+    (omega arith, omega (arith, c.begun-n.ensures.1), runs-next e n.cell (omega (arith, c.cast_unsigned-first.type_inv)) n.fits c.begun-n.ensures.0)
 
 pub returns : goal.returns
 returns c = rest c

@@ -16,22 +16,22 @@ use Rattle.writers.proofs.runs.write_numbers.Tie as tie
 use Rattle.writers.proofs.runs.write_numbers.Goals as goal
 
 -- the next cell
-come : (c : lts.After-to_u322 tie.the-claims reads.Pre reads.Post goal.the-invariant-loop-i goal.the-decreases-loop-i)
+come : (c : lts.After-cast_unsigned2 tie.the-claims reads.Pre reads.Post goal.the-invariant-loop-i goal.the-decreases-loop-i)
     → deltas_from c.args.delta (to_z w32 c.loop-i.before-bits) (drop c.loop-i.i c.args.values.now)
-    ≡ to_z w32 c.to_u32-y.result ∷ deltas_from c.args.delta (to_z w32 (of_z w32 (get_or c.args.values.now c.loop-i.i (pos 0)))) (drop (c.loop-i.i + 1) c.args.values.now)
+    ≡ to_z w32 c.cast_unsigned-y.result ∷ deltas_from c.args.delta (to_z w32 (of_z w32 (get_or c.args.values.now c.loop-i.i (pos 0)))) (drop (c.loop-i.i + 1) c.args.values.now)
 come c =
     let a = c.args in
     let p = c.loop-i in
     let h : p.i < length a.values.now = omega arith in
-    next-cell a.delta (to_z w32 p.before-bits) a.values.now p.i h (record { sfits = c.x-1.given }) (record { sfits = c.delta_if-in-loop-i.type_inv }) c.delta_if-in-loop-i.ensures c.to_u32-y.ensures
+    next-cell a.delta (to_z w32 p.before-bits) a.values.now p.i h (record { sfits = c.x-1.given }) (record { sfits = c.delta_if-in-loop-i.type_inv }) c.delta_if-in-loop-i.ensures c.cast_unsigned-y.ensures
 
 -- the run that is over
 over-now : (c : lts.Else2 tie.the-claims reads.Pre reads.Post goal.the-invariant-loop-i goal.the-decreases-loop-i)
     → Parts (bytes_for Four (runs_from (to_z w32 c.loop-i.v) c.loop-i.n (deltas_from c.args.delta (to_z w32 c.loop-i.before-bits) (drop c.loop-i.i c.args.values.now)))) (bytes_of 4 c.loop-i.v ++ bytes_of 4 c.loop-i.n)
-    (bytes_for Four (runs_from (to_z w32 c.to_u32-y.result) 1 (deltas_from c.args.delta (to_z w32 (of_z w32 (get_or c.args.values.now c.loop-i.i (pos 0)))) (drop (c.loop-i.i + 1) c.args.values.now))))
+    (bytes_for Four (runs_from (to_z w32 c.cast_unsigned-y.result) 1 (deltas_from c.args.delta (to_z w32 (of_z w32 (get_or c.args.values.now c.loop-i.i (pos 0)))) (drop (c.loop-i.i + 1) c.args.values.now))))
 over-now c =
     let p = c.loop-i in
-    let u = bits-same c.to_u32-y.result (omega (arith, c.to_u32-y.type_inv)) in
+    let u = bits-same c.cast_unsigned-y.result (omega (arith, c.cast_unsigned-y.type_inv)) in
     let w = bits-same p.v p.invariant.2 in
     rw w at (bytes-run-over (to_z w32 p.v) p.n _ _ _ (come c.before) (λ e. c.if-y-v.false (sym u ∙ e ∙ w)))
 
@@ -51,7 +51,7 @@ pub loop-i-init : goal.loop-i-init
 loop-i-init c =
     let a = c.args in
     let h : 0 < length a.values.now = omega arith in
-    (omega arith, omega arith, omega (arith, c.to_u32-v.type_inv), refl, come-same (record { gives = refl; room = c.requires }) (ap (bytes_for Four) (runs_of-first _ _ _ (next-cell a.delta (pos 0) a.values.now 0 h (record { sfits = c.before-1.given }) (record { sfits = c.delta_if.type_inv }) c.delta_if.ensures c.to_u32-v.ensures))))
+    (omega arith, omega arith, omega (arith, c.cast_unsigned-v.type_inv), refl, come-same (record { gives = refl; room = c.requires }) (ap (bytes_for Four) (runs_of-first _ _ _ (next-cell a.delta (pos 0) a.values.now 0 h (record { sfits = c.before-1.given }) (record { sfits = c.delta_if.type_inv }) c.delta_if.ensures c.cast_unsigned-v.ensures))))
 
 pub loop-i-preserved-then-y-v : goal.loop-i-preserved-then-y-v
 loop-i-preserved-then-y-v c =
@@ -64,7 +64,7 @@ put_run-requires c = come-room c.loop-i.invariant.4 (over-now c.before) (length_
 pub loop-i-preserved : goal.loop-i-preserved
 loop-i-preserved c =
     let p = c.loop-i in
-    (omega arith, omega arith, omega (arith, c.to_u32-y.type_inv), c.put_run.auto.buffer ∙ p.invariant.3, come-on p.invariant.4 (over-now c.before.before.before.before.before) c.put_run.ensures (ap (λ (n : ℕ). p.at + n) (sym (length_run p.v p.n))))
+    (omega arith, omega arith, omega (arith, c.cast_unsigned-y.type_inv), c.put_run.auto.buffer ∙ p.invariant.3, come-on p.invariant.4 (over-now c.before.before.before.before.before) c.put_run.ensures (ap (λ (n : ℕ). p.at + n) (sym (length_run p.v p.n))))
 
 pub put_run-requires-2 : goal.put_run-requires-2
 put_run-requires-2 c = come-room c.loop-i.invariant.4 (last c.before) (length_run c.loop-i.v c.loop-i.n)
