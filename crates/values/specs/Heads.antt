@@ -1,5 +1,5 @@
--- Values at places by any table of lead bytes that is lent: what a value's kind and its head say. What this means for a document that stands
--- there, when the table is that of lead bytes, is in the contracts (Walked.antt). No lemma stands here: the laws are in Laws/Heads.antt.
+-- Values at places by any table of the form of that of lead bytes: what a value's kind and its head say. What this means for a document that
+-- stands there, when the table is that of lead bytes, is in the contracts (Walked.antt). No lemma stands here: the laws are in Laws/Heads.antt.
 -- Assumes nothing.
 use Rattle.std.specs.Prelude.{Option, Some, None, Bool, true, cond, ◌&&◌, List, ℕ, ◌+◌, ◌-◌, eqb, leb, ltb, ℤ, pos, length, get_or}
 use Rattle.heads.specs.Table.{kind_cell, kind_by, head_by}
