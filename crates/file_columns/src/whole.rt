@@ -166,11 +166,10 @@ fn plain_between(payload: &[u8], size: Size, n: usize, low: i32, high: i32) -> b
     let k = steps::bytes(size);
     let mut at: usize = 0;
     let mut fine = payload.len() / k == n;
-    // A `while`, since the place goes on by a number's size; the test has no way out of the loop, so that several numbers are tested at once.
+    // A `while`, since the place goes on by a number's size; `&`, since it has no branch, so that several numbers are tested at once.
     while k <= payload.len() - at {
         let number = steps::number_at(payload, at, size);
-        let between = numbers::is_between(number, low, high);
-        fine = fine && between;
+        fine &= numbers::is_between(number, low, high);
         at += k;
     }
     fine

@@ -110,12 +110,16 @@ fn write_numbers(values: &[i32], size: Size, buffer: &mut [u8], start: usize)
     }
 }
 
-// Names from `start` on.
+// Names from `start` on. A loop: with `copy_from_slice` the library for C would need `memmove` from outside.
 fn write_names(names: &[u8], buffer: &mut [u8], start: usize)
     requires { start + length (bytes_for Size.One (map pos names.now)) ≤ length buffer.old }
     ensures { buffer.new ≡ over buffer.old start (bytes_for Size.One (map pos names.now)) }
 {
-    buffer[start..start + names.len()].copy_from_slice(names);
+    let mut at = start;
+    for byte in names {
+        crate::put_one(buffer, at, *byte as u32);
+        at += 1;
+    }
 }
 
 // Floats from `start` on.

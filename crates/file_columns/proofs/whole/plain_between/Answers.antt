@@ -1,11 +1,10 @@
 -- The numbers before the place pass or not, and those from it on decide (`passing-on`).
-use Rattle.std.proofs.Common.{◌≡◌, ◌&&◌, ap, ◌∙◌, arith, to_z-of_z, w32, to_z, of_z}
+use Rattle.std.proofs.Common.{ap, ◌∙◌, arith, to_z-of_z, w32, to_z, of_z}
 use Rattle.numbers.specs.BigEndian.{signed_at}
 use Rattle.numbers.specs.Ranges.{between}
 use Rattle.steps.specs.Width.{width_of}
 use Rattle.file_columns.specs.Laws.Passing.{passing-start, passing-on, passing-end}
 use Rattle.file_columns.proofs.whole.plain_between.Goals as goal
-use Rattle.file_columns.proofs.whole.plain_between.Goals.{then-fine, else-fine}
 
 pub loop-at-init : goal.loop-at-init
 loop-at-init c =
@@ -18,10 +17,8 @@ loop-at-preserved c =
     let p = c.loop-at in
     let e = c.bytes-k.ensures in
     let x = to_z-of_z {w = w32} (record { sfits = c.number_at-number.type_inv }) ∙ c.number_at-number.ensures in
-    let b = c.is_between-between.ensures ∙ ap (between (to_z w32 (of_z w32 a.low)) (to_z w32 (of_z w32 a.high))) x in
-    let t : c.if-fine.fine ≡ (p.fine && between (to_z w32 (of_z w32 a.low)) (to_z w32 (of_z w32 a.high)) (signed_at (width_of a.size) a.payload.now p.at)) =
-    elim c.if-fine.branch [ then-fine w ↦ rw w.if-fine.true (w.fine-is ∙ b) | else-fine w ↦ rw w.if-fine.false (w.fine-is ∙ w.if-fine.false) ] in
-    (omega arith, rw (e, t) (passing-on (between (to_z w32 (of_z w32 a.low)) (to_z w32 (of_z w32 a.high))) a.n a.size a.payload.now p.at p.fine p.invariant.1 (omega arith)))
+    let b = c.is_between-fine.ensures ∙ ap (between (to_z w32 (of_z w32 a.low)) (to_z w32 (of_z w32 a.high))) x in
+    (omega arith, rw (e, b) (passing-on (between (to_z w32 (of_z w32 a.low)) (to_z w32 (of_z w32 a.high))) a.n a.size a.payload.now p.at p.fine p.invariant.1 (omega arith)))
 
 pub returns : goal.returns
 returns c =
