@@ -33,8 +33,7 @@ pub fn matrix_refusal(file: &[u8], assembly: u64, transform: u64) -> Result<(), 
     Ok(())
 }
 
-// The sixteen floats of a transform's matrix in order, or its refusal, from one reading of the file; on refusal the floats that are handed over
-// are zeros.
+// The sixteen floats of a transform's matrix in order, or its refusal, from one reading of the file.
 pub fn find(file: &[u8], assembly: u64, transform: u64) -> Result<[f32; 16], Refusal>
     ensures number { number_of result ≡ matrix_number file.now assembly transform }
     ensures floats { floats_or_zeros result ≡ matrix_floats file.now assembly transform }
