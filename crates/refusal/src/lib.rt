@@ -5,8 +5,7 @@
 
 ghost use Rattle.std.specs.Prelude.{◌≡◌};
 ghost use Rattle.refusal.specs.Table.{refusal_number};
-ghost use Rattle.refusal.specs.First.{unless as numberUnless};
-ghost use Rattle.refusal.specs.Outcome.{number_of};
+ghost use Rattle.refusal.specs.Outcome.{number_of, outcome_unless};
 
 // The number of a call that refuses nothing.
 pub const ACCEPTED: u8 = 0;
@@ -95,9 +94,9 @@ pub fn number(outcome: Result<(), Refusal>) -> u8
     }
 }
 
-// The refusal of a rule, unless it holds.
-pub fn unless(holds: bool, refusal: Refusal) -> Result<(), Refusal>
-    ensures { number_of result ≡ numberUnless holds (refusal_number refusal) }
+// The refusal of a rule, unless it holds: one of the table, or its number.
+pub fn unless<E: Drop>(holds: bool, refusal: E) -> Result<(), E>
+    ensures { result ≡ outcome_unless holds refusal }
 {
     if holds {
         return Ok(());

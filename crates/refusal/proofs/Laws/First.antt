@@ -1,8 +1,10 @@
 -- Laws of numbers joined in their order: when the first decides, when the next one does, when all are 0, and how large they are. Assumes nothing.
-use Rattle.std.specs.Prelude.{◌≡◌, refl, Bool, true, false, List, [], ◌∷◌, ℕ, zero, suc, ◌≤◌, ◌<◌, get_or}
+use Rattle.std.specs.Prelude.{◌≡◌, refl, Bool, true, false, Result, List, [], ◌∷◌, ℕ, zero, suc, ◌≤◌, ◌<◌, get_or}
 use Rattle.std.proofs.Common.{sym, ap, ◌∙◌, arith}
-use Rattle.refusal.specs.Table.{accepted}
+use Rattle.refusal.specs.declared.Refusal.{Refusal}
+use Rattle.refusal.specs.Table.{accepted, refusal_number}
 use Rattle.refusal.specs.First.{or_else, unless, first}
+use Rattle.refusal.specs.Outcome.{number_of, answer_number, outcome_unless}
 
 -- or_else
 
@@ -49,6 +51,15 @@ or_else-most zero m p q = q
 or_else-most (suc n) m p q = p
 
 -- unless
+
+-- the outcome of a rule has the rule's number: that of its refusal, or the number that it has in place of one
+pub number-unless : (b : Bool) (r : Refusal) {x : Result (Unit {0}) Refusal} → x ≡ outcome_unless b r → number_of x ≡ unless b (refusal_number r)
+number-unless true r e = ap number_of e
+number-unless false r e = ap number_of e
+
+pub answer_number-unless : (b : Bool) (n : ℕ) {x : Result (Unit {0}) ℕ} → x ≡ outcome_unless b n → answer_number x ≡ unless b n
+answer_number-unless true n e = ap answer_number e
+answer_number-unless false n e = ap answer_number e
 
 pub unless_holds : (b : Bool) (n : ℕ) → accepted < n → unless b n ≡ accepted → b ≡ true
 unless_holds true n h e = refl
