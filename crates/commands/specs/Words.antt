@@ -1,7 +1,6 @@
 -- The words of the program: its commands, how many words each takes, and what they say. No lemma stands here. Assumes nothing.
 use Rattle.std.specs.Prelude.{Bool, true, false, cond, Option, Some, None, List, ℕ, eqb, leb, ltb}
-use Rattle.refusal.specs.Table.{buffer_too_small, refusal_number}
-use Rattle.refusal.specs.declared.Refusal.{Refusal}
+use Rattle.refusal.specs.Table.{buffer_too_small}
 use Rattle.sentences.specs.declared.OfPart.{OfPart}
 use Rattle.text.specs.Equal.{equal}
 use Rattle.text.specs.Ascii.{ascii}
@@ -97,5 +96,5 @@ abbrev pub asked_of : List ℕ → ℕ → Option ℕ
 asked_of word limit = asked_by (number_in word) limit
 
 -- what is said of a column that is refused
-abbrev pub part_of : Refusal → OfPart
-part_of refusal = cond (eqb (refusal_number refusal) buffer_too_small) OfPart.NotShown (OfPart.Refused refusal)
+abbrev pub part_of : ℕ → OfPart
+part_of n = cond (eqb n buffer_too_small) OfPart.NotShown (OfPart.Refused n)

@@ -1,20 +1,19 @@
 // How far the files of a bill are read, and which receipt of which file is at fault. The files are one run of receipts: a receipt may begin in one of
 // them and end in another.
 ghost use Rattle.std.specs.Prelude.{◌≡◌};
-ghost use Rattle.refusal.specs.Outcome.{number_of};
 ghost use Rattle.commands.specs.Bills.{unread, opened_run, read_run, held_by, decided_by, entered_run, number_in, raised, refusal_of};
 
 use refusal::Refusal;
 
 // A run of receipts, as far as it is read: how many bytes it may still have until it is over the limit; how many bytes are held, of receipts that are
-// not entered yet; the file in which the first of these receipts begins, its number among those that begin there, and whether it is refused.
+// not entered yet; the file in which the first of these receipts begins, its number among those that begin there, and its refusal, or 0.
 #[derive(Clone, Copy)]
 pub struct Run {
     pub left: usize,
     pub held: usize,
     pub file: usize,
     pub number: u32,
-    pub outcome: Result<(), Refusal>,
+    pub refusal: u8,
 }
 
 // A run of which nothing is read yet.
@@ -26,7 +25,7 @@ pub fn no_bytes() -> Run
         held: 0,
         file: 0,
         number: 1,
-        outcome: Ok(()),
+        refusal: refusal::ACCEPTED,
     }
 }
 
@@ -34,7 +33,7 @@ pub fn no_bytes() -> Run
 pub fn opened(run: Run, file: usize) -> Run
     ensures { result ≡ opened_run run file }
 {
-    if run.outcome.is_err() || run.held != 0 {
+    if run.refusal != refusal::ACCEPTED || run.held != 0 {
         return run;
     }
     Run {
@@ -50,25 +49,19 @@ pub fn read(run: Run, bytes: usize, held: usize) -> Run
 {
     Run {
         left: run.left.saturating_sub(bytes),
-        held: held_by(run.outcome, held),
+        held: held_by(run.refusal, held),
         ..run
     }
 }
 
-// A run when receipts of it are entered while a file is read, with the outcome of the next one and how many bytes are then held. Of the receipts that
+// A run when receipts of it are entered while a file is read, with the refusal of the next one and how many bytes are then held. Of the receipts that
 // are entered only the first may begin in an earlier file.
-pub fn entered(
-    run: Run,
-    file: usize,
-    outcome: Result<(), Refusal>,
-    held: usize,
-    receipts: usize,
-) -> Run
-    ensures { result ≡ entered_run run file outcome held receipts }
+pub fn entered(run: Run, file: usize, refusal: u8, held: usize, receipts: usize) -> Run
+    ensures { result ≡ entered_run run file refusal held receipts }
 {
     let rest = Run {
-        held: held_by(outcome, held),
-        outcome,
+        held: held_by(refusal, held),
+        refusal,
         ..run
     };
     if receipts == 0 {
@@ -82,35 +75,37 @@ pub fn entered(
 }
 
 // What is decided of a receipt where a file ends: one that is malformed may go on in the next file.
-pub fn decided(outcome: Result<(), Refusal>, ends: bool) -> Result<(), Refusal>
-    ensures { number_of result ≡ decided_by (number_of outcome) ends }
+pub fn decided(refusal: u8, ends: bool) -> u8
+    ensures { result ≡ decided_by refusal ends }
 {
-    match outcome {
-        Err(Refusal::ReceiptMalformed) if ends => Ok(()),
-        _ => outcome,
+    if ends && refusal == Refusal::ReceiptMalformed.number() {
+        refusal::ACCEPTED
+    } else {
+        refusal
     }
 }
 
-// The refusal of a run when no more of it is read: a receipt that is held then does not go on.
-pub fn refusal_of(run: Run) -> Result<(), Refusal>
-    ensures { number_of result ≡ refusal_of run }
+// The refusal of a run when no more of it is read, or 0: a receipt that is held then does not go on.
+pub fn refusal_of(run: Run) -> u8
+    ensures { result ≡ refusal_of run }
 {
     if run.left == 0 {
-        return Err(Refusal::FileOverLimit);
+        return Refusal::FileOverLimit.number();
     }
     if 0 < run.held {
-        return Err(Refusal::ReceiptMalformed);
+        return Refusal::ReceiptMalformed.number();
     }
-    run.outcome
+    run.refusal
 }
 
 // How many bytes are held: none where the run is refused.
-fn held_by(outcome: Result<(), Refusal>, held: usize) -> usize
-    ensures { result ≡ held_by (number_of outcome) held }
+fn held_by(refusal: u8, held: usize) -> usize
+    ensures { result ≡ held_by refusal held }
 {
-    match outcome {
-        Ok(()) => held,
-        Err(_) => 0,
+    if refusal == refusal::ACCEPTED {
+        held
+    } else {
+        0
     }
 }
 

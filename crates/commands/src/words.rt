@@ -121,12 +121,13 @@ pub fn number_in(word: &[u8], limit: u32) -> Option<u32>
     Some(number)
 }
 
-// What is said of a column that is refused.
-pub fn part_of(refusal: Refusal) -> OfPart
-    ensures { result ≡ part_of refusal }
+// What is said of a column that is refused with a number.
+pub fn part_of(number: u8) -> OfPart
+    ensures { result ≡ part_of number }
 {
-    match refusal {
-        Refusal::BufferTooSmall => OfPart::NotShown,
-        _ => OfPart::Refused(refusal),
+    if number == Refusal::BufferTooSmall.number() {
+        OfPart::NotShown
+    } else {
+        OfPart::Refused(number)
     }
 }

@@ -3,7 +3,7 @@
 -- the number of a receipt, and ! for the system's reason. No lemma stands here. Assumes nothing.
 use Rattle.std.specs.Prelude.{Bool, cond, Option, Some, None, List, [], ◌∷◌, ◌++◌, ℕ, eqb, take}
 use Prim.Native.Char.{code}
-use Rattle.refusal.specs.Table.{accepted, file_over_limit, lead_byte_unknown, job_not_rising, refusal_number}
+use Rattle.refusal.specs.Table.{accepted, file_over_limit, lead_byte_unknown, job_not_rising}
 use Rattle.text.specs.Decimal.{decimal}
 use Rattle.text.specs.Equal.{equal}
 use Rattle.text.specs.Ascii.{ascii}
@@ -46,7 +46,7 @@ part_form OfPart.NoColumn = ascii "Field \"$\" of & is not a column: its value i
 part_form OfPart.NotShown = ascii "Column \"$\" of & is not shown: it has more than 65,536 values."
 part_form OfPart.Nested = ascii "Field \"$\" of & is not shown as text: it is a map, or an array with elements other than numbers and strings. With --raw its bytes are written."
 part_form OfPart.IsBinary = ascii "Field \"$\" of & is a column or another binary: \"station column\" shows the values of a column, and \"station view --raw\" the bytes of any binary."
-part_form (OfPart.Refused r) = ascii "Column \"$\" of & is refused with #: *."
+part_form (OfPart.Refused n) = ascii "Column \"$\" of & is refused with #: *."
 
 -- a word
 abbrev pub word_form : OfWord → List ℕ
@@ -77,21 +77,21 @@ form_of (Sentence.Verdict n advice) = cond (eqb n accepted) accepted_form (refus
 form_of (Sentence.File said) = file_form said
 form_of (Sentence.Part said) = part_form said
 form_of (Sentence.Word said) = word_form said
-form_of (Sentence.Bill r receipt) = bill_form (refusal_number r)
+form_of (Sentence.Bill n receipt) = bill_form n
 form_of (Sentence.Unwritten n) = unwritten_form
 
 -- the number of the refusal that a sentence says
 abbrev pub refusal_of : Sentence → ℕ
 refusal_of (Sentence.Verdict n advice) = n
 refusal_of (Sentence.File said) = 0
-refusal_of (Sentence.Part (OfPart.Refused r)) = refusal_number r
+refusal_of (Sentence.Part (OfPart.Refused n)) = n
 refusal_of (Sentence.Part OfPart.NoField) = 0
 refusal_of (Sentence.Part OfPart.NoColumn) = 0
 refusal_of (Sentence.Part OfPart.NotShown) = 0
 refusal_of (Sentence.Part OfPart.Nested) = 0
 refusal_of (Sentence.Part OfPart.IsBinary) = 0
 refusal_of (Sentence.Word said) = 0
-refusal_of (Sentence.Bill r receipt) = refusal_number r
+refusal_of (Sentence.Bill n receipt) = n
 refusal_of (Sentence.Unwritten n) = 0
 
 -- the number of the system's error that a sentence says
@@ -101,7 +101,7 @@ reason_of (Sentence.File (OfFile.Unreadable n)) = n
 reason_of (Sentence.File OfFile.TooLong) = 0
 reason_of (Sentence.Part said) = 0
 reason_of (Sentence.Word said) = 0
-reason_of (Sentence.Bill r receipt) = 0
+reason_of (Sentence.Bill n receipt) = 0
 reason_of (Sentence.Unwritten n) = n
 
 -- the number of the receipt that a sentence says
@@ -110,7 +110,7 @@ receipt_of (Sentence.Verdict n advice) = 0
 receipt_of (Sentence.File said) = 0
 receipt_of (Sentence.Part said) = 0
 receipt_of (Sentence.Word said) = 0
-receipt_of (Sentence.Bill r receipt) = receipt
+receipt_of (Sentence.Bill n receipt) = receipt
 receipt_of (Sentence.Unwritten n) = 0
 
 -- what stands for a byte of a form: a mark for its text, and any other byte for itself

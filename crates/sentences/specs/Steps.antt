@@ -1,7 +1,6 @@
 -- The forms of the sentences as a table, for the code. No lemma stands here: the laws are in Laws/Steps.antt. Assumes nothing.
 use Rattle.std.specs.Prelude.{cond, Option, Some, None, List, [], ◌∷◌, ℕ, eqb}
-use Rattle.refusal.specs.Table.{accepted, file_over_limit, job_not_rising, refusal_number}
-use Rattle.refusal.specs.declared.Refusal.{Refusal}
+use Rattle.refusal.specs.Table.{accepted, file_over_limit, job_not_rising}
 use Rattle.meanings.specs.Meanings.{Meaning}
 use Rattle.sentences.specs.Sentences.{accepted_form, refused_form, file_form, part_form, word_form, over_limit_form, not_rising_form, malformed_form, unwritten_form}
 use Rattle.sentences.specs.declared.Advice.{Advice}
@@ -27,7 +26,7 @@ forms =
     ∷ row 9 (part_form OfPart.NotShown)
     ∷ row 10 (part_form OfPart.Nested)
     ∷ row 11 (part_form OfPart.IsBinary)
-    ∷ row 12 (part_form (OfPart.Refused Refusal.CutShort))
+    ∷ row 12 (part_form (OfPart.Refused 0))
     ∷ row 13 (word_form OfWord.NoCommand)
     ∷ row 14 (word_form OfWord.NoStation)
     ∷ row 15 (word_form OfWord.NoJob)
@@ -60,9 +59,9 @@ row_of (Sentence.Part OfPart.NoColumn) = 8
 row_of (Sentence.Part OfPart.NotShown) = 9
 row_of (Sentence.Part OfPart.Nested) = 10
 row_of (Sentence.Part OfPart.IsBinary) = 11
-row_of (Sentence.Part (OfPart.Refused r)) = 12
+row_of (Sentence.Part (OfPart.Refused n)) = 12
 row_of (Sentence.Word OfWord.NoCommand) = 13
 row_of (Sentence.Word OfWord.NoStation) = 14
 row_of (Sentence.Word OfWord.NoJob) = 15
-row_of (Sentence.Bill r receipt) = bill_row (refusal_number r)
+row_of (Sentence.Bill n receipt) = bill_row n
 row_of (Sentence.Unwritten n) = 19

@@ -3,7 +3,6 @@
 #![tactic(auto)]
 
 ghost use Rattle.std.specs.Prelude.{◌≡◌};
-ghost use Rattle.refusal.specs.Table.{refusal_number};
 ghost use Rattle.text.specs.Put.{Put};
 ghost use Rattle.text.specs.Ascii.{ascii};
 ghost use Rattle.sentences.specs.Shown.{replaced, printing, shown_byte, shown, file_name};
@@ -27,7 +26,7 @@ pub enum OfFile {
     Unreadable(u32),
 }
 
-// What is said of a part of a file.
+// What is said of a part of a file. A refusal has its number.
 #[derive(Clone, Copy)]
 pub enum OfPart {
     NoField,
@@ -35,7 +34,7 @@ pub enum OfPart {
     NotShown,
     Nested,
     IsBinary,
-    Refused(Refusal),
+    Refused(u8),
 }
 
 // What is said of a word.
@@ -47,14 +46,14 @@ pub enum OfWord {
 }
 
 // A sentence: the verdict on a file; what else is said of a file, of a part of it or of a word; the refusal of receipts, with the number in its file
-// of the one at fault; or why the output was not written. A verdict is a number and no `Refusal`, since it may come from a receipt's text.
+// of the one at fault; or why the output was not written.
 #[derive(Clone, Copy)]
 pub enum Sentence {
     Verdict(u8, Option<Advice>),
     File(OfFile),
     Part(OfPart),
     Word(OfWord),
-    Bill(Refusal, u32),
+    Bill(u8, u32),
     Unwritten(u32),
 }
 
@@ -103,7 +102,7 @@ fn row_of(sentence: Sentence) -> u32
         Sentence::Word(OfWord::NoCommand) => 13,
         Sentence::Word(OfWord::NoStation) => 14,
         Sentence::Word(OfWord::NoJob) => 15,
-        Sentence::Bill(refusal, _) => bill_row(refusal),
+        Sentence::Bill(number, _) => bill_row(number),
         Sentence::Unwritten(_) => 19,
     }
 }
@@ -123,13 +122,15 @@ fn verdict_row(number: u8, advice: Option<Advice>) -> u32
 }
 
 // The row of receipts that are refused.
-fn bill_row(refusal: Refusal) -> u32
-    ensures { result ≡ bill_row (refusal_number refusal) }
+fn bill_row(number: u8) -> u32
+    ensures { result ≡ bill_row number }
 {
-    match refusal {
-        Refusal::FileOverLimit => 16,
-        Refusal::JobNotRising => 17,
-        _ => 18,
+    if number == Refusal::FileOverLimit.number() {
+        16
+    } else if number == Refusal::JobNotRising.number() {
+        17
+    } else {
+        18
     }
 }
 
@@ -138,8 +139,9 @@ fn refusal_of(sentence: Sentence) -> u8
     ensures { result ≡ refusal_of sentence }
 {
     match sentence {
-        Sentence::Verdict(number, _) => number,
-        Sentence::Part(OfPart::Refused(refusal)) | Sentence::Bill(refusal, _) => refusal.number(),
+        Sentence::Verdict(number, _)
+        | Sentence::Part(OfPart::Refused(number))
+        | Sentence::Bill(number, _) => number,
         _ => refusal::ACCEPTED,
     }
 }

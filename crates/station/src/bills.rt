@@ -9,8 +9,7 @@ use bill::Ledger;
 use commands::bills::Run;
 use commands::status::Status;
 use commands::words::Command;
-use commands::{bills, words};
-use refusal::Refusal;
+use commands::{bills, status, words};
 use sentences::{OfFile, Sentence};
 use std::env::Env;
 use std::io::Read;
@@ -27,13 +26,12 @@ pub(crate) fn bill(rt: HostRuntime, count: usize) -> Status {
 
 // Writes the bill of a run that is read, or says which of its receipts is at fault.
 fn finish(rt: HostRuntime, run: Run, ledger: &Ledger) -> Status {
-    match bills::refusal_of(run) {
-        Ok(()) => write_bill(rt, ledger),
-        Err(refusal) => {
-            say_refused(rt, run.file, refusal, run.number);
-            Status::Refused
-        }
+    let number = bills::refusal_of(run);
+    if number == refusal::ACCEPTED {
+        return write_bill(rt, ledger);
     }
+    say_refused(rt, run.file, number, run.number);
+    status::of_verdict(number)
 }
 
 // Writes the bill of a ledger.
@@ -41,15 +39,15 @@ fn write_bill(rt: HostRuntime, ledger: &Ledger) -> Status {
     let mut page = no_bill();
     match ledger.write(&mut page) {
         Ok(n) => output::status_of(rt, output::write_first(rt, &page, n)),
-        Err(_) => Status::Nothing,
+        Err(_) => status::of_written(false),
     }
 }
 
 // Says why receipts are refused; a receipt at fault begins in the file that a word names.
-fn say_refused(rt: HostRuntime, file: usize, refusal: Refusal, receipt: u32) {
+fn say_refused(rt: HostRuntime, file: usize, number: u8, receipt: u32) {
     let mut path = io::buffer();
     let n = system::word(rt, file, &mut path);
-    say::say(rt, &path[..n], b"", Sentence::Bill(refusal, receipt));
+    say::say(rt, &path[..n], b"", Sentence::Bill(number, receipt));
 }
 
 // Reads the files that are named, and enters their receipts into a ledger; where that cannot be done, says why.
@@ -149,7 +147,7 @@ fn enter(run: Run, file: usize, ends: bool, buffer: &mut [u8], ledger: &mut Ledg
     requires { run.held ≤ length buffer.old }
     ensures { Holds run (length buffer.new) result }
 {
-    if run.outcome.is_err() {
+    if run.refusal != refusal::ACCEPTED {
         return run;
     }
     let part = ledger.enter(&buffer[..run.held], ends);
@@ -157,7 +155,7 @@ fn enter(run: Run, file: usize, ends: bool, buffer: &mut [u8], ledger: &mut Ledg
     bills::entered(
         run,
         file,
-        bills::decided(part.outcome, ends),
+        bills::decided(refusal::number(part.outcome), ends),
         run.held - part.bytes,
         part.receipts,
     )

@@ -5,6 +5,7 @@ ghost use Rattle.messagepack.specs.Limits.{entry_limit};
 ghost use Rattle.commands.specs.Listing.{field_line};
 
 use crate::output;
+use commands::status;
 use commands::status::Status;
 use std::io::Result;
 
@@ -13,7 +14,7 @@ pub(crate) fn write_fields(rt: HostRuntime, file: &[u8]) -> Status {
     let mut places = no_places();
     match messagepack::keys(file, &mut places) {
         Ok(n) => output::status_of(rt, write_lines(rt, file, &places[..n])),
-        Err(_) => Status::Nothing,
+        Err(_) => status::of_written(false),
     }
 }
 

@@ -194,7 +194,7 @@ fn fields(rt: HostRuntime, path: &[u8], file: &[u8]) -> Status {
 // Says that a file is refused.
 fn refused(rt: HostRuntime, path: &[u8], file: &[u8], refusal: Refusal) -> Status {
     say::say_verdict(rt, path, file, refusal.number());
-    Status::Refused
+    status::of_verdict(refusal.number())
 }
 
 // Writes the value of the field under a name, as text or as it is.
@@ -244,7 +244,7 @@ fn column(rt: HostRuntime, path: &[u8], file: &[u8], raw: bool) -> Status {
     };
     match shown::write_column(rt, views::view(file, &name[..n]), notation) {
         Ok(ended) => ended,
-        Err(refusal) => no_part(rt, path, &name[..n], words::part_of(refusal)),
+        Err(refusal) => no_part(rt, path, &name[..n], words::part_of(refusal.number())),
     }
 }
 

@@ -1,6 +1,6 @@
 -- The table of forms has the form of each sentence in its row. Assumes nothing.
 use Rattle.std.specs.Prelude.{◌≡◌, refl, Bool, true, false, cond, Option, Some, None, eqb}
-use Rattle.refusal.specs.Table.{accepted, file_over_limit, job_not_rising, refusal_number}
+use Rattle.refusal.specs.Table.{accepted, file_over_limit, job_not_rising}
 use Rattle.meanings.specs.Meanings.{text_in}
 use Rattle.sentences.specs.Sentences.{accepted_form, refused_form, over_limit_form, not_rising_form, malformed_form, form_of}
 use Rattle.sentences.specs.Steps.{forms, refused_row, row_of}
@@ -33,9 +33,9 @@ row-form (Sentence.Part OfPart.NoColumn) = refl
 row-form (Sentence.Part OfPart.NotShown) = refl
 row-form (Sentence.Part OfPart.Nested) = refl
 row-form (Sentence.Part OfPart.IsBinary) = refl
-row-form (Sentence.Part (OfPart.Refused r)) = refl
+row-form (Sentence.Part (OfPart.Refused n)) = refl
 row-form (Sentence.Word OfWord.NoCommand) = refl
 row-form (Sentence.Word OfWord.NoStation) = refl
 row-form (Sentence.Word OfWord.NoJob) = refl
-row-form (Sentence.Bill r receipt) = bill-row (eqb (refusal_number r) file_over_limit) (eqb (refusal_number r) job_not_rising)
+row-form (Sentence.Bill n receipt) = bill-row (eqb n file_over_limit) (eqb n job_not_rising)
 row-form (Sentence.Unwritten n) = refl

@@ -1,9 +1,7 @@
 -- Laws of what is held of the receipts in files: it lies within its buffer. Assumes nothing.
-use Rattle.std.specs.Prelude.{◌≡◌, refl, Bool, true, false, cond, Result, ℕ, ◌-◌, ◌≤◌, eqb}
+use Rattle.std.specs.Prelude.{◌≡◌, refl, Bool, true, false, cond, ℕ, ◌-◌, ◌≤◌, eqb}
 use Rattle.std.proofs.Common.{ap, ◌∙◌, arith}
 use Rattle.refusal.specs.Table.{accepted}
-use Rattle.refusal.specs.Outcome.{number_of}
-use Rattle.refusal.specs.declared.Refusal.{Refusal}
 use Rattle.commands.specs.declared.bills.Run.{Run}
 use Rattle.commands.specs.Bills.{held_by, at_first, opened_run, read_run, entered_run}
 use Rattle.station.specs.Bills.{Holds}
@@ -18,7 +16,7 @@ held-most refusal held = go (eqb refusal accepted)
 
 -- a file that is opened changes nothing of what is held
 pub opened-held : (run r : Run) (file : ℕ) → r ≡ opened_run run file → r.held ≡ run.held
-opened-held run r file e = ap (λ (x : Run). x.held) e ∙ go (eqb (number_of run.outcome) accepted) (eqb run.held 0)
+opened-held run r file e = ap (λ (x : Run). x.held) e ∙ go (eqb run.refusal accepted) (eqb run.held 0)
   where
     go : (t u : Bool) → (cond t (cond u (at_first run file) run) run).held ≡ run.held
     go true true = refl
@@ -27,13 +25,13 @@ opened-held run r file e = ap (λ (x : Run). x.held) e ∙ go (eqb (number_of ru
 
 module _ (old run : Run) (bytes held room : ℕ) (e : run ≡ read_run old bytes held) where
   pub read-within : held ≤ room → run.held ≤ room
-  read-within h = let m = held-most (number_of old.outcome) held in let k = ap (λ (x : Run). x.held) e in omega arith
+  read-within h = let m = held-most old.refusal held in let k = ap (λ (x : Run). x.held) e in omega arith
 
   pub read_left : run.left ≡ old.left - bytes
   read_left = ap (λ (x : Run). x.left) e
 
-pub entered-holds : (old run : Run) (file : ℕ) (outcome : Result (Unit {0}) Refusal) (held receipts room : ℕ) → run ≡ entered_run old file outcome held receipts → held ≤ room → Holds old room run
-entered-holds old run file outcome held receipts room e h =
-    let m = held-most (number_of outcome) held in
+pub entered-holds : (old run : Run) (file refusal held receipts room : ℕ) → run ≡ entered_run old file refusal held receipts → held ≤ room → Holds old room run
+entered-holds old run file refusal held receipts room e h =
+    let m = held-most refusal held in
     let k = ap (λ (x : Run). x.held) e in
     record { within = omega arith; left = ap (λ (x : Run). x.left) e }
