@@ -17,3 +17,8 @@ RunHolds (Err e) room = Unit {0}
 abbrev pub FilesHold : Option Run → ℕ → Type 0
 FilesHold (Some run) room = run.held ≤ room
 FilesHold None room = Unit {0}
+
+-- what reading a file gives, if no read failed
+abbrev pub files_of : {E : Type 0} → Result Run E → Option Run
+files_of (Ok run) = Some run
+files_of (Err e) = None

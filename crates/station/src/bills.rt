@@ -1,7 +1,7 @@
 // The bill of the receipts in files. The files are read one after another, in pieces, and at most a buffer of their bytes is held at a time.
 ghost use Rattle.std.specs.Prelude.{◌≡◌, ◌≤◌, length};
 ghost use Rattle.bill.specs.Answer.{bill_limit};
-ghost use Rattle.station.specs.Bills.{Holds, RunHolds, FilesHold};
+ghost use Rattle.station.specs.Bills.{Holds, RunHolds, FilesHold, files_of};
 
 use crate::system::Source;
 use crate::{files, output, say, system};
@@ -83,17 +83,19 @@ fn read_file(
         say::say_long_word(rt);
         return None;
     };
-    match read_named(
-        rt,
-        &path[..n],
-        bills::opened(run, file),
-        file,
-        buffer,
-        ledger,
-    ) {
-        Ok(read) => Some(read),
+    let begun = bills::opened(run, file);
+    let read = read_named(rt, &path[..n], begun, file, buffer, ledger);
+    told(rt, &path[..n], read)
+}
+
+// Says why a file was not read to its end, if it was not.
+fn told(rt: HostRuntime, path: &[u8], read: Result<Run, OfFile>) -> Option<Run>
+    ensures { result ≡ files_of read }
+{
+    match read {
+        Ok(run) => Some(run),
         Err(said) => {
-            say::say(rt, &path[..n], b"", Sentence::File(said));
+            say::say(rt, path, b"", Sentence::File(said));
             None
         }
     }

@@ -1,6 +1,6 @@
 // A column's values on standard output, by its own codec.
 ghost use Rattle.std.specs.Prelude.{◌≡◌, length};
-ghost use Rattle.station.specs.Reading.{Within, FixedWithin};
+ghost use Rattle.station.specs.Reading.{Within, FixedWithin, whole_of};
 
 use crate::output;
 use columns::{Kind, Wanted};
@@ -40,12 +40,19 @@ fn show_numbers(rt: HostRuntime, column: &[u8], kind: Kind) -> Result<Status, Re
 fn decode_numbers(column: &[u8], kind: Kind, buffer: &mut [i32]) -> Result<(usize, i32), Refusal>
     ensures { FixedWithin result (length buffer.new) }
 {
-    let n = match kind {
-        Kind::FixedPoint => return decoding::decode_fixed_point(column, buffer),
-        Kind::Int8 => decoding::decode_int8(column, buffer)?,
-        Kind::Int16 => decoding::decode_int16(column, buffer)?,
-        _ => decoding::decode_int32(column, buffer)?,
-    };
+    match kind {
+        Kind::FixedPoint => decoding::decode_fixed_point(column, buffer),
+        Kind::Int8 => whole(decoding::decode_int8(column, buffer)),
+        Kind::Int16 => whole(decoding::decode_int16(column, buffer)),
+        _ => whole(decoding::decode_int32(column, buffer)),
+    }
+}
+
+// An answer about integers, with the divisor 1.
+fn whole(answer: Result<usize, Refusal>) -> Result<(usize, i32), Refusal>
+    ensures { result ≡ whole_of answer }
+{
+    let n = answer?;
     Ok((n, 1))
 }
 

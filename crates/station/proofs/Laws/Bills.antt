@@ -1,10 +1,10 @@
 -- Laws of what is held of the receipts in files: it lies within its buffer. Assumes nothing.
-use Rattle.std.specs.Prelude.{◌≡◌, refl, Bool, true, false, cond, ℕ, ◌-◌, ◌≤◌, eqb}
-use Rattle.std.proofs.Common.{ap, ◌∙◌, arith}
+use Rattle.std.specs.Prelude.{◌≡◌, refl, Bool, true, false, cond, Option, Result, Ok, Err, ℕ, ◌-◌, ◌≤◌, eqb}
+use Rattle.std.proofs.Common.{sym, subst, ap, ◌∙◌, arith}
 use Rattle.refusal.specs.Table.{accepted}
 use Rattle.commands.specs.declared.bills.Run.{Run}
 use Rattle.commands.specs.Bills.{held_by, at_first, opened_run, read_run, entered_run}
-use Rattle.station.specs.Bills.{Holds}
+use Rattle.station.specs.Bills.{Holds, RunHolds, FilesHold, files_of}
 
 -- of a run that is refused nothing is held
 held-most : (refusal held : ℕ) → held_by refusal held ≤ held
@@ -35,3 +35,8 @@ entered-holds old run file refusal held receipts room e h =
     let m = held-most refusal held in
     let k = ap (λ (x : Run). x.held) e in
     record { within = omega arith; left = ap (λ (x : Run). x.left) e }
+
+-- what reading a file gives
+pub reached-files : {E : Type 0} (x : Result Run E) (r : Option Run) (room : ℕ) → r ≡ files_of x → RunHolds x room → FilesHold r room
+reached-files (Ok run) r room e h = subst (λ (y : Option Run). FilesHold y room) (sym e) h
+reached-files (Err k) r room e h = subst (λ (y : Option Run). FilesHold y room) (sym e) tt

@@ -7,7 +7,7 @@ use Rattle.refusal.specs.declared.Refusal.{Refusal}
 use Rattle.columns.specs.Decode.{Decoding, refused, column}
 use Rattle.columns.specs.Buffer.{decoded_answer}
 use Rattle.decoding.specs.Calls.{with_divisor, fixed_answer}
-use Rattle.station.specs.Reading.{Within, FixedWithin}
+use Rattle.station.specs.Reading.{Within, FixedWithin, whole_of}
 
 -- a larger buffer
 pub within-more : {E : Type 0} (x : Result ℕ E) (n m : ℕ) → n ≤ m → Within x n → Within x m
@@ -45,6 +45,10 @@ decoded-fixed (column k m l) room n q = divisor-within m n _ (decoded-within (co
 
 pub fixed-within : (d : Decoding) (r : Result (ℕ × ℤ) Refusal) (room n : ℕ) → numbered r ≡ fixed_answer d room → n ≡ room → FixedWithin r n
 fixed-within d r room n e q = numbered-fixed r n (subst (λ (x : Result (ℕ × ℤ) ℕ). FixedWithin x n) (sym e) (decoded-fixed d room n q))
+
+pub whole-within : {E : Type 0} (a : Result ℕ E) (r : Result (ℕ × ℤ) E) (n : ℕ) → r ≡ whole_of a → Within a n → FixedWithin r n
+whole-within {E} (Ok k) r n e h = subst (λ (x : Result (ℕ × ℤ) E). FixedWithin x n) (sym e) h
+whole-within {E} (Err k) r n e h = subst (λ (x : Result (ℕ × ℤ) E). FixedWithin x n) (sym e) tt
 
 -- the count of an answer
 pub count-within : (d : Decoding) (r : Result ℕ Refusal) (room n k : ℕ) → numbered r ≡ decoded_answer d room → n ≡ room → r ≡ Ok k → k ≤ n
