@@ -6,23 +6,34 @@ ghost use Rattle.refusal.specs.Outcome.{numbered};
 ghost use Rattle.columns.specs.Table.{is_strings};
 ghost use Rattle.columns.specs.Decode.{decode, judged_payload};
 ghost use Rattle.cells.specs.Calls.{quotient_cell, value_of, cell_of};
-ghost use Rattle.cells.specs.Steps.{is_direct, ResultAt, HasResultAt};
+ghost use Rattle.cells.specs.Steps.{is_direct, ResultAt, HasResultAt, as_cell};
 
 use columns::{HEADER_SIZE, Header, Kind, Wanted};
 use refusal::Refusal;
 use steps::{Form, Range, Size};
 
-// A whole number, a letter or a float.
+// A whole number, a letter, a float, or the refusal.
 #[derive(Clone, Copy)]
 pub enum Cell {
     Int(i32),
     Char(u8),
     Float(f32),
+    Refused(u8),
 }
 
 // The cell at an index: the column's own refusals 14 to 19, then 15 for strings, 28 past the end, and 27 by this cell or the divisor.
-pub fn cell_at(column: &[u8], index: usize) -> Result<Cell, Refusal>
-    ensures { numbered result ≡ cell_of (decode Wanted.Any column.now) index }
+pub fn cell_at(column: &[u8], index: usize) -> Cell
+    ensures { result ≡ cell_of (decode Wanted.Any column.now) index }
+{
+    match cell_or_refusal(column, index) {
+        Ok(cell) => cell,
+        Err(refused) => Cell::Refused(refused.number()),
+    }
+}
+
+// The cell at an index, or why there is none.
+fn cell_or_refusal(column: &[u8], index: usize) -> Result<Cell, Refusal>
+    ensures { as_cell (numbered result) ≡ cell_of (decode Wanted.Any column.now) index }
 {
     let header = columns::read_header(column, Wanted::Any)?;
     cell_in(&column[HEADER_SIZE..], header, index)
@@ -31,7 +42,7 @@ pub fn cell_at(column: &[u8], index: usize) -> Result<Cell, Refusal>
 // The cell of a payload whose header passed.
 fn cell_in(payload: &[u8], header: Header, index: usize) -> Result<Cell, Refusal>
     requires { is_strings header.kind ≡ false → is_direct header.form header.delta ≡ true }
-    ensures { numbered result ≡ cell_of (judged_payload (Ok header) payload.now) index }
+    ensures { as_cell (numbered result) ≡ cell_of (judged_payload (Ok header) payload.now) index }
 {
     payloads::refusal_of(
         payload,
@@ -113,7 +124,7 @@ fn run_at(payload: &[u8], delta: bool, index: usize) -> i32
 
 // A column's number as a cell.
 fn value_of(kind: Kind, m: u32, x: i32) -> Result<Cell, Refusal>
-    ensures { numbered result ≡ value_of kind m x }
+    ensures { as_cell (numbered result) ≡ value_of kind m x }
 {
     match kind {
         Kind::Float32 => Ok(Cell::Float(numbers::of_bits(x.cast_unsigned()))),
@@ -126,7 +137,7 @@ fn value_of(kind: Kind, m: u32, x: i32) -> Result<Cell, Refusal>
 
 // A number by a divisor: one division in single precision, where both are exact.
 fn quotient_cell(x: i32, divisor: u32) -> Result<Cell, Refusal>
-    ensures { numbered result ≡ quotient_cell divisor x }
+    ensures { as_cell (numbered result) ≡ quotient_cell divisor x }
 {
     if floats::are_exact(payloads::is_exact(x), divisor) {
         return Ok(Cell::Float((x as f32) / (divisor as f32)));

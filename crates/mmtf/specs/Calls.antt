@@ -92,29 +92,29 @@ header_parameter (Ok h) old = to_z w32 h.parameter
 header_parameter (Err r) old = old
 
 -- a cell: its number; and kind (1 an integer, 2 a character, 3 a float), integer and float afterwards
-abbrev pub cell_number : Result Cell ℕ → ℕ
-cell_number (Ok (cell.Int x)) = accepted
-cell_number (Ok (cell.Char b)) = accepted
-cell_number (Ok (cell.Float f)) = accepted
-cell_number (Err r) = r
+abbrev pub cell_number : Cell → ℕ
+cell_number (cell.Int x) = accepted
+cell_number (cell.Char b) = accepted
+cell_number (cell.Float f) = accepted
+cell_number (cell.Refused r) = r
 
-abbrev pub cell_kind : Result Cell ℕ → ℕ → ℕ
-cell_kind (Ok (cell.Int x)) old = 1
-cell_kind (Ok (cell.Char b)) old = 2
-cell_kind (Ok (cell.Float f)) old = 3
-cell_kind (Err r) old = old
+abbrev pub cell_kind : Cell → ℕ → ℕ
+cell_kind (cell.Int x) old = 1
+cell_kind (cell.Char b) old = 2
+cell_kind (cell.Float f) old = 3
+cell_kind (cell.Refused r) old = old
 
-abbrev pub cell_integer : Result Cell ℕ → ℤ → ℤ
-cell_integer (Ok (cell.Int x)) old = x
-cell_integer (Ok (cell.Char b)) old = pos b
-cell_integer (Ok (cell.Float f)) old = old
-cell_integer (Err r) old = old
+abbrev pub cell_integer : Cell → ℤ → ℤ
+cell_integer (cell.Int x) old = x
+cell_integer (cell.Char b) old = pos b
+cell_integer (cell.Float f) old = old
+cell_integer (cell.Refused r) old = old
 
-abbrev pub cell_real : Result Cell ℕ → Float → Float
-cell_real (Ok (cell.Int x)) old = old
-cell_real (Ok (cell.Char b)) old = old
-cell_real (Ok (cell.Float f)) old = f
-cell_real (Err r) old = old
+abbrev pub cell_real : Cell → Float → Float
+cell_real (cell.Int x) old = old
+cell_real (cell.Char b) old = old
+cell_real (cell.Float f) old = f
+cell_real (cell.Refused r) old = old
 
 -- an encoder of a kind, by its codec, its parameter (0 where the call takes none) and the elements: its number, and the bytes written and the buffer afterwards
 abbrev pub encoded_number : (k : Kind) → ℤ → ℤ → List (Element k) → List ℕ → ℕ

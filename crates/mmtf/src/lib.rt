@@ -247,18 +247,18 @@ pub extern "C" fn mmtf_cell(
     ensures real { real.new ≡ cell_real (cell_of (decode Wanted.Any column.now) index) real.old }
 {
     match cells::cell_at(column, index as usize) {
-        Err(cell_refusal) => cell_refusal.number(),
-        Ok(Cell::Int(x)) => {
+        Cell::Refused(r) => r,
+        Cell::Int(x) => {
             *kind = 1;
             *integer = x;
             refusal::ACCEPTED
         }
-        Ok(Cell::Char(b)) => {
+        Cell::Char(b) => {
             *kind = 2;
             *integer = i32::from(b);
             refusal::ACCEPTED
         }
-        Ok(Cell::Float(x)) => {
+        Cell::Float(x) => {
             *kind = 3;
             *real = x;
             refusal::ACCEPTED

@@ -12,8 +12,8 @@ use Rattle.columns.proofs.Laws.Decode.{decode-refused, decode-good}
 use Rattle.cells.specs.Calls.{cell_of}
 use Rattle.cells.specs.Laws.Table.{cells-row}
 use Rattle.cells.specs.Laws.Calls.{cell-refused}
-use Rattle.cells.proofs.cell_at.Goals as goal
-use Rattle.cells.proofs.cell_at.Goals.{In_ok-header}
+use Rattle.cells.proofs.cell_or_refusal.Goals as goal
+use Rattle.cells.proofs.cell_or_refusal.Goals.{In_ok-header}
 
 -- the header that passed
 good : (c : goal.In_ok-header) → header_of Any c.args.column.now ≡ Ok c.in_ok-header.header
