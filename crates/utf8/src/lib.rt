@@ -67,7 +67,9 @@ fn three(bytes: &[u8], at: usize, lead: u8) -> Option<usize>
     ensures bytes_value { is_utf8 (drop at bytes.now) ≡ onward 0 bytes.now result }
     ensures forward { Forward at (length bytes.now) result }
 {
-    let third = second(bytes, at, lead)?;
+    let Some(third) = second(bytes, at, lead) else {
+        return None;
+    };
     follow(bytes, third, 0x80, 0xbf)
 }
 
@@ -80,8 +82,12 @@ fn four(bytes: &[u8], at: usize, lead: u8) -> Option<usize>
     if 0xf4 < lead {
         return None;
     }
-    let third = second(bytes, at, lead)?;
-    let fourth = follow(bytes, third, 0x80, 0xbf)?;
+    let Some(third) = second(bytes, at, lead) else {
+        return None;
+    };
+    let Some(fourth) = follow(bytes, third, 0x80, 0xbf) else {
+        return None;
+    };
     follow(bytes, fourth, 0x80, 0xbf)
 }
 
