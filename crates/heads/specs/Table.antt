@@ -1,5 +1,5 @@
--- The tables of lead bytes: the kinds, the head sizes, and both in the one table that the code keeps; and what a kind and a head are by any
--- table of that form. No lemma stands here; that by the table of lead bytes they are those of the lead-byte rule is in Laws/Table.antt. Assumes
+-- The tables of lead bytes: the kinds and the head sizes, which the code keeps, and both in one table; and what a kind and a head are by any
+-- table of this form. No lemma stands here; that by the table of lead bytes they are those of the lead-byte rule is in Laws/Table.antt. Assumes
 -- nothing.
 use Rattle.std.specs.Prelude.{cond, Option, None, List, [], ◌∷◌, ℕ, zero, suc, ◌+◌, ◌-◌, ◌*◌, ◌/◌, ◌%◌, ltb, eqb, length, get_or}
 use Rattle.numbers.specs.BigEndian.{unsigned_at}

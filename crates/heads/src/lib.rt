@@ -1,10 +1,10 @@
 // Heads of MessagePack values: the lead byte's kind, and the number that lead byte and the bytes after it hold.
-// Kind and head size stand in one constant table of 256 rows, one for each lead byte. Any bytes and any place are taken.
+// Kind and head size stand in two constant tables of 256 rows, one for each lead byte. Any bytes and any place are taken.
 #![tactic(auto)]
 
-ghost use Rattle.std.specs.Prelude.{◌≡◌, ◌+◌, ◌/◌, ◌%◌, ◌≤◌, ◌<◌, length};
+ghost use Rattle.std.specs.Prelude.{◌≡◌, ◌+◌, ◌≤◌, ◌<◌, length};
 ghost use Rattle.heads.specs.Lead.{held_by};
-ghost use Rattle.heads.specs.Table.{lead_table, kind_from, kind_by, sized_number, head_by};
+ghost use Rattle.heads.specs.Table.{kind_table, size_table, lead_table, kind_from, kind_by, sized_number, head_by};
 ghost use Rattle.heads.specs.Head.{kind_at, head_at};
 
 // The kind of the value that starts at a place. No `Option`: each of the nine is told apart by who asks.
@@ -30,13 +30,27 @@ pub struct Head {
     pub end: usize,
 }
 
+// The table of lead bytes: for each one, eight times its kind plus the size of its head. `kind_at` and `head_at` answer by it, and look into
+// the two that it joins.
+pub fn leads() -> [u8; 256]
+    ensures { result ≡ lead_table }
+{
+    let kinds = kinds();
+    let sizes = head_sizes();
+    let mut rows = [0u8; 256];
+    for i in 0..256 {
+        rows[i] = kinds[i] * 8 + sizes[i];
+    }
+    rows
+}
+
 // The kind of the value that starts at a place of a file.
 pub fn kind_at(file: &[u8], at: usize) -> Kind
     ensures table { result ≡ kind_by lead_table file.now at }
     ensures rule { result ≡ kind_at file.now at }
 {
     if at < file.len() {
-        kind_of(leads()[usize::from(file[at])])
+        kind_of(kinds()[usize::from(file[at])])
     } else {
         Kind::Missing
     }
@@ -51,7 +65,7 @@ pub fn head_at(file: &[u8], at: usize) -> Option<Head>
         return None;
     }
     let b = file[at];
-    let size = size_of(leads()[usize::from(b)]);
+    let size = size_of(head_sizes()[usize::from(b)]);
     if file.len() - at < size {
         return None;
     }
@@ -61,18 +75,25 @@ pub fn head_at(file: &[u8], at: usize) -> Option<Head>
     })
 }
 
-// The table of lead bytes.
-fn leads() -> &'static [u8; 256]
-    ensures { result.now ≡ lead_table }
+// The table of kinds.
+fn kinds() -> &'static [u8; 256]
+    ensures { result.now ≡ kind_table }
 {
-    &LEADS
+    &KINDS
 }
 
-// The kind in a row of the table.
-fn kind_of(row: u8) -> Kind
-    ensures { result ≡ kind_from (row / 8) }
+// The table of head sizes.
+fn head_sizes() -> &'static [u8; 256]
+    ensures { result.now ≡ size_table }
 {
-    match row / 8 {
+    &HEAD_SIZES
+}
+
+// The kind in a row of the table of kinds.
+fn kind_of(row: u8) -> Kind
+    ensures { result ≡ kind_from row }
+{
+    match row {
         1 => Kind::Unsigned,
         2 => Kind::Signed,
         3 => Kind::Float,
@@ -84,11 +105,11 @@ fn kind_of(row: u8) -> Kind
     }
 }
 
-// The head size in a row of the table.
+// The head size in a row of the table of head sizes.
 fn size_of(row: u8) -> usize
-    ensures { result ≡ row % 8 }
+    ensures { result ≡ row }
 {
-    usize::from(row % 8)
+    usize::from(row)
 }
 
 // The number of a head of some size, whose lead byte b is at a place.
@@ -117,104 +138,102 @@ fn held(b: u8) -> usize
     }
 }
 
-// The rows of the table: a row is eight times the number of its kind, plus the size of its head. The letter tells the kind: unsigned, integer with a
-// sign, float, string, binary, array, map, or none of the subset; the digit is the size, lead byte and the bytes of its number.
-const U1: u8 = 1 * 8 + 1;
-
-const U2: u8 = 1 * 8 + 2;
-
-const U3: u8 = 1 * 8 + 3;
-
-const U5: u8 = 1 * 8 + 5;
-
-const I1: u8 = 2 * 8 + 1;
-
-const I2: u8 = 2 * 8 + 2;
-
-const I3: u8 = 2 * 8 + 3;
-
-const I5: u8 = 2 * 8 + 5;
-
-const F5: u8 = 3 * 8 + 5;
-
-const S1: u8 = 4 * 8 + 1;
-
-const S2: u8 = 4 * 8 + 2;
-
-const S3: u8 = 4 * 8 + 3;
-
-const S5: u8 = 4 * 8 + 5;
-
-const B2: u8 = 5 * 8 + 2;
-
-const B3: u8 = 5 * 8 + 3;
-
-const B5: u8 = 5 * 8 + 5;
-
-const A1: u8 = 6 * 8 + 1;
-
-const A3: u8 = 6 * 8 + 3;
-
-const A5: u8 = 6 * 8 + 5;
-
-const M1: u8 = 7 * 8 + 1;
-
-const M3: u8 = 7 * 8 + 3;
-
-const M5: u8 = 7 * 8 + 5;
-
-const X1: u8 = 0 * 8 + 1;
-
-// The row of each lead byte.
-static LEADS: [u8; 256] = [
+// The kind of each lead byte: 1 unsigned, 2 signed, 3 float, 4 string, 5 binary, 6 array, 7 map, and 0 for a byte that is not in the subset.
+static KINDS: [u8; 256] = [
     // 00 to 7f: unsigned
-    U1, U1, U1, U1, U1, U1, U1, U1, U1, U1, U1, U1, U1, U1, U1, U1, U1, U1, U1, U1, U1, U1, U1, U1,
-    U1, U1, U1, U1, U1, U1, U1, U1, U1, U1, U1, U1, U1, U1, U1, U1, U1, U1, U1, U1, U1, U1, U1, U1,
-    U1, U1, U1, U1, U1, U1, U1, U1, U1, U1, U1, U1, U1, U1, U1, U1, U1, U1, U1, U1, U1, U1, U1, U1,
-    U1, U1, U1, U1, U1, U1, U1, U1, U1, U1, U1, U1, U1, U1, U1, U1, U1, U1, U1, U1, U1, U1, U1, U1,
-    U1, U1, U1, U1, U1, U1, U1, U1, U1, U1, U1, U1, U1, U1, U1, U1, U1, U1, U1, U1, U1, U1, U1, U1,
-    U1, U1, U1, U1, U1, U1, U1, U1,
+    1, 1, 1, 1, 1, 1, 1, 1, 1, 1, 1, 1, 1, 1, 1, 1, 1, 1, 1, 1, 1, 1, 1, 1, 1, 1, 1, 1, 1, 1, 1, 1,
+    1, 1, 1, 1, 1, 1, 1, 1, 1, 1, 1, 1, 1, 1, 1, 1, 1, 1, 1, 1, 1, 1, 1, 1, 1, 1, 1, 1, 1, 1, 1, 1,
+    1, 1, 1, 1, 1, 1, 1, 1, 1, 1, 1, 1, 1, 1, 1, 1, 1, 1, 1, 1, 1, 1, 1, 1, 1, 1, 1, 1, 1, 1, 1, 1,
+    1, 1, 1, 1, 1, 1, 1, 1, 1, 1, 1, 1, 1, 1, 1, 1, 1, 1, 1, 1, 1, 1, 1, 1, 1, 1, 1, 1, 1, 1, 1, 1,
     // 80 to 8f: map
-    M1, M1, M1, M1, M1, M1, M1, M1, M1, M1, M1, M1, M1, M1, M1, M1,
+    7, 7, 7, 7, 7, 7, 7, 7, 7, 7, 7, 7, 7, 7, 7, 7,
     // 90 to 9f: array
-    A1, A1, A1, A1, A1, A1, A1, A1, A1, A1, A1, A1, A1, A1, A1, A1,
+    6, 6, 6, 6, 6, 6, 6, 6, 6, 6, 6, 6, 6, 6, 6, 6,
     // a0 to bf: string
-    S1, S1, S1, S1, S1, S1, S1, S1, S1, S1, S1, S1, S1, S1, S1, S1, S1, S1, S1, S1, S1, S1, S1, S1,
-    S1, S1, S1, S1, S1, S1, S1, S1,
+    4, 4, 4, 4, 4, 4, 4, 4, 4, 4, 4, 4, 4, 4, 4, 4, 4, 4, 4, 4, 4, 4, 4, 4, 4, 4, 4, 4, 4, 4, 4, 4,
     // c0 to df, one by one
-    X1, // c0: not in the subset
-    X1, // c1: not in the subset
-    X1, // c2: not in the subset
-    X1, // c3: not in the subset
-    B2, // c4: binary
-    B3, // c5: binary
-    B5, // c6: binary
-    X1, // c7: not in the subset
-    X1, // c8: not in the subset
-    X1, // c9: not in the subset
-    F5, // ca: float
-    X1, // cb: not in the subset
-    U2, // cc: unsigned
-    U3, // cd: unsigned
-    U5, // ce: unsigned
-    X1, // cf: not in the subset
-    I2, // d0: signed
-    I3, // d1: signed
-    I5, // d2: signed
-    X1, // d3: not in the subset
-    X1, // d4: not in the subset
-    X1, // d5: not in the subset
-    X1, // d6: not in the subset
-    X1, // d7: not in the subset
-    X1, // d8: not in the subset
-    S2, // d9: string
-    S3, // da: string
-    S5, // db: string
-    A3, // dc: array
-    A5, // dd: array
-    M3, // de: map
-    M5, // df: map
+    0, // c0: not in the subset
+    0, // c1: not in the subset
+    0, // c2: not in the subset
+    0, // c3: not in the subset
+    5, // c4: binary
+    5, // c5: binary
+    5, // c6: binary
+    0, // c7: not in the subset
+    0, // c8: not in the subset
+    0, // c9: not in the subset
+    3, // ca: float
+    0, // cb: not in the subset
+    1, // cc: unsigned
+    1, // cd: unsigned
+    1, // ce: unsigned
+    0, // cf: not in the subset
+    2, // d0: signed
+    2, // d1: signed
+    2, // d2: signed
+    0, // d3: not in the subset
+    0, // d4: not in the subset
+    0, // d5: not in the subset
+    0, // d6: not in the subset
+    0, // d7: not in the subset
+    0, // d8: not in the subset
+    4, // d9: string
+    4, // da: string
+    4, // db: string
+    6, // dc: array
+    6, // dd: array
+    7, // de: map
+    7, // df: map
     // e0 to ff: signed
-    I1, I1, I1, I1, I1, I1, I1, I1, I1, I1, I1, I1, I1, I1, I1, I1, I1, I1, I1, I1, I1, I1, I1, I1,
-    I1, I1, I1, I1, I1, I1, I1, I1, // the last: ff
+    2, 2, 2, 2, 2, 2, 2, 2, 2, 2, 2, 2, 2, 2, 2, 2, 2, 2, 2, 2, 2, 2, 2, 2, 2, 2, 2, 2, 2, 2, 2, 2,
+];
+
+// The size of the head that each lead byte begins: the lead byte and the bytes of its number.
+static HEAD_SIZES: [u8; 256] = [
+    // 00 to 7f
+    1, 1, 1, 1, 1, 1, 1, 1, 1, 1, 1, 1, 1, 1, 1, 1, 1, 1, 1, 1, 1, 1, 1, 1, 1, 1, 1, 1, 1, 1, 1, 1,
+    1, 1, 1, 1, 1, 1, 1, 1, 1, 1, 1, 1, 1, 1, 1, 1, 1, 1, 1, 1, 1, 1, 1, 1, 1, 1, 1, 1, 1, 1, 1, 1,
+    1, 1, 1, 1, 1, 1, 1, 1, 1, 1, 1, 1, 1, 1, 1, 1, 1, 1, 1, 1, 1, 1, 1, 1, 1, 1, 1, 1, 1, 1, 1, 1,
+    1, 1, 1, 1, 1, 1, 1, 1, 1, 1, 1, 1, 1, 1, 1, 1, 1, 1, 1, 1, 1, 1, 1, 1, 1, 1, 1, 1, 1, 1, 1, 1,
+    // 80 to 8f
+    1, 1, 1, 1, 1, 1, 1, 1, 1, 1, 1, 1, 1, 1, 1, 1,
+    // 90 to 9f
+    1, 1, 1, 1, 1, 1, 1, 1, 1, 1, 1, 1, 1, 1, 1, 1,
+    // a0 to bf
+    1, 1, 1, 1, 1, 1, 1, 1, 1, 1, 1, 1, 1, 1, 1, 1, 1, 1, 1, 1, 1, 1, 1, 1, 1, 1, 1, 1, 1, 1, 1, 1,
+    // c0 to df, one by one
+    1, // c0
+    1, // c1
+    1, // c2
+    1, // c3
+    2, // c4
+    3, // c5
+    5, // c6
+    1, // c7
+    1, // c8
+    1, // c9
+    5, // ca
+    1, // cb
+    2, // cc
+    3, // cd
+    5, // ce
+    1, // cf
+    2, // d0
+    3, // d1
+    5, // d2
+    1, // d3
+    1, // d4
+    1, // d5
+    1, // d6
+    1, // d7
+    1, // d8
+    2, // d9
+    3, // da
+    5, // db
+    3, // dc
+    5, // dd
+    3, // de
+    5, // df
+    // e0 to ff
+    1, 1, 1, 1, 1, 1, 1, 1, 1, 1, 1, 1, 1, 1, 1, 1, 1, 1, 1, 1, 1, 1, 1, 1, 1, 1, 1, 1, 1, 1, 1, 1,
 ];

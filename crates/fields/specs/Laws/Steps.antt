@@ -92,7 +92,7 @@ module _ (s : List ℕ) (at n p : ℕ) (h : head_at s at ≡ some_head n p) wher
   plain_of w le (array ds) a = rw (ne_eqb 5 w (λ e. omega arith))
   plain_of w le (map es) a = rw (ne_eqb 6 w (λ e. omega arith))
 
--- the head at a place holds n and ends at p, and k is the number of its kind, by a table of lead bytes that is lent
+-- the head at a place holds n and ends at p, and k is the number of its kind, by the lead-byte rule
 pub record HeadRead (s : List ℕ) (at n p k : ℕ) : Type 0 where
   pub head : head_at s at ≡ some_head n p
   pub kind : head_kind (kind_at s at) ≡ k

@@ -172,6 +172,13 @@ module _ (b : ℕ) (byte : b < 256) where
   row-size : get_or lead_table b 0 % 8 ≡ more_of b + 1
   row-size = rw row_is (digits_mod (kind_cell (kind_of b)) (omega (arith, more_of-bound b)))
 
+  -- a row of the table of lead bytes gives what the two tables have
+  pub kinds-leads : get_or lead_table b 0 / 8 ≡ get_or kind_table b 0
+  kinds-leads = rw leads-row (digits_div (get_or kind_table b 0) (omega (arith, sizes-bound)))
+
+  pub sizes-leads : get_or lead_table b 0 % 8 ≡ get_or size_table b 0
+  sizes-leads = rw leads-row (digits_mod (get_or kind_table b 0) (omega (arith, sizes-bound)))
+
 -- 256 rows that are packed from the two tables are the table of lead bytes
 pub leads-packed : (rows : List ℕ) → length rows ≡ 256 → ((k : ℕ) → k < 256 → get_or rows k 0 ≡ get_or kind_table k 0 * 8 + get_or size_table k 0) → rows ≡ lead_table
 unfolding lead_table

@@ -1,9 +1,17 @@
--- The rows are packed from those of the lead-byte rule, which is computed once over all 256.
-use mathlib.Core.Path.{refl}
-use Rattle.heads.specs.Lead.{kind_of, more_of}
-use Rattle.heads.specs.Table.{kind_table, size_table, lead_table}
+-- Each turn packs one row from the two tables. The invariant: the rows that are passed are packed.
+use native.Mathlib.Omega.{arith}
+use Rattle.heads.proofs.Laws.Table.{kinds-bound, sizes-bound, leads-packed}
 use Rattle.heads.proofs.leads.Goals as goal
 
+pub overflow_mul-rows : goal.overflow_mul-rows
+overflow_mul-rows c = rw c.kinds-kinds.ensures (omega (arith, kinds-bound c.loop-i.i (omega arith)))
+
+pub overflow_add-rows : goal.overflow_add-rows
+overflow_add-rows c =
+    rw (c.kinds-kinds.ensures, c.head_sizes-sizes.ensures)
+    (omega (arith, kinds-bound c.loop-i.i (omega arith), sizes-bound c.loop-i.i (omega arith)))
+
 pub returns : goal.returns
-unfolding lead_table kind_table size_table kind_of more_of
-returns c = refl
+returns c =
+    leads-packed c.loop-i.rows c.loop-i.invariant.0
+    (λ k lt. rw (← c.kinds-kinds.ensures, ← c.head_sizes-sizes.ensures) (c.loop-i.invariant.1 k (omega arith)))
