@@ -330,7 +330,9 @@ fn sums_in(tally: Tally) -> Option<Sums>
     })
 }
 
-// The sums over the n results of a payload; plain numbers have a loop of their own.
+// The sums over the n results of a payload; plain numbers have a loop of their own. It is not made part of its callers, so that its loops keep
+// their sums in registers.
+#[inline(never)]
 fn sums_of(
     payload: &[u8],
     form: Form,
@@ -377,6 +379,7 @@ fn sum_plain(
 }
 
 // The sums over n results, item by item.
+#[inline(never)]
 fn sum_items(
     payload: &[u8],
     form: Form,
