@@ -1,6 +1,9 @@
 // The bill of the receipts in files. The files are read one after another, in pieces, and at most a buffer of their bytes is held at a time.
-ghost use Rattle.std.specs.Prelude.{◌≡◌, ◌≤◌, length};
+ghost use Rattle.std.specs.Prelude.{◌≡◌, ◌≤◌, false, ◌==◌, nat_eq, length};
+ghost use Rattle.refusal.specs.Table.{accepted};
 ghost use Rattle.bill.specs.Answer.{bill_limit};
+ghost use Rattle.commands.specs.Bills.{refusal_of};
+ghost use Rattle.commands.specs.Status.{verdict_status};
 ghost use Rattle.station.specs.Bills.{Holds, RunHolds, FilesHold, files_of};
 
 use crate::system::Source;
@@ -25,7 +28,9 @@ pub(crate) fn bill(rt: HostRuntime, count: usize) -> Status {
 }
 
 // Writes the bill of a run that is read, or says which of its receipts is at fault.
-fn finish(rt: HostRuntime, run: Run, ledger: &Ledger) -> Status {
+fn finish(rt: HostRuntime, run: Run, ledger: &Ledger) -> Status
+    ensures { (refusal_of run == accepted) ≡ false → result ≡ verdict_status (refusal_of run) }
+{
     let number = bills::refusal_of(run);
     if number == refusal::ACCEPTED {
         return write_bill(rt, ledger);

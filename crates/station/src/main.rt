@@ -14,6 +14,10 @@ mod shown;
 mod system;
 mod texts;
 
+ghost use Rattle.std.specs.Prelude.{◌≡◌};
+ghost use Rattle.refusal.specs.Table.{refusal_number};
+ghost use Rattle.commands.specs.Status.{verdict_status};
+
 use commands::status::Status;
 use commands::texts::Way;
 use commands::words::Command;
@@ -192,7 +196,9 @@ fn fields(rt: HostRuntime, path: &[u8], file: &[u8]) -> Status {
 }
 
 // Says that a file is refused.
-fn refused(rt: HostRuntime, path: &[u8], file: &[u8], refusal: Refusal) -> Status {
+fn refused(rt: HostRuntime, path: &[u8], file: &[u8], refusal: Refusal) -> Status
+    ensures { result ≡ verdict_status (refusal_number refusal) }
+{
     say::say_verdict(rt, path, file, refusal.number());
     status::of_verdict(refusal.number())
 }
