@@ -203,7 +203,9 @@ fn refused(rt: HostRuntime, path: &[u8], file: &[u8], refusal: Refusal) -> Statu
     status::of_verdict(refusal.number())
 }
 
-// Writes the value of the field under a name, as text or as it is.
+// Writes the value of the field under a name, as text or as it is. It is not made part of `answer`, so that other commands need no room for its
+// buffers.
+#[inline(never)]
 fn view(rt: HostRuntime, path: &[u8], file: &[u8], raw: bool) -> Status {
     let mut name = io::buffer();
     let Ok(n) = rt.arg(words::name_place(Command::View { raw }), &mut name) else {
@@ -230,7 +232,8 @@ fn show(rt: HostRuntime, path: &[u8], file: &[u8], name: &[u8]) -> Status {
     }
 }
 
-// Writes the values of the column under a name of a file; raw floats in the hexadecimal notation of C.
+// Writes the values of the column under a name of a file; raw floats in the hexadecimal notation of C. It stands apart as `view` does.
+#[inline(never)]
 fn column(rt: HostRuntime, path: &[u8], file: &[u8], raw: bool) -> Status {
     let mut name = io::buffer();
     let Ok(n) = rt.arg(words::name_place(Command::Column { raw }), &mut name) else {
